@@ -1,0 +1,65 @@
+-- Bytes: each entry is one byte of kind, then a body whose length the kind fixes. Numbers of several bytes have the lowest byte first.
+use mathlib.Core.Bool.{Bool, true, false, cond}
+use mathlib.Core.List.{List, [], _∷_, _++_}
+use Prim.Native.Nat.{ℕ, _+_, _-_}
+use lib.Dec.{eqb, leb}
+use lib.ListN.{length, getD}
+use Rattle.words.specs.Words.{bytesOf, numberAt}
+use Rattle.entries.specs.Types.{MaybeTask, NoTask, Task, TaskParameters, Release, Entry, Malformed, TaskEntry, ReleaseEntry, JobEntry, IntervalEntry}
+
+-- the length of an entry of each kind, its kind byte included; 0 for what is no kind
+abbrev pub size : ℕ → ℕ
+size kind =
+    cond (eqb kind 1) 16
+    (cond (eqb kind 2) 10
+    (cond (eqb kind 16) 27
+    (cond (eqb kind 17) 24
+    (cond (eqb kind 18) 10 0))))
+
+-- ---- An entry of the input, taken apart
+
+-- kind 1: number, priority, mark (1 byte each), L, C, U (4 each)
+unfoldable pub task-at : List ℕ → ℕ → TaskParameters
+task-at s at = record {
+  number = numberAt 1 s (at + 1);
+  priority = numberAt 1 s (at + 2);
+  mark = numberAt 1 s (at + 3);
+  copyin = numberAt 4 s (at + 4);
+  execution = numberAt 4 s (at + 8);
+  copyout = numberAt 4 s (at + 12);
+}
+
+-- kind 2: task (1), time (8)
+unfoldable pub release-at : List ℕ → ℕ → Release
+release-at s at = record { task = numberAt 1 s (at + 1); time = numberAt 8 s (at + 2) }
+
+-- the entry whose kind byte is at a place before the end: 2 where the kind is not 1 or 2, 1 where the entry is cut short
+unfoldable pub entry-at : List ℕ → ℕ → Entry
+entry-at s at =
+    let kind : ℕ = numberAt 1 s at in
+    cond (eqb kind 1) (cond (leb 16 (length s - at)) (TaskEntry (task-at s at)) (Malformed 1))
+    (cond (eqb kind 2) (cond (leb 10 (length s - at)) (ReleaseEntry (release-at s at)) (Malformed 1))
+    (Malformed 2))
+
+-- ---- The entries of the record
+
+-- 255 is "no task"
+unfoldable pub task-byte : MaybeTask → ℕ
+task-byte NoTask = 255
+task-byte (Task n) = n
+
+-- kind 16: task (1), release, execution start, completion (8 each), blocked intervals (1)
+unfoldable pub job-bytes : JobEntry → List ℕ
+job-bytes e =
+    16 ∷ e .task ∷ (bytesOf 8 (e .release) ++ (bytesOf 8 (e .start) ++ (bytesOf 8 (e .completion) ++ (e .blocked ∷ []))))
+
+-- kind 17: begin, end (8 each), processor's half, processor's task, work, task copied out, task chosen for copy-in, its fate,
+-- task promoted at the end (1 each)
+unfoldable pub interval-bytes : IntervalEntry → List ℕ
+interval-bytes e =
+    17 ∷ (bytesOf 8 (e .begin) ++ (bytesOf 8 (e .end)
+    ++ (e .half ∷ task-byte (e .task) ∷ e .work ∷ task-byte (e .copiedout) ∷ task-byte (e .chosen) ∷ e .fate ∷ task-byte (e .promoted) ∷ [])))
+
+-- kind 18: task (1), time (8)
+unfoldable pub skipped-bytes : ℕ → ℕ → List ℕ
+skipped-bytes n t = 18 ∷ n ∷ bytesOf 8 t

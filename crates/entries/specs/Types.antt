@@ -1,0 +1,9 @@
+-- The declared types and their variants, under their own names.
+pub use Rattle.entries.specs.declared.MaybeTask.{MaybeTask}
+pub use Rattle.entries.specs.declared.MaybeTask.the-variants.{NoTask, Task}
+pub use Rattle.entries.specs.declared.TaskParameters.{TaskParameters}
+pub use Rattle.entries.specs.declared.Release.{Release}
+pub use Rattle.entries.specs.declared.Entry.{Entry}
+pub use Rattle.entries.specs.declared.Entry.the-variants.{Malformed, TaskEntry, ReleaseEntry}
+pub use Rattle.entries.specs.declared.JobEntry.{JobEntry}
+pub use Rattle.entries.specs.declared.IntervalEntry.{IntervalEntry}

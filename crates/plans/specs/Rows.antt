@@ -1,0 +1,77 @@
+-- What is handed in and what must come of it: the rows of a table of examples, and what the definitions make of each.
+use mathlib.Core.List.{List, [], _∷_, _++_}
+use Prim.Native.Nat.{ℕ}
+use lib.ListN.{replicate}
+use Rattle.dispatcher.specs.declared.Dispatcher.{Dispatcher}
+use Rattle.dispatcher.specs.declared.Step.{Step}
+use Rattle.dispatcher.specs.declared.MarkStep.{MarkStep}
+use Rattle.dispatcher.specs.declared.Opening.{Opening}
+use Rattle.dispatcher.specs.Calls.{opening, instant, mark}
+use Rattle.dispatcher.specs.Answers.{answer-values, mark-number, refusal-number, refusal-place}
+use Rattle.record.specs.Run.{Moment, moment, record-bytes, Written, file, outcome-number, outcome-value}
+
+-- ---- What is handed in
+
+-- an input, with the length of the lent slice, each of whose bytes is 170; or opening bytes and calls
+pub data Call : Type 0 where
+  AtInstant : ℕ → ℕ → Call
+  ToMark : ℕ → ℕ → Call
+
+pub data Given : Type 0 where
+  OfFile : List ℕ → ℕ → Given
+  OfCalls : List ℕ → List Call → Given
+
+-- ---- What must come of it
+
+-- of a file its number (0 where there is no refusal), its value (the place, the length needed or the record's length) and what the
+-- slice holds; of calls the opening's number and place and each call's answer, and the record's bytes of what they made happen
+pub record Result : Type 0 where
+  pub numbers : List ℕ
+  pub memory : List ℕ
+
+pub record Row : Type 0 where
+  pub given : Given
+  pub expected : Result
+
+-- ---- The definitions' answer
+
+unfoldable pub called : Dispatcher → List Call → List ℕ
+called d [] = []
+called d (AtInstant t set ∷ cs) = let s : Step = instant d t set in answer-values (s .answer) ++ called (s .state) cs
+called d (ToMark n m ∷ cs) = let s : MarkStep = mark d n m in mark-number (s .answer) ∷ called (s .state) cs
+
+-- the record of the jobs done and the intervals closed by the calls
+unfoldable pub called-moments : Dispatcher → List Call → List Moment
+called-moments d [] = []
+called-moments d (AtInstant t set ∷ cs) = let s : Step = instant d t set in moment t (s .answer) ++ called-moments (s .state) cs
+called-moments d (ToMark n m ∷ cs) = called-moments (mark d n m .state) cs
+
+unfoldable pub found : Given → Result
+found (OfFile s size) =
+    let w : Written = file s (replicate size 170) in
+    record { numbers = outcome-number (w .outcome) ∷ outcome-value (w .outcome) ∷ []; memory = w .memory }
+found (OfCalls s cs) =
+    let o : Opening = opening s in
+    record { numbers = refusal-number (o .refusal) ∷ refusal-place (o .refusal) ∷ called (o .state) cs; memory = record-bytes (called-moments (o .state) cs) }
+
+unfoldable pub all-found : List Row → List Result
+all-found [] = []
+all-found (r ∷ rs) = found (r .given) ∷ all-found rs
+
+unfoldable pub all-expected : List Row → List Result
+all-expected [] = []
+all-expected (r ∷ rs) = r .expected ∷ all-expected rs
+
+-- ---- Rows
+
+-- a file that runs: its input and its record's bytes and length, in a slice of two bytes more
+unfoldable pub recorded : List ℕ → List ℕ → ℕ → ℕ → Row
+recorded input bytes size lent = record { given = OfFile input lent; expected = record { numbers = 0 ∷ size ∷ []; memory = bytes ++ (170 ∷ 170 ∷ []) } }
+
+-- one that is refused: the slice's length, the number and the value; the slice is left as it was
+unfoldable pub refused : List ℕ → ℕ → ℕ → ℕ → Row
+refused input lent n value = record { given = OfFile input lent; expected = record { numbers = n ∷ value ∷ []; memory = replicate lent 170 } }
+
+-- opening bytes and calls, with the numbers of the opening and the answers, and the record's bytes of what the calls made happen
+unfoldable pub answered : List ℕ → List Call → List ℕ → List ℕ → Row
+answered input calls numbers bytes = record { given = OfCalls input calls; expected = record { numbers = numbers; memory = bytes } }

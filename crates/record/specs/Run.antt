@@ -1,0 +1,106 @@
+-- The run of a file: its releases and all due times handed to the dispatcher by instants, with no mark call, until nothing is
+-- pending; and its record, in the order in which things occur.
+use Rattle.record.specs.Types.{Bool, true, false, cond, List, [], _∷_, _++_, ℕ, zero, suc, _+_, _*_, Release, Tasks, Refusal, JobEntry, IntervalEntry, Dispatcher, Done, NoJob, Job, Closing, Unclosed, BeforeReleases, AfterReleases, Due, Never, Tick, Occurred, Answer, Refused, Served, Step, Outcome, RefusedInput, TooShort, Recorded}
+use lib.Dec.{leb, eqb}
+use lib.ListN.{length, drop}
+use Rattle.sets.specs.Sets.{member, insert}
+use Rattle.entries.specs.Entries.{job-bytes, interval-bytes, skipped-bytes}
+use Rattle.table.specs.Tasks.{tasks-of}
+use Rattle.dispatcher.specs.Instant.{due, sooner}
+use Rattle.dispatcher.specs.Calls.{opened, instant}
+use Rattle.dispatcher.specs.Answers.{refusal-number, refusal-place}
+use Rattle.record.specs.Files.{Checked, Rejected, Releases, releases-of}
+
+-- ---- The run: a list of instants with what occurred
+
+pub record Moment : Type 0 where
+  pub time : ℕ
+  pub occurred : Occurred
+
+abbrev pub first-time : List Release → Due
+first-time [] = Never
+first-time (r ∷ rs) = Tick (r .time)
+
+-- the set released at a time, of releases that none precedes
+unfoldable pub released-at : ℕ → List Release → ℕ
+released-at t [] = 0
+released-at t (r ∷ rs) = elim (eqb (r .time) t) [ true ↦ insert (r .task) (released-at t rs) | false ↦ 0 ]
+
+-- and the releases after it
+unfoldable pub released-after : ℕ → List Release → List Release
+released-after t [] = []
+released-after t (r ∷ rs) = elim (eqb (r .time) t) [ true ↦ released-after t rs | false ↦ r ∷ rs ]
+
+abbrev pub moment : ℕ → Answer → List Moment
+moment t (Refused n) = []
+moment t (Served o) = record { time = t; occurred = o } ∷ []
+
+-- at most k instants
+unfoldable pub run : ℕ → Dispatcher → List Release → List Moment
+run zero d rs = []
+run (suc k) d rs =
+    elim (sooner (first-time rs) (due (d .phase))) [
+      | Never ↦ []
+      | Tick t ↦ let s : Step = instant d t (released-at t rs) in moment t (s .answer) ++ run k (s .state) (released-after t rs)
+    ]
+
+-- as many instants as no run of n releases needs
+abbrev pub budget : ℕ → ℕ
+budget n = 32 * n + 32
+
+-- ---- The record: kind 16 at step a, kind 17 at the interval's end, kind 18 at step c by rising task number
+
+unfoldable pub done-bytes : Done → List ℕ
+done-bytes NoJob = []
+done-bytes (Job e) = job-bytes e
+
+unfoldable pub skips-bytes : ℕ → ℕ → ℕ → List ℕ
+skips-bytes zero set t = []
+skips-bytes (suc k) set t = skips-bytes k set t ++ cond (member k set) (skipped-bytes k t) []
+
+-- an interval that ends at step b stands before the skipped releases, one that ends at step f behind them
+unfoldable pub closed-bytes : Closing → List ℕ → List ℕ
+closed-bytes Unclosed skips = skips
+closed-bytes (BeforeReleases e) skips = interval-bytes e ++ skips
+closed-bytes (AfterReleases e) skips = skips ++ interval-bytes e
+
+unfoldable pub moment-bytes : Moment → List ℕ
+moment-bytes m = let o : Occurred = m .occurred in done-bytes (o .done) ++ closed-bytes (o .closed) (skips-bytes 32 (o .skipped) (m .time))
+
+unfoldable pub record-bytes : List Moment → List ℕ
+record-bytes [] = []
+record-bytes (m ∷ ms) = moment-bytes m ++ record-bytes ms
+
+-- ---- The outcome of an input and a lent slice, and what the slice holds at the end
+
+-- document 01's number and value for each case: the record's length where there is no refusal, the length needed with 13
+abbrev pub outcome-number : Outcome → ℕ
+outcome-number (RefusedInput r) = refusal-number r
+outcome-number (TooShort n) = 13
+outcome-number (Recorded n) = 0
+
+abbrev pub outcome-value : Outcome → ℕ
+outcome-value (RefusedInput r) = refusal-place r
+outcome-value (TooShort n) = n
+outcome-value (Recorded n) = n
+
+pub record Written : Type 0 where
+  pub outcome : Outcome
+  pub memory : List ℕ
+
+-- 13 comes last: the slice is shorter than the result
+unfoldable pub written : List ℕ → List ℕ → Written
+written bytes lent =
+    cond (leb (length bytes) (length lent))
+    (record { outcome = Recorded (length bytes); memory = bytes ++ drop (length bytes) lent })
+    (record { outcome = TooShort (length bytes); memory = lent })
+
+unfoldable pub moments-of : List ℕ → List Release → List Moment
+moments-of s rs = let k : Tasks = tasks-of s in run (budget (length rs)) (opened (k .table) (k .marked)) rs
+
+abbrev pub written-of : List ℕ → List ℕ → Checked → Written
+written-of s lent (Rejected r) = record { outcome = RefusedInput r; memory = lent }
+written-of s lent (Releases rs) = written (record-bytes (moments-of s rs)) lent
+
+unfoldable pub file : List ℕ → List ℕ → Written
+file s lent = written-of s lent (releases-of s)

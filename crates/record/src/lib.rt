@@ -1,0 +1,10 @@
+// A file's run and its record in a lent slice.
+use table::Refusal;
+
+// What comes of an input and a lent slice: a refusal of the input, the length needed where the slice is too short,
+// or the length of the record.
+pub enum Outcome {
+    RefusedInput(Refusal),
+    TooShort(usize),
+    Recorded(usize),
+}

@@ -1,0 +1,1 @@
+"""An independent simulator of the gateway dispatcher, written from document 01 alone."""

@@ -1,0 +1,34 @@
+"""The simulator as a program: input on standard input.
+
+    python3 -m sim file     prints the lines of an input file
+    python3 -m sim record   writes the record's bytes; a refused input writes none and ends with status 1
+    python3 -m sim session  prints the lines of a session
+"""
+
+import sys
+
+from sim.entries import Refused
+from sim.files import record
+from sim.lines import file_lines, refusal_line, text
+from sim.sessions import session_lines
+
+
+def main(arguments):
+    if len(arguments) != 1 or arguments[0] not in ("file", "record", "session"):
+        sys.stderr.write(__doc__)
+        return 2
+    data = sys.stdin.buffer.read()
+    if arguments[0] == "record":
+        try:
+            sys.stdout.buffer.write(record(data))
+        except Refused as refused:
+            sys.stderr.write(refusal_line(refused) + "\n")
+            return 1
+        return 0
+    program = {"file": file_lines, "session": session_lines}[arguments[0]]
+    sys.stdout.write(text(program(data)))
+    return 0
+
+
+if __name__ == "__main__":
+    sys.exit(main(sys.argv[1:]))

@@ -1,0 +1,324 @@
+"""The dispatcher by instants: one core, one copy engine, rules R1 to R6.
+
+Steps a to g of document 01's instant list are one method each, in that order. Everything that
+compares priorities goes through `highest` and `is_higher`.
+"""
+
+from dataclasses import dataclass, field, replace
+from typing import NamedTuple, Optional
+
+from sim.entries import Refused
+from sim.table import Task, read_table
+
+LAST_RELEASE_TIME = 1_000_000_000
+
+# The work of the processor in an interval.
+IDLE, EXECUTE, COPY_IN_AND_EXECUTE = 0, 1, 2
+
+# The fate of an interval's copy-in.
+NO_COPY_IN, COPY_IN_DONE, COPY_IN_CANCELLED = 0, 1, 2
+
+# The phases of a job.
+COPY_IN, EXECUTION, COPY_OUT = "copy-in", "execution", "copy-out"
+
+
+@dataclass(eq=False)
+class Job:
+    """One release that was taken."""
+    task: Task  # as it was at the release: a job is marked if its task was then
+    release: int
+    start: Optional[int] = None  # execution start
+    blocked: int = 0
+
+
+@dataclass(eq=False)
+class Phase:
+    """A phase under way on one of the two units."""
+    name: str
+    job: Job
+    end: int
+
+
+@dataclass(eq=False)
+class Interval:
+    begin: int
+    half: int
+    executed: Optional[Job] = None
+    work: int = IDLE
+    copied_out: Optional[Job] = None
+    choice_made: bool = False
+    chosen: Optional[Job] = None
+    fate: int = NO_COPY_IN
+    processor: Optional[Phase] = None  # None: finished or idle
+    engine: Optional[Phase] = None     # None: free
+
+
+class JobDone(NamedTuple):
+    task: int
+    release: int
+    start: int
+    completion: int
+    blocked: int
+
+
+class IntervalClosed(NamedTuple):
+    begin: int
+    end: int
+    half: int
+    executed: Optional[int]
+    work: int
+    copied_out: Optional[int]
+    chosen: Optional[int]
+    fate: int
+    promoted: Optional[int]
+
+
+@dataclass
+class Answer:
+    """What occurred at a served instant."""
+    job_done: Optional[JobDone] = None
+    interval: Optional[IntervalClosed] = None
+    closed_at: Optional[str] = None  # the step at which the interval ended, 'b' or 'f'
+    skipped: int = 0
+    due: Optional[int] = None
+
+
+def highest(jobs):
+    """The highest-priority job of some, or None."""
+    return min(jobs, key=lambda job: job.task.priority, default=None)
+
+
+def is_higher(job, other):
+    return job.task.priority < other.task.priority
+
+
+def members(mask):
+    """The task numbers in a set, rising."""
+    return [number for number in range(mask.bit_length()) if mask >> number & 1]
+
+
+def number_of(job):
+    return None if job is None else job.task.number
+
+
+@dataclass(eq=False)
+class Dispatcher:
+    table: dict
+    last: Optional[int] = None  # the last instant served
+    pending: dict = field(default_factory=dict)  # task number -> job
+    ready: set = field(default_factory=set)
+    arrivals: set = field(default_factory=set)  # jobs released in the open interval, or in the one about to begin
+    interval: Optional[Interval] = None
+    half: int = 1  # the processor's half in the interval before: the first swap gives 0
+
+    # What the interval before hands to the next one.
+    loaded: Optional[Job] = None
+    promoted: Optional[Job] = None
+    executed: Optional[Job] = None  # waiting for copy-out
+
+    @classmethod
+    def open(cls, data):
+        """Open from the task entries alone."""
+        return cls(read_table(data))
+
+    # Calls. All checks come before the first change, so that a refusal leaves no trace.
+
+    def instant(self, now, released):
+        """Serve an instant with the set of tasks released at it."""
+        self._check_instant(now, released)
+        self.last = now
+        answer = Answer()
+        self._step_a(now, answer)
+        self._step_b(now, answer)
+        taken = self._step_c(now, released, answer)
+        self._step_d(taken)
+        self._step_e(now)
+        self._step_f(now, answer)
+        self._step_g(now)
+        answer.due = self.due()
+        return answer
+
+    def mark(self, number, mark):
+        """Change one task's mark while it has no pending job."""
+        self._check_mark(number, mark)
+        self.table[number] = replace(self.table[number], mark=mark)
+
+    def due(self):
+        """The next due time: the first end of a phase under way, or None."""
+        if self.interval is None:
+            return None
+        units = (self.interval.processor, self.interval.engine)
+        return min((phase.end for phase in units if phase is not None), default=None)
+
+    # Refusals, in document 01's order.
+
+    def _check_instant(self, now, released):
+        if any(number not in self.table for number in members(released)):
+            raise Refused(16)
+        if released and now > LAST_RELEASE_TIME:
+            raise Refused(10)
+        if self.last is not None and now <= self.last:
+            raise Refused(14)
+        due = self.due()
+        if due is not None and now > due:
+            raise Refused(15)
+
+    def _check_mark(self, number, mark):
+        if number not in self.table:
+            raise Refused(16)
+        if mark > 1:
+            raise Refused(6)
+        if number in self.pending:
+            raise Refused(17)
+
+    # The instant list.
+
+    def _step_a(self, now, answer):
+        """a. Phases that end now end. A copy-out's end completes its job."""
+        interval = self.interval
+        if interval is None:
+            return
+        if interval.engine is not None and interval.engine.end == now:
+            ended, interval.engine = interval.engine, None
+            if ended.name == COPY_OUT:
+                answer.job_done = self._complete(ended.job, now)
+            else:
+                interval.fate = COPY_IN_DONE
+        if interval.processor is not None and interval.processor.end == now:
+            ended, interval.processor = interval.processor, None
+            if ended.name == COPY_IN:
+                self._begin_execution(ended.job, now)
+
+    def _step_b(self, now, answer):
+        """b. The open interval ends if both units are through with it (R6)."""
+        if self._interval_is_over():
+            answer.interval = self._end_interval(now)
+            answer.closed_at = "b"
+
+    def _step_c(self, now, released, answer):
+        """c. The releases are taken or skipped. They belong to the open interval, else to the next."""
+        taken = []
+        for number in members(released):
+            if number in self.pending:
+                answer.skipped |= 1 << number
+            else:
+                taken.append(self._take(number, now))
+        return taken
+
+    def _step_d(self, taken):
+        """d. A marked release of higher priority cancels the engine's copy-in under way (R3)."""
+        interval = self.interval
+        if interval is None or interval.engine is None or interval.engine.name != COPY_IN:
+            return
+        victim = interval.engine.job
+        if any(job.task.mark and is_higher(job, victim) for job in taken):
+            interval.engine = None
+            interval.fate = COPY_IN_CANCELLED
+            self.ready.add(victim)
+
+    def _step_e(self, now):
+        """e. A free engine's choice that has not been made in the open interval is made (R2)."""
+        interval = self.interval
+        if interval is not None and interval.engine is None and not interval.choice_made:
+            self._choose(now)
+
+    def _step_f(self, now, answer):
+        """f. The test of step b again."""
+        if self._interval_is_over():
+            answer.interval = self._end_interval(now)
+            answer.closed_at = "f"
+
+    def _step_g(self, now):
+        """g. If no interval is open and there is work, an interval begins; the halves swap (R1)."""
+        waiting = self.loaded or self.promoted or self.ready or self.executed
+        if self.interval is not None or not waiting:
+            return
+        self.half = 1 - self.half
+        self.interval = Interval(begin=now, half=self.half)
+        self._begin_engine(now)
+        self._begin_processor(now)
+
+    # The parts of the steps.
+
+    def _complete(self, job, now):
+        del self.pending[job.task.number]
+        return JobDone(job.task.number, job.release, job.start, now, job.blocked)
+
+    def _begin_execution(self, job, now):
+        job.start = now
+        self.interval.processor = Phase(EXECUTION, job, now + job.task.execution)
+
+    def _take(self, number, now):
+        job = Job(self.table[number], now)
+        self.pending[number] = job
+        self.ready.add(job)
+        self.arrivals.add(job)
+        return job
+
+    def _choose(self, now):
+        """The highest-priority ready job begins copy-in, or none does; once an interval (R2)."""
+        interval = self.interval
+        interval.choice_made = True
+        job = highest(self.ready)
+        if job is not None:
+            self.ready.remove(job)
+            interval.chosen = job
+            interval.engine = Phase(COPY_IN, job, now + job.task.copy_in)
+
+    def _begin_engine(self, now):
+        """The engine copies out the job executed in the interval before; without one it chooses now."""
+        job, self.executed = self.executed, None
+        if job is None:
+            self._choose(now)
+        else:
+            self.interval.copied_out = job
+            self.interval.engine = Phase(COPY_OUT, job, now + job.task.copy_out)
+
+    def _begin_processor(self, now):
+        """The promoted job is copied in and executed; else the loaded one is executed; else idle (R5)."""
+        promoted, self.promoted = self.promoted, None
+        loaded, self.loaded = self.loaded, None
+        interval = self.interval
+        if promoted is not None:
+            interval.executed, interval.work = promoted, COPY_IN_AND_EXECUTE
+            interval.processor = Phase(COPY_IN, promoted, now + promoted.task.copy_in)
+        elif loaded is not None:
+            interval.executed, interval.work = loaded, EXECUTE
+            self._begin_execution(loaded, now)
+
+    def _interval_is_over(self):
+        interval = self.interval
+        return (interval is not None and interval.processor is None
+                and interval.choice_made and interval.engine is None)
+
+    def _end_interval(self, now):
+        """Close the open interval and keep what the next one needs of it."""
+        interval, self.interval = self.interval, None
+        self._count_blocked(interval)
+        self.executed = interval.executed
+        if interval.fate == COPY_IN_DONE:
+            self.loaded = interval.chosen
+        else:
+            self.promoted = self._promote()
+        self.arrivals = set()
+        return IntervalClosed(interval.begin, now, interval.half, number_of(interval.executed), interval.work,
+                              number_of(interval.copied_out), number_of(interval.chosen), interval.fate,
+                              number_of(self.promoted))
+
+    def _promote(self):
+        """The highest marked job released in the interval and still ready, if any (R4)."""
+        job = highest(job for job in self.arrivals & self.ready if job.task.mark)
+        self.ready.discard(job)
+        return job
+
+    def _count_blocked(self, interval):
+        """A job not yet executed is blocked in an interval that executes a lower-priority one.
+
+        Every pending job was released in this interval or before, and whole intervals count: the lower
+        job may have ended before the release. A job that has executed is never counted again.
+        """
+        if interval.executed is None:
+            return
+        for job in self.pending.values():
+            if job.start is None and is_higher(job, interval.executed):
+                job.blocked += 1

@@ -1,0 +1,504 @@
+"""Random files and sessions. The same generator state gives the same bytes.
+
+Most tables have few tasks and lengths of 1 to 5, so that ends of phases and releases fall on the same
+ticks. Releases and calls are mostly found by following a dispatcher: at its due time, or just before.
+"""
+
+from sim.dispatcher import LAST_RELEASE_TIME, Dispatcher, members
+from sim.entries import FIELDS, RELEASE, TASK, Refused, decode, encode, entry_length, release_entry, task_entry
+from sim.files import MOST_RELEASES
+from sim.sessions import INSTANT, MARK, call_entry, session_bytes
+from sim.table import LAST_TASK, LENGTH_LIMIT
+
+LAST_TICK = 2**64 - 1
+
+# No input that is refused holds its first refusal behind this many bytes.
+LONGEST_CHECKED = 41_488
+
+# Values at and beside the limits of the fields of each size.
+BOUNDARIES = {
+    1: (0, 1, 2, LAST_TASK, LAST_TASK + 1, 254, 255),
+    4: (0, 1, LENGTH_LIMIT, LENGTH_LIMIT + 1, 2**32 - 1),
+    8: (0, 1, 2**32, LAST_RELEASE_TIME, LAST_RELEASE_TIME + 1, 2**63, LAST_TICK),
+}
+
+
+# Tables.
+
+def small_length(rng, top):
+    return rng.randint(1, top)
+
+
+def large_length(rng, _):
+    return rng.choice((1, rng.randint(1, 100), rng.randint(1, LENGTH_LIMIT), LENGTH_LIMIT))
+
+
+def some_tasks(rng, count, lengths):
+    """Task entries in any order: numbers, priorities and marks shuffled."""
+    numbers = rng.sample(range(LAST_TASK + 1), count)
+    priorities = rng.sample(range(256), count)
+    marked = rng.choice((0, 0.3, 0.5, 0.5, 0.8, 1))
+    top = rng.choice((1, 2, 3, 5, 5))
+    return [task_entry(number, priority, int(rng.random() < marked), *(lengths(rng, top) for _ in range(3)))
+            for number, priority in zip(numbers, priorities)]
+
+
+def random_tasks(rng):
+    """Mostly few tasks and short lengths; also many, all 32, and long ones."""
+    count, lengths = rng.choices(((rng.randint(1, 5), small_length), (rng.randint(6, 31), small_length),
+                                  (LAST_TASK + 1, small_length), (rng.randint(1, LAST_TASK + 1), large_length)),
+                                 weights=(14, 2, 2, 3))[0]
+    return some_tasks(rng, count, lengths)
+
+
+def longest_length(tasks):
+    """The greatest L, C or U of some task entries."""
+    return max(max(decode(task)[3:]) for task in tasks)
+
+
+# Instants that a dispatcher serves.
+
+def _first_time(rng):
+    """Mostly early; sometimes anywhere, or so late that releases run into the limit."""
+    return rng.choice((0, 0, 0, 0, 0, 1, rng.randint(0, 9), rng.randint(0, 9),
+                       rng.randint(0, LAST_RELEASE_TIME), LAST_RELEASE_TIME - rng.randint(0, 30)))
+
+
+def _served_time(rng, dispatcher, gap):
+    """A time that would be served: at the due time often, else before it; in idle time soon after the last."""
+    due = dispatcher.due()
+    if due is None and dispatcher.last is None:
+        return _first_time(rng)
+    first = 0 if dispatcher.last is None else dispatcher.last + 1
+    if due is None:
+        return first + rng.choice((0, 0, 1, rng.randint(0, gap)))
+    return rng.choice((due, due, rng.randint(first, due), max(first, due - 1)))
+
+
+def _known_set(rng, dispatcher, density):
+    released = 0
+    for number in dispatcher.table:
+        if rng.random() < density:
+            released |= 1 << number
+    return released
+
+
+def served_instant(rng, dispatcher, gap, density):
+    time = min(_served_time(rng, dispatcher, gap), LAST_TICK)
+    released = _known_set(rng, dispatcher, density) if time <= LAST_RELEASE_TIME else 0
+    return time, released
+
+
+# Files.
+
+def _followed_releases(rng, tasks, count):
+    """Releases at and around the ends of phases."""
+    dispatcher = Dispatcher.open(b"".join(tasks))
+    gap = 2 * longest_length(tasks)
+    density = rng.choice((0.1, 0.3, 0.6)) if len(tasks) < 6 else rng.choice((0.02, 0.1))
+    releases = []
+    while len(releases) < count:
+        time, released = served_instant(rng, dispatcher, gap, density)
+        if time > LAST_RELEASE_TIME:
+            break
+        dispatcher.instant(time, released)
+        releases += [(time, number) for number in members(released)]
+    return releases[:count]
+
+
+def _sprinkled_releases(rng, tasks, count):
+    """Releases anywhere in a window, some at its very end."""
+    numbers = [decode(task)[0] for task in tasks]
+    width = rng.choice((count, 3 * count, count * longest_length(tasks), LAST_RELEASE_TIME))
+    width = min(width, LAST_RELEASE_TIME)
+    begin = rng.choice((0, 0, LAST_RELEASE_TIME - width))
+    return sorted({(begin + rng.randint(0, width), rng.choice(numbers)) for _ in range(count)})
+
+
+def _crowded_releases(rng, tasks, count):
+    """Exactly `count` releases, close together: for files at and past the limit."""
+    numbers = sorted(decode(task)[0] for task in tasks)
+    releases, time = [], rng.randint(0, 5)
+    while len(releases) < count:
+        some = sorted(rng.sample(numbers, rng.randint(1, len(numbers))))
+        releases += [(time, number) for number in some]
+        time += rng.randint(1, 3)
+    return releases[:count]
+
+
+def file_parts(rng):
+    """The entries of a file that is served, as a list."""
+    tasks = random_tasks(rng)
+    shape = rng.random()
+    if shape < 0.04:
+        releases = []
+    elif shape < 0.05:
+        releases = _crowded_releases(rng, tasks, rng.choice((MOST_RELEASES - 1, MOST_RELEASES)))
+    elif shape < 0.75:
+        releases = _followed_releases(rng, tasks, rng.choice((3, 10, 30, 120)))
+    else:
+        releases = _sprinkled_releases(rng, tasks, rng.choice((3, 10, 30, 120)))
+    return tasks + [release_entry(*release) for release in releases]
+
+
+def random_file(rng):
+    """A file that is served."""
+    return b"".join(file_parts(rng))
+
+
+# Damage to a list of entries. Each changes it in place.
+
+def _swap(rng, parts):
+    one, other = rng.randrange(len(parts)), rng.randrange(len(parts))
+    parts[one], parts[other] = parts[other], parts[one]
+
+
+def _swap_neighbours(rng, parts):
+    at = rng.randrange(len(parts))
+    parts[at - 1], parts[at] = parts[at], parts[at - 1]
+
+
+def _duplicate(rng, parts):
+    parts.insert(rng.randint(0, len(parts)), rng.choice(parts))
+
+
+def _drop(rng, parts):
+    if len(parts) > 1:
+        del parts[rng.randrange(len(parts))]
+
+
+def _change_kind(rng, parts):
+    at = rng.randrange(len(parts))
+    parts[at] = bytes([rng.choice((0, 1, 2, 3, 7, 16, 17, 18, 255))]) + parts[at][1:]
+
+
+def _is_whole(part):
+    return bool(part) and part[0] in FIELDS and len(part) == entry_length(FIELDS[part[0]])
+
+
+def _change_fields(rng, parts, chance):
+    """Put limit values, or another entry's, into fields of one entry; several at once test the order of checks."""
+    at = rng.randrange(len(parts))
+    if not _is_whole(parts[at]):
+        return
+    kind = parts[at][0]
+    fields = list(decode(parts[at]))
+    peers = [decode(part) for part in parts if _is_whole(part) and part[0] == kind]
+    forced = rng.randrange(len(fields))
+    for index, size in enumerate(FIELDS[kind]):
+        if index == forced or rng.random() < chance:
+            fields[index] = rng.choice((rng.choice(BOUNDARIES[size]), rng.choice(peers)[index]))
+    parts[at] = encode(kind, *fields)
+
+
+def _change_one_field(rng, parts):
+    _change_fields(rng, parts, 0)
+
+
+def _change_many_fields(rng, parts):
+    _change_fields(rng, parts, 0.5)
+
+
+def _same_priority(rng, parts):
+    """One task's priority given to another."""
+    tasks = [at for at, part in enumerate(parts) if _is_whole(part) and part[0] == TASK]
+    if len(tasks) > 1:
+        one, other = rng.sample(tasks, 2)
+        number, _, *rest = decode(parts[one])
+        parts[one] = encode(TASK, number, decode(parts[other])[1], *rest)
+
+
+def _late_task(rng, parts):
+    """A task entry, good or not, somewhere behind the first."""
+    [extra] = some_tasks(rng, 1, small_length)
+    parts.insert(rng.randint(1, len(parts)), extra)
+
+
+def _stray_release(rng, parts):
+    """A release of any task at any time, anywhere."""
+    task, time = rng.choice((0, 1, LAST_TASK, 32, 255)), rng.choice(BOUNDARIES[8])
+    parts.insert(rng.randint(0, len(parts)), encode(RELEASE, task, time))
+
+
+ENTRY_DAMAGE = (_swap, _swap_neighbours, _duplicate, _drop, _change_kind, _change_one_field, _change_one_field,
+                _change_many_fields, _same_priority, _late_task, _stray_release)
+
+
+def damage_entries(rng, parts):
+    for _ in range(rng.choice((1, 1, 1, 2, 3))):
+        rng.choice(ENTRY_DAMAGE)(rng, parts)
+
+
+# Damage to bytes.
+
+def _cut(rng, data):
+    return data[:rng.randint(0, len(data))]
+
+
+def _flip(rng, data):
+    changed = bytearray(data)
+    for _ in range(rng.choice((1, 1, 2, 5))):
+        if changed:
+            changed[rng.randrange(len(changed))] ^= 1 << rng.randrange(8)
+    return bytes(changed)
+
+
+def _insert_byte(rng, data):
+    at = rng.randint(0, len(data))
+    return data[:at] + rng.randbytes(1) + data[at:]
+
+
+def _remove_byte(rng, data):
+    at = rng.randint(0, len(data))
+    return data[:at] + data[at + 1:]
+
+
+BYTE_DAMAGE = (_cut, _cut, _flip, _flip, _insert_byte, _remove_byte)
+
+
+def damage_bytes(rng, data):
+    return rng.choice(BYTE_DAMAGE)(rng, data)
+
+
+# Damaged files.
+
+def _crowded_file(rng):
+    """Too many releases, or nearly: the first refusal is the 4,097th release unless damage comes before it."""
+    tasks = random_tasks(rng)
+    count = MOST_RELEASES + rng.choice((0, 1, 1, 1, 2, 200))
+    parts = tasks + [release_entry(*release) for release in _crowded_releases(rng, tasks, count)]
+    if rng.random() < 0.5:
+        damage_entries(rng, parts)
+    return b"".join(parts)
+
+
+def _long_file(rng):
+    """Longer than any file that is served, with its first refusal anywhere."""
+    tail = rng.choice((rng.randbytes(300), b"".join(random_tasks(rng)), release_entry(0, 0), b"\x01"))
+    data = rng.choice((random_file, _crowded_file))(rng)
+    repeats = LONGEST_CHECKED // len(tail) + 1
+    data += tail * repeats
+    return data[:rng.choice((LONGEST_CHECKED, LONGEST_CHECKED + 1, len(data)))]
+
+
+def _entries_damaged(rng):
+    parts = file_parts(rng)
+    damage_entries(rng, parts)
+    return b"".join(parts)
+
+
+def _bytes_damaged(rng):
+    return damage_bytes(rng, random_file(rng))
+
+
+def _both_damaged(rng):
+    return damage_bytes(rng, _entries_damaged(rng))
+
+
+def _noise(rng):
+    return rng.choice((b"", rng.randbytes(rng.randint(1, 60)), bytes([rng.randint(0, 3)]) * rng.randint(1, 40)))
+
+
+def damaged_file(rng):
+    """A file that is most likely refused; what is wrong may lie anywhere, and several things may be."""
+    kinds = (_entries_damaged, _bytes_damaged, _both_damaged, _noise, _crowded_file, _long_file)
+    return rng.choices(kinds, weights=(50, 25, 12, 5, 5, 3))[0](rng)
+
+
+# Sessions.
+
+def _any_released(rng, dispatcher):
+    """A set of known tasks that is not empty."""
+    return 1 << rng.choice(list(dispatcher.table)) | _known_set(rng, dispatcher, 0.1)
+
+
+def _unknown_in_set(rng, dispatcher):
+    """16 unless the table is full; at any time, since 16 is checked first."""
+    unknown = [number for number in range(LAST_TASK + 1) if number not in dispatcher.table]
+    if not unknown:
+        return _unknown_marked(rng, dispatcher)
+    released = _known_set(rng, dispatcher, 0.2) | 1 << rng.choice(unknown)
+    return INSTANT, rng.choice((served_instant(rng, dispatcher, 5, 0)[0], rng.choice(BOUNDARIES[8]))), released
+
+
+def _release_too_late(rng, dispatcher):
+    """10."""
+    time = rng.choice((LAST_RELEASE_TIME + 1, rng.randint(LAST_RELEASE_TIME + 1, LAST_TICK), LAST_TICK))
+    return INSTANT, time, _any_released(rng, dispatcher)
+
+
+def _not_after_last(rng, dispatcher):
+    """14 unless no instant was served yet."""
+    last = dispatcher.last or 0
+    return INSTANT, rng.choice((last, last, max(0, last - 1), rng.randint(0, last))), _known_set(rng, dispatcher, 0.2)
+
+
+def _after_due(rng, dispatcher):
+    """15 if something is due. With nothing due, an empty set is served, however late."""
+    due = dispatcher.due()
+    if due is None:
+        return _idle(rng, dispatcher)
+    time = rng.choice((due + 1, due + 1, due + rng.randint(1, 50), LAST_TICK))
+    return INSTANT, time, _known_set(rng, dispatcher, 0.1)
+
+
+def _bad_mark(rng, dispatcher):
+    """6."""
+    return MARK, rng.choice(list(dispatcher.table)), rng.choice((2, 3, 255))
+
+
+def _mark_pending(rng, dispatcher):
+    """17 if some job is pending."""
+    numbers = list(dispatcher.pending) or list(dispatcher.table)
+    return MARK, rng.choice(numbers), rng.randint(0, 1)
+
+
+def _unknown_marked(rng, dispatcher):
+    """16, also with a bad mark."""
+    unknown = [number for number in range(256) if number not in dispatcher.table]
+    return MARK, rng.choice((rng.choice(unknown), 32, 255)), rng.choice((0, 1, 2))
+
+
+def _anything(rng, _):
+    """Any values at all: which row is met first is left to chance."""
+    if rng.random() < 0.5:
+        return INSTANT, rng.choice((rng.choice(BOUNDARIES[8]), rng.randint(0, 60))), rng.getrandbits(32)
+    return MARK, rng.randint(0, 40), rng.choice(BOUNDARIES[1])
+
+
+def _mark(rng, dispatcher):
+    """A mark change, served if that task has no pending job."""
+    free = [number for number in dispatcher.table if number not in dispatcher.pending]
+    return MARK, rng.choice(free or list(dispatcher.table)), rng.randint(0, 1)
+
+
+def _idle(rng, dispatcher):
+    """An empty set: at the due time or, with nothing due, some time later."""
+    time, _ = served_instant(rng, dispatcher, 1_000, 0)
+    return INSTANT, time, 0
+
+
+def _idle_far_ahead(rng, dispatcher):
+    """An empty set far ahead, served only with nothing due; rare, since nothing can be released after it."""
+    time = rng.choice((LAST_RELEASE_TIME, LAST_RELEASE_TIME + 1, rng.randint(0, LAST_TICK), LAST_TICK - 1, LAST_TICK))
+    return INSTANT, time, 0
+
+
+REFUSED_CALLS = (_unknown_in_set, _release_too_late, _not_after_last, _not_after_last, _after_due, _after_due,
+                 _bad_mark, _mark_pending, _mark_pending, _unknown_marked, _anything)
+
+
+def _next_call(rng, dispatcher, gap, density, refused):
+    if rng.random() < refused:
+        return rng.choice(REFUSED_CALLS)(rng, dispatcher)
+    if rng.random() < 0.003:
+        return _idle_far_ahead(rng, dispatcher)
+    if rng.random() < 0.1:
+        return _mark(rng, dispatcher)
+    if rng.random() < 0.1:
+        return _idle(rng, dispatcher)
+    return (INSTANT, *served_instant(rng, dispatcher, gap, density))
+
+
+def make_call(dispatcher, call):
+    """Make a call: a served instant's answer, None for a served mark, or raise its refusal."""
+    kind, *fields = call
+    return dispatcher.instant(*fields) if kind == INSTANT else dispatcher.mark(*fields)
+
+
+def _follow(dispatcher, call):
+    try:
+        make_call(dispatcher, call)
+    except Refused:
+        pass  # a refused call leaves no trace, so the next one is found from the same state
+
+
+def _drain(dispatcher, calls):
+    """Empty sets at each due time until none is left."""
+    while dispatcher.due() is not None:
+        calls.append((INSTANT, dispatcher.due(), 0))
+        _follow(dispatcher, calls[-1])
+
+
+def random_calls(rng, tasks, count, drained=False):
+    """Calls found by following a dispatcher; most of them are served."""
+    dispatcher = Dispatcher.open(b"".join(tasks))
+    gap = 2 * longest_length(tasks)
+    density = rng.choice((0.1, 0.3, 0.6)) if len(tasks) < 6 else rng.choice((0.02, 0.1))
+    refused = rng.choice((0, 0.1, 0.2))
+    calls = []
+    for _ in range(count):
+        calls.append(_next_call(rng, dispatcher, gap, density, refused))
+        _follow(dispatcher, calls[-1])
+    if drained:
+        _drain(dispatcher, calls)
+    return calls
+
+
+def session_parts(rng):
+    """Task entries and calls of a session whose opening is served."""
+    tasks = random_tasks(rng)
+    return tasks, random_calls(rng, tasks, rng.choice((0, 5, 20, 60, 200)), drained=rng.random() < 0.5)
+
+
+def random_session(rng):
+    """A session whose opening is served, with refused calls among the served ones."""
+    tasks, calls = session_parts(rng)
+    return session_bytes(b"".join(tasks), calls)
+
+
+# Damaged sessions.
+
+def _opening_damaged(rng):
+    tasks, calls = session_parts(rng)
+    damage_entries(rng, tasks)
+    return session_bytes(b"".join(tasks), calls)
+
+
+def _opening_bytes_damaged(rng):
+    tasks, calls = session_parts(rng)
+    return session_bytes(damage_bytes(rng, b"".join(tasks)), calls)
+
+
+def _opening_of_no_task(rng):
+    _, calls = session_parts(rng)
+    return session_bytes(b"", calls)
+
+
+def _length_wrong(rng):
+    """The opening's length says more, or less, than there is."""
+    data = random_session(rng)
+    length = int.from_bytes(data[:4], "little")
+    wrong = rng.choice((length - 1, length - 16, length + 1, length + 16, len(data) - 4, len(data) - 3, 2**32 - 1))
+    return max(0, wrong).to_bytes(4, "little") + data[4:]
+
+
+def _call_kind_unknown(rng):
+    tasks, calls = session_parts(rng)
+    before = rng.randint(0, len(calls))
+    data = session_bytes(b"".join(tasks), calls[:before])
+    kind = rng.choice((0, 1, 2, 16, 63, 66, 255))
+    return data + bytes([kind]) + b"".join(call_entry(*call) for call in calls[before:])
+
+
+def _session_cut(rng):
+    return _cut(rng, random_session(rng))
+
+
+def _last_call_cut(rng):
+    return random_session(rng) + bytes([rng.choice((INSTANT, MARK))]) + rng.randbytes(rng.randint(0, 1))
+
+
+def _session_flipped(rng):
+    return _flip(rng, random_session(rng))
+
+
+def _too_short(rng):
+    return rng.randbytes(rng.randint(0, 3))
+
+
+def damaged_session(rng):
+    """A session whose opening or call entries are not right; what is wrong may lie anywhere."""
+    kinds = (_opening_damaged, _opening_bytes_damaged, _opening_of_no_task, _length_wrong, _call_kind_unknown,
+             _session_cut, _last_call_cut, _session_flipped, _too_short)
+    return rng.choices(kinds, weights=(40, 15, 3, 8, 8, 8, 5, 10, 3))[0](rng)

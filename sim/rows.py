@@ -1,0 +1,141 @@
+"""Small random cases with their outcomes, for a comparison by computation: runs are short on purpose.
+
+    python3 -m sim.rows SEED COUNT   prints a row a line: input bytes, then record bytes or the refusal
+"""
+
+import random
+import sys
+import sys
+
+from sim.dispatcher import Dispatcher
+from sim.entries import Refused, decode, release_entry
+from sim.files import instant_entries, record
+from sim.generate import damage_entries, make_call, random_calls, small_length, some_tasks
+from sim.sessions import INSTANT, MARK
+
+MOST_TASKS = 4
+MOST_RELEASES = 8
+MOST_CALLS = 12
+
+# One row in this many has damaged entries.
+DAMAGED_EVERY = 5
+
+
+def _small_file(rng):
+    tasks = some_tasks(rng, rng.randint(1, MOST_TASKS), small_length)
+    numbers = [decode(task)[0] for task in tasks]
+    count = rng.randint(0, MOST_RELEASES)
+    releases = sorted({(rng.randint(0, 2 * count), rng.choice(numbers)) for _ in range(count)})
+    return tasks + [release_entry(*release) for release in releases]
+
+
+def outcome(data):
+    """('record', bytes) or ('refused', number, place)."""
+    try:
+        return ("record", record(data))
+    except Refused as refused:
+        return ("refused", refused.number, refused.place)
+
+
+def rows(seed, count):
+    """A list of (input bytes, outcome)."""
+    found = []
+    for index in range(count):
+        rng = random.Random(f"rows {seed} {index}")
+        parts = _small_file(rng)
+        if index % DAMAGED_EVERY == DAMAGED_EVERY - 1:
+            damage_entries(rng, parts)
+        data = b"".join(parts)
+        found.append((data, outcome(data)))
+    return found
+
+
+def answer_of(dispatcher, call):
+    """The answer of a call: an instant's, None of a mark call, or the refusal."""
+    try:
+        return make_call(dispatcher, call)
+    except Refused as refused:
+        return refused
+
+
+def call_lists(seed, count):
+    """A list of (opening bytes, calls); a call is (64, time, set) or (65, task, mark)."""
+    found = []
+    for index in range(count):
+        rng = random.Random(f"call rows {seed} {index}")
+        tasks = some_tasks(rng, rng.randint(1, MOST_TASKS), small_length)
+        found.append((b"".join(tasks), random_calls(rng, tasks, rng.randint(1, MOST_CALLS))))
+    return found
+
+
+# The rows that are proved of the definitions, in the prover's notation.
+
+HEADER = """\
+-- Small random files and call lists with what the simulator makes of them. Written by `python3 -m sim.rows`; not by hand.
+use mathlib.Core.List.{List, [], _∷_}
+use Rattle.plans.specs.Rows.{Row, AtInstant, ToMark, recorded, refused, answered}
+
+unfoldable pub runs : List Row
+runs =
+"""
+
+SEED = 1
+FILES = 40
+CALL_LISTS = 40
+
+# What stands behind a record in the slice that a row lends, so that a row sees it left alone.
+BEHIND = 2
+
+
+def number_list(values):
+    return "(" + "".join(f"{value} ∷ " for value in values) + "[])"
+
+
+def file_row(data, result):
+    if result[0] == "record":
+        size = len(result[1])
+        return f"recorded {number_list(data)} {number_list(result[1])} {size} {size + BEHIND}"
+    return f"refused {number_list(data)} {BEHIND} {result[1]} {result[2] or 0}"
+
+
+def call_term(call):
+    name = {INSTANT: "AtInstant", MARK: "ToMark"}[call[0]]
+    return f"{name} {call[1]} {call[2]}"
+
+
+def call_row(opening, calls):
+    """The numbers of the opening and of each answer, and the record's bytes of what the calls made happen."""
+    dispatcher = Dispatcher.open(opening)
+    numbers, record_bytes = [0, 0], b""
+    for call in calls:
+        answer = answer_of(dispatcher, call)
+        if isinstance(answer, Refused):
+            numbers.append(answer.number)
+        elif answer is None:
+            numbers.append(0)
+        else:
+            numbers += [0, answer.skipped] + ([] if answer.due is None else [answer.due])
+            record_bytes += b"".join(instant_entries(call[1], answer))
+    return f"answered {number_list(opening)} {number_list(map(call_term, calls))} {number_list(numbers)} {number_list(record_bytes)}"
+
+
+def antt():
+    files = [file_row(data, result) for data, result in rows(SEED, FILES)]
+    lists = [call_row(opening, calls) for opening, calls in call_lists(SEED, CALL_LISTS)]
+    return HEADER + "".join(f"    {row} ∷\n" for row in files + lists) + "    []\n"
+
+
+def main():
+    if len(sys.argv) == 3 and sys.argv[1] == "--check":
+        with open(sys.argv[2], encoding="utf-8") as file:
+            if file.read() != antt():
+                sys.exit(f"{sys.argv[2]} is not what `python3 -m sim.rows` writes")
+        print(f"{sys.argv[2]} is what the simulator gives")
+    elif len(sys.argv) == 1:
+        sys.stdout.write(antt())
+    else:
+        sys.exit("usage: python3 -m sim.rows [--check FILE]")
+
+
+if __name__ == "__main__":
+    main()

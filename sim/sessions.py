@@ -1,0 +1,74 @@
+"""Sessions: a dispatcher opened and driven by call entries, with a line or more for each call.
+
+The input is 4 bytes, lowest first, with the length n of the opening bytes; the n opening bytes; then
+call entries until the input ends.
+"""
+
+from sim.dispatcher import Dispatcher
+from sim.entries import Refused, encode, entries
+from sim.files import interval_entry, job_entry
+from sim.lines import record_lines, refusal_line
+
+INSTANT = 64
+MARK = 65
+
+CALL_FIELDS = {
+    INSTANT: (8, 4),  # time, set
+    MARK: (1, 1),     # task, mark
+}
+
+LENGTH_BYTES = 4
+
+
+def call_entry(kind, *fields):
+    return encode(kind, *fields, formats=CALL_FIELDS)
+
+
+def session_bytes(opening, calls):
+    """A session's input from its opening bytes and its calls (kind, first field, second field)."""
+    head = len(opening).to_bytes(LENGTH_BYTES, "little")
+    return head + opening + b"".join(call_entry(*call) for call in calls)
+
+
+def answer_lines(answer):
+    """A served instant: the job done (step a) and the interval closed if any, then A, skipped set, due time."""
+    written = b""
+    if answer.job_done is not None:
+        written += job_entry(answer.job_done)
+    if answer.interval is not None:
+        written += interval_entry(answer.interval)
+    due = "-" if answer.due is None else answer.due
+    return record_lines(written) + [f"A {answer.skipped} {due}"]
+
+
+def call_lines(dispatcher, kind, fields):
+    try:
+        if kind == INSTANT:
+            return answer_lines(dispatcher.instant(*fields))
+        dispatcher.mark(*fields)
+        return ["M"]
+    except Refused as refused:
+        return [f"R {refused.number}"]
+
+
+def calls_lines(dispatcher, data):
+    """Lines of the calls until the input ends, or X at an entry that is cut short or of another kind."""
+    lines = []
+    try:
+        for _, kind, fields in entries(data, kinds=CALL_FIELDS, formats=CALL_FIELDS):
+            lines += call_lines(dispatcher, kind, fields)
+    except Refused:  # only `entries` itself gets here: a refused call has its own line
+        lines.append("X")
+    return lines
+
+
+def session_lines(data):
+    """What the session program prints for an input."""
+    calls_at = LENGTH_BYTES + int.from_bytes(data[:LENGTH_BYTES], "little")
+    if len(data) < LENGTH_BYTES or len(data) < calls_at:
+        return ["X"]  # the length or the opening bytes are cut short: nothing was opened
+    try:
+        dispatcher = Dispatcher.open(data[LENGTH_BYTES:calls_at])
+    except Refused as refused:
+        return [refusal_line(refused)]
+    return ["O"] + calls_lines(dispatcher, data[calls_at:])

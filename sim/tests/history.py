@@ -1,0 +1,206 @@
+"""What can be said of a whole run from outside: demand 3 and R1 to R6 over the answers alone.
+
+Nothing here looks into a dispatcher. A history is made of the calls that were served and their answers,
+and must end with nothing due.
+"""
+
+from dataclasses import dataclass
+from typing import Optional
+
+from sim.dispatcher import IntervalClosed, JobDone, members
+from sim.table import Task
+
+
+@dataclass
+class Taken:
+    """A release that was taken, and what became of it."""
+    task: Task  # with its mark at the release
+    release: int
+    first: int  # the index of the interval its release belongs to, by step c
+    done: Optional[JobDone] = None
+
+
+class History:
+    def __init__(self, table):
+        self.table = dict(table)
+        self.jobs = []       # Taken
+        self.skips = []      # (task number, time)
+        self.intervals = []  # IntervalClosed
+        self.closings = []   # the step at which each of them ended, 'b' or 'f'
+        self.waiting = {}    # task number -> its Taken not yet done
+
+    def mark(self, number, mark):
+        task = self.table[number]
+        self.table[number] = Task(task.number, task.priority, mark, task.copy_in, task.execution, task.copy_out)
+
+    def instant(self, time, released, answer):
+        """Add a served instant, in the order of the instant list."""
+        if answer.job_done is not None:
+            self.waiting.pop(answer.job_done.task).done = answer.job_done
+        if answer.closed_at == "b":
+            self._close(answer)
+        for number in members(released):
+            if answer.skipped >> number & 1:
+                self.skips.append((number, time))
+            else:
+                job = Taken(self.table[number], time, len(self.intervals))
+                self.jobs.append(job)
+                self.waiting[number] = job
+        if answer.closed_at == "f":
+            self._close(answer)
+
+    def _close(self, answer):
+        self.intervals.append(answer.interval)
+        self.closings.append(answer.closed_at)
+
+
+def check(test, history):
+    """Assert everything below of a history that ends with nothing due."""
+    test.assertEqual(history.waiting, {}, "nothing is pending at the end, so all N are completed")
+    test.assertLessEqual(len(history.intervals), 3 * len(history.jobs))
+    _check_halves_and_times(test, history)
+    _check_skips(test, history)
+    executing = _executing_intervals(test, history)
+    for index, interval in enumerate(history.intervals):
+        _check_units(test, history, index, interval)
+        _check_choice(test, history, index, executing)
+        _check_end(test, history, index, executing.get(index))
+        _check_promotion(test, history, index)
+    for index, job in executing.items():
+        _check_copy_out(test, history, index, job)
+        _check_order(test, history, index, job)
+
+
+def _check_halves_and_times(test, history):
+    """R1, and intervals that neither overlap nor are empty."""
+    now = 0
+    for index, interval in enumerate(history.intervals):
+        test.assertEqual(interval.half, index % 2)
+        test.assertGreaterEqual(interval.begin, now)
+        test.assertGreater(interval.end, interval.begin)
+        now = interval.end
+
+
+def _check_skips(test, history):
+    """A release is skipped if and only if a job of its task is pending; at the completion it no longer is."""
+    spans = {}
+    for job in history.jobs:
+        spans.setdefault(job.task.number, []).append((job.release, job.done.completion))
+    for number, time in history.skips:
+        test.assertTrue(any(release < time < completion for release, completion in spans[number]))
+    for own in spans.values():
+        for (_, completion), (release, _) in zip(own, own[1:]):
+            test.assertLessEqual(completion, release)
+
+
+def _executing_intervals(test, history):
+    """Each job's executing interval: index -> job. No interval executes two, and none without a job."""
+    executing = {}
+    for job in history.jobs:
+        start = job.done.start
+        [index] = [at for at, each in enumerate(history.intervals) if each.begin <= start < each.end]
+        test.assertNotIn(index, executing)
+        test.assertEqual(history.intervals[index].executed, job.task.number)
+        test.assertEqual(job.done.release, job.release)
+        executing[index] = job
+    for index, interval in enumerate(history.intervals):
+        test.assertEqual(interval.executed is not None, index in executing)
+        test.assertEqual(interval.executed is None, interval.work == 0)
+    return executing
+
+
+def _check_units(test, history, index, interval):
+    """R2 and R5: what the interval before loaded or promoted is executed; what it executed is copied out."""
+    nothing = IntervalClosed(0, 0, 0, None, 0, None, None, 0, None)
+    before = history.intervals[index - 1] if index else nothing
+    loaded = before.chosen if before.fate == 1 else None
+    test.assertFalse(loaded is not None and before.promoted is not None)
+    expected = (before.promoted, 2) if before.promoted is not None else (loaded, 1 if loaded is not None else 0)
+    test.assertEqual((interval.executed, interval.work), expected)
+    test.assertEqual(interval.copied_out, before.executed)
+    test.assertEqual(interval.fate == 0, interval.chosen is None)
+    if expected[1] or before.executed is not None:
+        test.assertEqual(interval.begin, before.end)
+
+
+def _choice_time(history, interval):
+    """The engine chooses when the copy-out ends, or at once without one."""
+    if interval.copied_out is None:
+        return interval.begin
+    return interval.begin + history.table[interval.copied_out].copy_out
+
+
+def _check_choice(test, history, index, executing):
+    """R2: the highest of the jobs that have come by then and neither this interval nor an earlier one executes."""
+    interval = history.intervals[index]
+    time = _choice_time(history, interval)
+    later = [job.task for at, job in executing.items() if at > index and job.release <= time]
+    best = min(later, key=lambda task: task.priority, default=None)
+    test.assertEqual(interval.chosen, None if best is None else best.number)
+
+
+def _marked_here(history, index):
+    return [job for job in history.jobs if job.first == index and job.task.mark]
+
+
+def _check_end(test, history, index, job):
+    """R6 and R3: an interval ends at the later of its units' ends; a cancelled copy at its cancelling."""
+    interval = history.intervals[index]
+    processor = interval.begin
+    if job is not None:
+        start = interval.begin + (job.task.copy_in if interval.work == 2 else 0)
+        test.assertEqual(job.done.start, start)
+        processor = start + job.task.execution
+    choice = engine = _choice_time(history, interval)
+    if interval.chosen is not None:
+        chosen = history.table[interval.chosen]
+        engine = choice + chosen.copy_in
+        cancellings = [each.release for each in _marked_here(history, index)
+                       if choice < each.release < engine and each.task.priority < chosen.priority]
+        test.assertEqual(interval.fate, 2 if cancellings else 1)
+        engine = min(cancellings, default=engine)
+    test.assertEqual(interval.end, max(processor, engine))
+    # Only a choice or a cancelling of this very instant leaves the end to step f.
+    late = interval.end == engine and (choice == engine or interval.fate == 2)
+    test.assertEqual(history.closings[index], "f" if late else "b")
+
+
+def _check_promotion(test, history, index):
+    """R4: with no copy-in done, the highest marked job released in the interval, since all of them are ready."""
+    interval = history.intervals[index]
+    marked = [job.task for job in _marked_here(history, index)] if interval.fate != 1 else []
+    best = min(marked, key=lambda task: task.priority, default=None)
+    test.assertEqual(interval.promoted, None if best is None else best.number)
+
+
+def _check_copy_out(test, history, index, job):
+    """The copy-out begins on the tick on which the job's interval ends, and completes it U ticks later."""
+    test.assertEqual(history.intervals[index + 1].begin, history.intervals[index].end)
+    test.assertEqual(job.done.completion, history.intervals[index].end + job.task.copy_out)
+
+
+def _finished_lower_copy(history, job):
+    """Whether the engine had finished a lower copy-in in the first interval when this job came."""
+    first = history.intervals[job.first]
+    if first.fate != 1 or history.table[first.chosen].priority <= job.task.priority:
+        return False
+    end = first.begin + history.table[first.chosen].copy_in
+    if first.copied_out is not None:
+        end += history.table[first.copied_out].copy_out
+    return end <= job.release
+
+
+def _check_order(test, history, index, job):
+    """From a job's third interval on (a marked one's second, with one exception) nobody lower executes."""
+    test.assertLess(job.first, index)
+    lower = []
+    for at in range(job.first, index):
+        executed = history.intervals[at].executed
+        is_lower = executed is not None and history.table[executed].priority > job.task.priority
+        lower.append(is_lower)
+        firm = 1 if job.task.mark and not _finished_lower_copy(history, job) else 2
+        if at - job.first >= firm:
+            test.assertIsNotNone(executed)
+            test.assertFalse(is_lower)
+    test.assertEqual(job.done.blocked, sum(lower))
+    test.assertLessEqual(job.done.blocked, 2)

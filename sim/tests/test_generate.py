@@ -1,0 +1,132 @@
+"""The generator: the same seed gives the same bytes, and everything that can occur does occur."""
+
+import collections
+import functools
+import random
+import unittest
+
+from sim.entries import Refused
+from sim.files import instant_entries, read_file, run
+from sim.generate import LONGEST_CHECKED, damaged_file, damaged_session, random_file, random_session
+from sim.lines import file_lines, record_lines
+from sim.sessions import session_lines
+
+SEEDS = 400
+
+
+@functools.cache
+def made(make):
+    return [make(random.Random(f"{make.__name__} {seed}")) for seed in range(SEEDS)]
+
+
+def refusal(line):
+    return int(line.split()[1])
+
+
+class SameSeed(unittest.TestCase):
+    def test_same_bytes(self):
+        for make in (random_file, damaged_file, random_session, damaged_session):
+            for seed in range(20):
+                self.assertEqual(make(random.Random(seed)), make(random.Random(seed)))
+            self.assertGreater(len({make(random.Random(seed)) for seed in range(20)}), 15)
+
+
+class FileCoverage(unittest.TestCase):
+    def test_random_files_are_served(self):
+        for data in made(random_file):
+            read_file(data)
+
+    def test_every_refusal_of_a_file(self):
+        seen = collections.Counter()
+        for data in made(damaged_file):
+            lines = file_lines(data)
+            if lines and lines[0].startswith("R"):
+                seen[refusal(lines[0])] += 1
+        self.assertEqual(sorted(seen), list(range(1, 13)))
+
+    def test_every_event(self):
+        closings, fates, works, blocked, promotions, skip_first = set(), set(), set(), set(), 0, 0
+        releases, lengths = set(), set()
+        for data in made(random_file):
+            table, listed = read_file(data)
+            releases.add(len(listed))
+            lengths.update(task.copy_in for task in table.values())
+            for time, answer in run(table, listed):
+                closings.add(answer.closed_at)
+                if answer.interval is not None:
+                    fates.add(answer.interval.fate)
+                    works.add(answer.interval.work)
+                    promotions += answer.interval.promoted is not None
+                if answer.job_done is not None:
+                    blocked.add(answer.job_done.blocked)
+                letters = [line[0] for line in record_lines(b"".join(instant_entries(time, answer)))]
+                skip_first += letters[-2:] == ["S", "I"]
+        self.assertEqual(closings, {None, "b", "f"})
+        self.assertEqual(fates, {0, 1, 2})
+        self.assertEqual(works, {0, 1, 2})
+        self.assertEqual(blocked, {0, 1, 2})
+        self.assertGreater(promotions, 100)
+        self.assertGreater(skip_first, 100)
+        self.assertIn(0, releases)
+        self.assertTrue({1, 5, 1_000_000} <= lengths)
+
+    def test_long_inputs_with_refusals_before_and_at_the_end_of_the_buffer(self):
+        places = []
+        for data in made(damaged_file):
+            if len(data) > LONGEST_CHECKED:
+                with self.assertRaises(Refused) as caught:
+                    read_file(data)
+                places.append(caught.exception.place)
+                self.assertEqual(file_lines(data[:LONGEST_CHECKED]), file_lines(data))
+        self.assertGreater(len(places), 5)
+        self.assertLess(min(places), 5_000)
+        self.assertGreater(max(places), 40_960)
+        self.assertLess(max(places), LONGEST_CHECKED)
+
+
+class SessionCoverage(unittest.TestCase):
+    def test_openings_are_served(self):
+        for data in made(random_session):
+            lines = session_lines(data)
+            self.assertEqual(lines[0], "O")
+            self.assertNotIn("X", lines)
+
+    def test_every_refusal_of_a_call_and_every_kind_of_line(self):
+        seen, letters = collections.Counter(), collections.Counter()
+        for data in made(random_session):
+            for line in session_lines(data):
+                letters[line[0]] += 1
+                if line[0] == "R":
+                    seen[refusal(line)] += 1
+        self.assertEqual(sorted(seen), [6, 10, 14, 15, 16, 17])
+        self.assertGreater(min(seen.values()), 50)
+        self.assertEqual(sorted(letters), ["A", "I", "J", "M", "O", "R"])
+        self.assertGreater(letters["A"], 2 * letters["R"], "most calls are served")
+
+    def test_every_refusal_of_an_opening_and_cut_entries(self):
+        openings, stops = set(), set()
+        for data in made(damaged_session):
+            lines = session_lines(data)
+            if lines[0].startswith("R"):
+                openings.add(refusal(lines[0]))
+            if lines[-1] == "X":
+                stops.add(lines[0])
+        self.assertEqual(openings, {1, 2, 4, 5, 6, 7, 12})
+        self.assertEqual(stops, {"O", "X"})
+
+    def test_far_ahead_in_idle_time(self):
+        far = 0
+        for data in made(random_session):
+            at = 4 + int.from_bytes(data[:4], "little")
+            lines = iter(session_lines(data)[1:])
+            while at < len(data):
+                line = next(line for line in lines if line[0] in "ARM")
+                time = int.from_bytes(data[at + 1:at + 9], "little")
+                if data[at] == 64 and time > 2**40 and line == "A 0 -":
+                    far += 1
+                at += 13 if data[at] == 64 else 3
+        self.assertGreater(far, 5)
+
+
+if __name__ == "__main__":
+    unittest.main()

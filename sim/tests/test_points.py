@@ -1,0 +1,269 @@
+"""Decided points where the document is easily misread, and its readings that tempt."""
+
+import unittest
+
+from sim.dispatcher import COPY_IN_CANCELLED, Dispatcher
+from sim.entries import Refused, release_entry, task_entry
+from sim.files import record
+from sim.lines import file_lines
+from sim.tests.plans import TASK_1, TASKS, plan, plan_file, task_set
+
+LAST_TICK = 2**64 - 1
+
+
+def fields(letter, data):
+    """The fields of each line with this letter."""
+    return [line.split()[1:] for line in file_lines(data) if line.startswith(letter)]
+
+
+class OrderWithinAnInstant(unittest.TestCase):
+    """Point 1: 16, then 17 of step b, then the 18s, then 17 of step f."""
+
+    def test_skip_before_an_interval_that_ends_at_step_f(self):
+        self.assertEqual(file_lines(plan_file((0, 2), (1, 1), (1, 2)))[:2], ["S 2 1", "I 0 1 0 - 0 - 2 2 1"])
+
+    def test_skip_after_an_interval_that_ends_at_step_b(self):
+        self.assertEqual(file_lines(plan_file((0, 2), (2, 2)))[:2], ["I 0 2 0 - 0 - 2 1 -", "S 2 2"])
+
+    def test_job_done_then_skip_then_the_interval_of_step_f(self):
+        # In 6-10 job 2 executes and job 1 is copied out; both end at 10, where a release of 2 is skipped.
+        tasks = task_entry(1, 1, 1, 2, 3, 4) + task_entry(2, 2, 0, 2, 4, 1)
+        lines = file_lines(plan_file((0, 2), (1, 1), (10, 2), tasks=tasks))
+        self.assertEqual(lines[2:5], ["J 1 1 3 10 0", "S 2 10", "I 6 10 0 2 1 1 - 0 -"])
+
+    def test_skips_by_rising_task_number(self):
+        lines = file_lines(plan_file((0, 1), (0, 2), (0, 3), (1, 1), (1, 2), (1, 3)))
+        self.assertEqual(lines[:3], ["S 1 1", "S 2 1", "S 3 1"])
+
+    def test_closing_step_f(self):
+        dispatcher = Dispatcher.open(TASKS)
+        self.assertIsNone(dispatcher.instant(0, task_set(2)).closed_at)
+        answer = dispatcher.instant(1, task_set(1, 2))
+        self.assertEqual((answer.closed_at, answer.skipped, answer.due), ("f", task_set(2), 3))
+
+    def test_closing_step_b(self):
+        dispatcher = Dispatcher.open(TASKS)
+        dispatcher.instant(0, task_set(2))
+        answer = dispatcher.instant(2, task_set(2))
+        self.assertEqual((answer.closed_at, answer.skipped, answer.due), ("b", task_set(2), 6))
+
+    def test_job_done_and_interval_of_step_f_in_one_answer(self):
+        dispatcher = Dispatcher.open(TASKS)
+        dispatcher.instant(0, task_set(1))
+        dispatcher.instant(2, 0)
+        dispatcher.instant(5, 0)
+        answer = dispatcher.instant(6, 0)
+        self.assertEqual(answer.job_done, (1, 0, 2, 6, 0))
+        self.assertEqual(answer.interval, (5, 6, 0, None, 0, 1, None, 0, None))
+        self.assertEqual((answer.closed_at, answer.skipped, answer.due), ("f", 0, None))
+
+
+class ProcessorsOwnCopyIn(unittest.TestCase):
+    """Point 2: its end is due, and 15 refuses an instant beyond it."""
+
+    def test_due_and_refused_beyond(self):
+        dispatcher = Dispatcher.open(TASK_1 + task_entry(2, 2, 0, 6, 4, 1))
+        dispatcher.instant(0, task_set(2))
+        self.assertEqual(dispatcher.instant(1, task_set(1)).due, 3)  # the engine's copy-in of 2 ends at 7
+        with self.assertRaises(Refused) as caught:
+            dispatcher.instant(4, 0)
+        self.assertEqual(caught.exception.number, 15)
+        self.assertEqual(dispatcher.instant(3, 0).due, 6)
+
+    def test_it_is_not_cancelled(self):
+        # The processor copies in promoted job 2 from 1 to 3; marked 1 comes at 2 and cancels the engine's copy only.
+        tasks = task_entry(1, 1, 1, 2, 3, 1) + task_entry(2, 2, 1, 2, 4, 1) + task_entry(3, 3, 0, 2, 5, 2)
+        lines = file_lines(plan_file((0, 3), (1, 2), (2, 1), tasks=tasks))
+        self.assertEqual(lines[0], "I 0 1 0 - 0 - 3 2 2")
+        self.assertEqual(lines[1], "I 1 7 1 2 2 - 3 2 1")
+        self.assertIn("J 2 1 3 8 0", lines)
+
+
+class Halves(unittest.TestCase):
+    """Point 3: they alternate over idle time too."""
+
+    def test_odd_number_of_intervals_before_idle_time(self):
+        halves = [line[2] for line in fields("I", plan_file((0, 1), (100, 1)))]
+        self.assertEqual(halves, ["0", "1", "0", "1", "0", "1"])
+
+
+class BlockedCounts(unittest.TestCase):
+    """Point 4: whole intervals count; the lower job may have ended before the release."""
+
+    def test_lower_job_ended_before_the_release(self):
+        tasks = task_entry(1, 1, 0, 1, 1, 1) + task_entry(2, 2, 0, 10, 1, 1) + task_entry(3, 3, 0, 1, 1, 1)
+        lines = file_lines(plan_file((0, 3), (1, 2), (5, 1), tasks=tasks))
+        # Job 3 executes from 1 to 2 in the interval 1-11, which the copy-in of 2 holds open.
+        self.assertEqual(lines[1], "I 1 11 1 3 1 - 2 1 -")
+        self.assertIn("J 1 5 13 15 2", lines)
+
+    def test_release_at_an_end_by_step_b_belongs_to_the_next(self):
+        # Plan E: the interval 0-2 is not job 1's, the next one executes job 2 and is.
+        self.assertIn("J 1 2 6 10 1", file_lines(plan("E")))
+
+    def test_release_at_an_end_by_step_f_belongs_to_the_ended_one(self):
+        # The interval 2-4 executes 3 until 3, and job 1's release at 4 cancels the copy-in of 2 and so ends it.
+        tasks = task_entry(1, 1, 1, 2, 3, 1) + task_entry(2, 2, 0, 9, 4, 1) + task_entry(3, 3, 0, 2, 1, 2)
+        lines = file_lines(plan_file((0, 3), (2, 2), (4, 1), tasks=tasks))
+        self.assertEqual(lines[1], "I 2 4 1 3 1 - 2 2 1")
+        self.assertIn("J 1 4 6 16 1", lines)
+
+
+class LastServed(unittest.TestCase):
+    """Point 5: 14 compares with the last served instant; a refused call leaves no trace."""
+
+    def test_refused_instant_is_not_the_last(self):
+        dispatcher = Dispatcher.open(TASKS)
+        dispatcher.instant(0, task_set(1))
+        for time, released, number in ((3, 0, 15), (2, task_set(9), 16), (0, 0, 14), (10**9 + 1, 2, 10)):
+            with self.assertRaises(Refused) as caught:
+                dispatcher.instant(time, released)
+            self.assertEqual(caught.exception.number, number)
+        self.assertEqual(dispatcher.instant(1, 0).due, 2)
+        self.assertEqual(dispatcher.instant(2, 0).due, 5)
+
+    def test_refused_first_instant(self):
+        dispatcher = Dispatcher.open(TASKS)
+        with self.assertRaises(Refused):
+            dispatcher.instant(7, task_set(9))
+        self.assertEqual(dispatcher.instant(0, task_set(1)).due, 2)
+
+
+class NothingDue(unittest.TestCase):
+    """Point 6: with nothing due, an empty set is served at any u64 time."""
+
+    def test_last_tick(self):
+        dispatcher = Dispatcher.open(TASKS)
+        answer = dispatcher.instant(LAST_TICK, 0)
+        self.assertEqual((answer.job_done, answer.interval, answer.closed_at, answer.skipped, answer.due),
+                         (None, None, None, 0, None))
+        with self.assertRaises(Refused) as caught:
+            dispatcher.instant(LAST_TICK, 0)
+        self.assertEqual(caught.exception.number, 14)
+
+    def test_far_ahead_after_work(self):
+        dispatcher = Dispatcher.open(TASKS)
+        for time, released in ((0, 2), (2, 0), (5, 0), (6, 0), (10**9 + 1, 0), (10**12, 0)):
+            answer = dispatcher.instant(time, released)
+        self.assertIsNone(answer.due)
+
+
+class Checks(unittest.TestCase):
+    """Point 7: kind before length before everything else; openings; only zero bytes are 12."""
+
+    def refused(self, call, data):
+        with self.assertRaises(Refused) as caught:
+            call(data)
+        return caught.exception.number, caught.exception.place
+
+    def test_kind_before_length(self):
+        self.assertEqual(self.refused(record, TASKS + bytes([18])), (2, 48))
+
+    def test_opening_refuses_a_release_by_2_at_its_place(self):
+        self.assertEqual(self.refused(Dispatcher.open, TASKS + release_entry(0, 1)), (2, 48))
+
+    def test_only_zero_bytes_are_12(self):
+        self.assertEqual(self.refused(record, b""), (12, None))
+        self.assertEqual(self.refused(record, release_entry(0, 1)), (8, 0))
+        self.assertEqual(record(TASK_1), b"")
+
+
+class Promotion(unittest.TestCase):
+    """Point 8: the highest of the marked jobs released in the interval and ready."""
+
+    TABLE = (task_entry(1, 1, 1, 2, 3, 1) + task_entry(2, 2, 1, 2, 3, 1) + task_entry(3, 3, 0, 5, 9, 2)
+             + task_entry(4, 4, 0, 9, 9, 9) + task_entry(0, 0, 0, 1, 1, 1))
+
+    def second_interval(self, *pairs):
+        return fields("I", plan_file((0, 4), *pairs, tasks=self.TABLE))[1]
+
+    def test_a_higher_one_after_the_cancelling_is_promoted(self):
+        self.assertEqual(self.second_interval((9, 3), (10, 2), (12, 1))[6:], ["3", "2", "1"])
+
+    def test_a_lower_one_after_the_cancelling_is_not(self):
+        self.assertEqual(self.second_interval((9, 3), (10, 1), (12, 2))[6:], ["3", "2", "1"])
+
+    def test_an_unmarked_higher_one_is_not(self):
+        self.assertEqual(self.second_interval((9, 3), (10, 2), (12, 0))[6:], ["3", "2", "2"])
+
+    def test_the_mark_at_the_release_counts(self):
+        dispatcher = Dispatcher.open(TASKS)
+        dispatcher.mark(1, 0)
+        dispatcher.instant(0, task_set(2))
+        self.assertIsNone(dispatcher.instant(1, task_set(1)).interval)
+        marked = Dispatcher.open(TASKS)
+        marked.mark(2, 1)
+        marked.instant(0, task_set(3))
+        self.assertEqual(marked.instant(1, task_set(2)).interval, (0, 1, 0, None, 0, None, 3, COPY_IN_CANCELLED, 2))
+
+    def test_chosen_and_cancelled_marked_job_is_ready_but_lower(self):
+        # Marked 2 is chosen at 0 and cancelled by marked 1 at 1: both are marked, released in it and ready.
+        lines = fields("I", plan_file((0, 2), (1, 1), tasks=self.TABLE))
+        self.assertEqual(lines[0], ["0", "1", "0", "-", "0", "-", "2", "2", "1"])
+
+    def test_an_older_marked_job_waits(self):
+        # In 9-18 the copy-in of 4 is cancelled. Marked 2 is ready too, but of the interval before.
+        tasks = (task_entry(0, 0, 1, 1, 1, 1) + task_entry(1, 1, 0, 9, 9, 1) + task_entry(4, 2, 0, 9, 9, 1)
+                 + task_entry(2, 3, 1, 1, 1, 1))
+        lines = file_lines(plan_file((0, 1), (1, 2), (9, 4), (10, 0), tasks=tasks))
+        self.assertEqual(lines[:4], ["I 0 9 0 - 0 - 1 1 -", "I 9 18 1 1 1 - 4 2 0", "J 1 0 9 19 0",
+                                     "I 18 28 0 0 2 1 4 1 -"])
+
+    def test_an_interval_that_copied_in_promotes_nobody(self):
+        # Plan B: marked job 1 is released and ready at the end, but the copy-in of 2 was done.
+        self.assertEqual(fields("I", plan("B"))[1][6:], ["2", "1", "-"])
+
+
+class ReadingsThatTempt(unittest.TestCase):
+    def test_a_copy_that_ends_on_the_tick_of_the_release_stays(self):
+        self.assertEqual(fields("I", plan("B"))[1], ["2", "7", "1", "3", "1", "-", "2", "1", "-"])
+
+    def test_the_release_that_cuts_an_interval_short_belongs_to_it(self):
+        self.assertEqual(fields("I", plan("D"))[0], ["0", "1", "0", "-", "0", "-", "2", "2", "1"])
+
+    def test_plan_c_with_a_release_of_2_at_3(self):
+        """Neither is the choice made again in 2-5, nor is unmarked job 2 promoted at its end."""
+        self.assertEqual(file_lines(plan_file((0, 1), (3, 2))), [
+            "I 0 2 0 - 0 - 1 1 -",
+            "I 2 5 1 1 1 - - 0 -",
+            "J 1 0 2 6 0",
+            "I 5 8 0 - 0 1 2 1 -",
+            "I 8 12 1 2 1 - - 0 -",
+            "J 2 3 8 13 0",
+            "I 12 13 0 - 0 2 - 0 -",
+        ])
+
+    def test_a_marked_one_is_promoted_there(self):
+        tasks = task_entry(1, 1, 1, 2, 3, 1) + task_entry(2, 2, 1, 2, 4, 1)
+        lines = fields("I", plan_file((0, 1), (3, 2), tasks=tasks))
+        self.assertEqual(lines[1], ["2", "5", "1", "1", "1", "-", "-", "0", "2"])
+        self.assertEqual(lines[2], ["5", "11", "0", "2", "2", "1", "-", "0", "-"])
+
+    def test_no_second_choice_after_a_cancelling(self):
+        # Plan A: at 3 the copy-in of 2 is cancelled; the engine stays free until 7.
+        dispatcher = Dispatcher.open(TASKS)
+        for time, number in ((0, 3), (2, 2), (3, 1)):
+            answer = dispatcher.instant(time, task_set(number))
+        self.assertEqual(answer.due, 7)
+
+    def test_an_unmarked_release_cancels_nothing(self):
+        self.assertEqual(fields("I", plan_file((0, 3), (1, 2)))[0], ["0", "2", "0", "-", "0", "-", "3", "1", "-"])
+
+    def test_a_marked_release_of_lower_priority_cancels_nothing(self):
+        tasks = task_entry(1, 1, 0, 2, 3, 1) + task_entry(2, 2, 1, 2, 4, 1)
+        self.assertEqual(fields("I", plan_file((0, 1), (1, 2), tasks=tasks))[0][6:8], ["1", "1"])
+
+    def test_a_skipped_marked_release_cancels_nothing(self):
+        # At 3 the engine copies in 2 while job 1 executes; the release of 1 finds it pending.
+        lines = file_lines(plan_file((0, 1), (2, 2), (3, 1)))
+        self.assertEqual(lines[1], "S 1 3")
+        self.assertEqual(lines[2], "I 2 5 1 1 1 - 2 1 -")
+
+    def test_a_copy_out_is_not_cancelled(self):
+        lines = file_lines(plan_file((0, 3), (7, 2), (8, 1)))
+        self.assertIn("J 3 0 2 9 0", lines)
+        self.assertEqual(fields("I", plan_file((0, 3), (7, 2), (8, 1)))[2][5:8], ["3", "1", "1"])
+
+
+if __name__ == "__main__":
+    unittest.main()

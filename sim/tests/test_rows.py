@@ -1,0 +1,48 @@
+"""Rows for a comparison by computation."""
+
+import unittest
+
+from sim.dispatcher import Answer, Dispatcher
+from sim.entries import Refused
+from sim.files import read_file, record
+from sim.rows import MOST_RELEASES, MOST_TASKS, answer_of, call_lists, file_row, rows
+
+
+class Rows(unittest.TestCase):
+    def test_small_and_fixed_by_the_seed(self):
+        found = rows(3, 60)
+        self.assertEqual(found, rows(3, 60))
+        self.assertNotEqual(found, rows(4, 60))
+        served = [(data, result[1]) for data, result in found if result[0] == "record"]
+        refused = [result for _, result in found if result[0] == "refused"]
+        self.assertEqual(len(served) + len(refused), 60)
+        self.assertGreater(len(served), 40)
+        self.assertGreater(len(refused), 3)
+        for data, written in served:
+            self.assertEqual(record(data), written)
+            table, releases = read_file(data)
+            self.assertLessEqual(len(table), MOST_TASKS + 1)  # damage may have added one
+            self.assertLessEqual(len(releases), MOST_RELEASES + 1)
+
+    def test_a_longer_list_begins_with_the_shorter(self):
+        self.assertEqual(rows(0, 20)[:10], rows(0, 10))
+        self.assertEqual(call_lists(0, 20)[:10], call_lists(0, 10))
+
+    def test_call_lists_are_small_and_have_every_kind_of_answer(self):
+        kinds = set()
+        for opening, calls in call_lists(1, 40):
+            dispatcher = Dispatcher.open(opening)
+            self.assertLessEqual(len(dispatcher.table), MOST_TASKS)
+            kinds |= {type(answer_of(dispatcher, call)) for call in calls}
+        self.assertEqual(kinds, {Answer, type(None), Refused})
+
+    def test_a_file_that_runs_is_written_with_its_record_and_the_bytes_behind_it(self):
+        self.assertEqual(file_row(b"\1\2", ("record", b"\3")), "recorded (1 ∷ 2 ∷ []) (3 ∷ []) 1 3")
+
+    def test_a_refusal_is_written_with_its_number_and_place(self):
+        self.assertEqual(file_row(b"\7", ("refused", 2, 0)), "refused (7 ∷ []) 2 2 0")
+        self.assertEqual(file_row(b"", ("refused", 12, None)), "refused ([]) 2 12 0")
+
+
+if __name__ == "__main__":
+    unittest.main()
