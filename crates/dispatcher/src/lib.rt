@@ -1,7 +1,25 @@
 // The dispatcher of one core: its state, and what it answers.
+mod arrays;
+mod instant;
+mod mark;
+mod next_due;
+mod open_tasks;
+mod order;
+mod state;
+mod step_a;
+mod step_b;
+mod step_c;
+mod step_d;
+mod step_e;
+mod step_g;
+
 use entries::IntervalEntry;
 use entries::JobEntry;
 use entries::MaybeTask;
+pub use next_due::due as due_time;
+pub use next_due::sooner;
+pub use open_tasks::open;
+pub use open_tasks::opened;
 use table::Refusal;
 use table::Table;
 

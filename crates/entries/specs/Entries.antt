@@ -3,7 +3,8 @@ use mathlib.Core.Bool.{Bool, true, false, cond}
 use mathlib.Core.List.{List, [], _∷_, _++_}
 use Prim.Native.Nat.{ℕ, _+_, _-_}
 use lib.Dec.{eqb, leb}
-use lib.ListN.{length, getD}
+use mathlib.Core.Path.{_≡_}
+use lib.ListN.{length, take, drop}
 use Rattle.words.specs.Words.{bytesOf, numberAt}
 use Rattle.entries.specs.Types.{MaybeTask, NoTask, Task, TaskParameters, Release, Entry, Malformed, TaskEntry, ReleaseEntry, JobEntry, IntervalEntry}
 
@@ -37,14 +38,14 @@ release-at s at = record { task = numberAt 1 s (at + 1); time = numberAt 8 s (at
 unfoldable pub entry-at : List ℕ → ℕ → Entry
 entry-at s at =
     let kind : ℕ = numberAt 1 s at in
-    cond (eqb kind 1) (cond (leb 16 (length s - at)) (TaskEntry (task-at s at)) (Malformed 1))
-    (cond (eqb kind 2) (cond (leb 10 (length s - at)) (ReleaseEntry (release-at s at)) (Malformed 1))
+    cond (eqb kind 1) (cond (leb (size 1) (length s - at)) (TaskEntry (task-at s at)) (Malformed 1))
+    (cond (eqb kind 2) (cond (leb (size 2) (length s - at)) (ReleaseEntry (release-at s at)) (Malformed 1))
     (Malformed 2))
 
 -- ---- The entries of the record
 
 -- 255 is "no task"
-unfoldable pub task-byte : MaybeTask → ℕ
+abbrev pub task-byte : MaybeTask → ℕ
 task-byte NoTask = 255
 task-byte (Task n) = n
 
@@ -55,11 +56,23 @@ job-bytes e =
 
 -- kind 17: begin, end (8 each), processor's half, processor's task, work, task copied out, task chosen for copy-in, its fate,
 -- task promoted at the end (1 each)
+unfoldable pub choice-bytes : IntervalEntry → List ℕ
+choice-bytes e = e .half ∷ task-byte (e .task) ∷ e .work ∷ task-byte (e .copiedout) ∷ task-byte (e .chosen) ∷ e .fate ∷ task-byte (e .promoted) ∷ []
+
 unfoldable pub interval-bytes : IntervalEntry → List ℕ
-interval-bytes e =
-    17 ∷ (bytesOf 8 (e .begin) ++ (bytesOf 8 (e .end)
-    ++ (e .half ∷ task-byte (e .task) ∷ e .work ∷ task-byte (e .copiedout) ∷ task-byte (e .chosen) ∷ e .fate ∷ task-byte (e .promoted) ∷ [])))
+interval-bytes e = 17 ∷ (bytesOf 8 (e .begin) ++ (bytesOf 8 (e .end) ++ choice-bytes e))
 
 -- kind 18: task (1), time (8)
 unfoldable pub skipped-bytes : ℕ → ℕ → List ℕ
 skipped-bytes n t = 18 ∷ n ∷ bytesOf 8 t
+
+-- ---- An entry written into the front of a lent slice: all of it, or nothing where it does not fit
+
+-- a slice with bytes laid over it from a place on
+abbrev pub laid : ℕ → List ℕ → List ℕ → List ℕ
+laid at bytes s = take at s ++ (bytes ++ drop (at + length bytes) s)
+
+-- the length written, and what the slice holds then
+pub record Put (bytes before : List ℕ) (size : ℕ) (after : List ℕ) : Type 0 where
+  pub length-is : size ≡ cond (leb (length bytes) (length before)) (length bytes) 0
+  pub holds : after ≡ cond (leb (length bytes) (length before)) (bytes ++ drop (length bytes) before) before

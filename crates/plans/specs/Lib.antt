@@ -1,4 +1,5 @@
 pub mod Rows
 pub mod Plans
+pub mod Refusals
 pub mod Runs
 pub mod Table

@@ -1,25 +1,20 @@
 -- An input's entries, checked entry by entry: task entries, then release entries rising strictly by time and then task number; at
 -- most 4,096 releases.
-use Rattle.record.specs.Types.{Bool, true, false, cond, not, _&&_, _||_, List, [], _∷_, ℕ, zero, suc, _+_, TaskParameters, Release, Entry, Malformed, TaskEntry, ReleaseEntry, Table, Tasks, Refusal, NoRefusal, Alone, AtEntry}
+use Rattle.record.specs.Types.{Bool, true, false, cond, not, _&&_, _||_, List, [], _∷_, ℕ, zero, suc, _+_, TaskParameters, Release, Entry, Malformed, TaskEntry, ReleaseEntry, Last, NoneBefore, Before, Tasks, Refusal, NoRefusal, Alone, AtEntry}
 use lib.Dec.{ltb, leb, eqb}
 use lib.ListN.{length}
 use Rattle.sets.specs.Sets.{member}
 use Rattle.entries.specs.Entries.{entry-at}
 use Rattle.table.specs.Tasks.{tasks-of}
 
--- the release before
-pub data Last : Type 0 where
-  NoneBefore : Last
-  Before : Release → Last
-
-abbrev pub rises : Last → Release → Bool
+unfoldable pub rises : Last → Release → Bool
 rises NoneBefore r = true
 rises (Before l) r = ltb (l .time) (r .time) || (eqb (l .time) (r .time) && ltb (l .task) (r .task))
 
 -- 8, 10, 9, 11, in this order, of a release after `count` others; 0 is none
-unfoldable pub release-refusal : Table → Last → ℕ → Release → ℕ
-release-refusal table last count r =
-    cond (not (member (r .task) (table .present))) 8
+unfoldable pub release-refusal : ℕ → Last → ℕ → Release → ℕ
+release-refusal present last count r =
+    cond (not (member (r .task) present)) 8
     (cond (ltb 1000000000 (r .time)) 10
     (cond (not (rises last r)) 9
     (cond (leb 4096 count) 11 0)))
@@ -29,28 +24,32 @@ pub data Checked : Type 0 where
   Rejected : Refusal → Checked
   Releases : List Release → Checked
 
+abbrev pub refusal-of : Checked → Refusal
+refusal-of (Rejected r) = r
+refusal-of (Releases rs) = NoRefusal
+
 unfoldable pub with-release : Release → Checked → Checked
 with-release r (Rejected n) = Rejected n
 with-release r (Releases rs) = Releases (r ∷ rs)
 
--- the entries from a place on, at most k of them: 2, 1, then 3 of a task and 8, 10, 9, 11 of a release
-unfoldable pub releases-from : ℕ → List ℕ → ℕ → Table → Last → ℕ → Checked
-releases-from zero s at table last count = Releases []
-releases-from (suc k) s at table last count =
+-- the entries from a place on, at most k of them, with the tasks present: 2, 1, then 3 of a task and 8, 10, 9, 11 of a release
+unfoldable pub releases-from : ℕ → List ℕ → ℕ → ℕ → Last → ℕ → Checked
+releases-from zero s at present last count = Releases []
+releases-from (suc k) s at present last count =
     elim (leb (length s) at) [
       | true ↦ Releases []
       | false ↦ elim (entry-at s at) [
         | Malformed n ↦ Rejected (AtEntry n at)
         | TaskEntry p ↦ Rejected (AtEntry 3 at)
-        | ReleaseEntry r ↦ elim (release-refusal table last count r) [
-          | zero ↦ with-release r (releases-from k s (at + 10) table (Before r) (count + 1))
+        | ReleaseEntry r ↦ elim (release-refusal present last count r) [
+          | zero ↦ with-release r (releases-from k s (at + 10) present (Before r) (count + 1))
           | suc n ↦ Rejected (AtEntry (suc n) at)
         ]
       ]
     ]
 
 abbrev pub releases-behind : List ℕ → Tasks → Refusal → Checked
-releases-behind s k NoRefusal = releases-from (length s) s (k .end) (k .table) NoneBefore 0
+releases-behind s k NoRefusal = releases-from (length s) s (k .end) (k .table .present) NoneBefore 0
 releases-behind s k (Alone n) = Rejected (Alone n)
 releases-behind s k (AtEntry n at) = Rejected (AtEntry n at)
 

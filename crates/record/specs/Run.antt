@@ -1,6 +1,7 @@
 -- The run of a file: its releases and all due times handed to the dispatcher by instants, with no mark call, until nothing is
 -- pending; and its record, in the order in which things occur.
 use Rattle.record.specs.Types.{Bool, true, false, cond, List, [], _∷_, _++_, ℕ, zero, suc, _+_, _*_, Release, Tasks, Refusal, JobEntry, IntervalEntry, Dispatcher, Done, NoJob, Job, Closing, Unclosed, BeforeReleases, AfterReleases, Due, Never, Tick, Occurred, Answer, Refused, Served, Step, Outcome, RefusedInput, TooShort, Recorded}
+use mathlib.Core.Path.{_≡_}
 use lib.Dec.{leb, eqb}
 use lib.ListN.{length, drop}
 use Rattle.sets.specs.Sets.{member, insert}
@@ -22,9 +23,12 @@ first-time [] = Never
 first-time (r ∷ rs) = Tick (r .time)
 
 -- the set released at a time, of releases that none precedes
-unfoldable pub released-at : ℕ → List Release → ℕ
-released-at t [] = 0
-released-at t (r ∷ rs) = elim (eqb (r .time) t) [ true ↦ insert (r .task) (released-at t rs) | false ↦ 0 ]
+unfoldable pub released-from : ℕ → ℕ → List Release → ℕ
+released-from t set [] = set
+released-from t set (r ∷ rs) = elim (eqb (r .time) t) [ true ↦ released-from t (insert (r .task) set) rs | false ↦ set ]
+
+abbrev pub released-at : ℕ → List Release → ℕ
+released-at t rs = released-from t 0 rs
 
 -- and the releases after it
 unfoldable pub released-after : ℕ → List Release → List Release
@@ -104,3 +108,8 @@ written-of s lent (Releases rs) = written (record-bytes (moments-of s rs)) lent
 
 unfoldable pub file : List ℕ → List ℕ → Written
 file s lent = written-of s lent (releases-of s)
+
+-- what a writer answers and what the slice holds then are those of a definition
+pub record Wrote (w : Written) (outcome : Outcome) (memory : List ℕ) : Type 0 where
+  pub outcome-is : outcome ≡ w .outcome
+  pub holds : memory ≡ w .memory

@@ -5,7 +5,6 @@ pub use Rattle.entries.specs.declared.Entry.{Entry}
 pub use Rattle.entries.specs.declared.Entry.the-variants.{Malformed, TaskEntry, ReleaseEntry}
 pub use Rattle.entries.specs.declared.JobEntry.{JobEntry}
 pub use Rattle.entries.specs.declared.IntervalEntry.{IntervalEntry}
-pub use Rattle.table.specs.declared.Table.{Table}
 pub use Rattle.table.specs.declared.Tasks.{Tasks}
 pub use Rattle.table.specs.declared.Refusal.{Refusal}
 pub use Rattle.table.specs.declared.Refusal.the-variants.{NoRefusal, Alone, AtEntry}
@@ -20,6 +19,11 @@ pub use Rattle.dispatcher.specs.declared.Occurred.{Occurred}
 pub use Rattle.dispatcher.specs.declared.Answer.{Answer}
 pub use Rattle.dispatcher.specs.declared.Answer.the-variants.{Refused, Served}
 pub use Rattle.dispatcher.specs.declared.Step.{Step}
+pub use Rattle.record.specs.declared.advance.Batch.{Batch}
+pub use Rattle.record.specs.declared.advance.Cursor.{Cursor}
+pub use Rattle.record.specs.declared.advance.Advanced.{Advanced}
+pub use Rattle.record.specs.declared.Last.{Last}
+pub use Rattle.record.specs.declared.Last.the-variants.{NoneBefore, Before}
 pub use Rattle.record.specs.declared.Outcome.{Outcome}
 pub use Rattle.record.specs.declared.Outcome.the-variants.{RefusedInput, TooShort, Recorded}
 pub use mathlib.Core.Bool.{Bool, true, false, cond, not, _&&_, _||_}

@@ -20,16 +20,22 @@ given zero t p = false
 given (suc k) t p = (member k (t .present) && eqb (getD (t .priority) k 0) p) || given k t p
 
 -- outside 1 to 1,000,000
-abbrev pub outside : ℕ → Bool
+unfoldable pub outside : ℕ → Bool
 outside x = eqb x 0 || ltb 1000000 x
+
+-- 4: over 31 or given before
+unfoldable pub number-refused : ℕ → ℕ → Bool
+number-refused present n = ltb 31 n || member n present
+
+-- 6, then 7; 0 is none
+unfoldable pub mark-or-length-refusal : TaskParameters → ℕ
+mark-or-length-refusal p =
+    cond (ltb 1 (p .mark)) 6
+    (cond (outside (p .copyin) || (outside (p .execution) || outside (p .copyout))) 7 0)
 
 -- 4 to 7, in this order; 0 is none
 unfoldable pub task-refusal : Table → TaskParameters → ℕ
-task-refusal t p =
-    cond (ltb 31 (p .number) || member (p .number) (t .present)) 4
-    (cond (given 32 t (p .priority)) 5
-    (cond (ltb 1 (p .mark)) 6
-    (cond (outside (p .copyin) || (outside (p .execution) || outside (p .copyout))) 7 0)))
+task-refusal t p = cond (number-refused (t .present) (p .number)) 4 (cond (given 32 t (p .priority)) 5 (mark-or-length-refusal p))
 
 unfoldable pub with-task : Table → TaskParameters → Table
 with-task t p = record {
@@ -50,7 +56,7 @@ abbrev pub read-to : Table → ℕ → ℕ → Tasks
 read-to t marked at = record { table = t; marked = marked; end = at; refusal = NoRefusal }
 
 -- the end of the input, or a release
-abbrev pub behind-tasks : List ℕ → ℕ → Bool
+unfoldable pub behind-tasks : List ℕ → ℕ → Bool
 behind-tasks s at = leb (length s) at || eqb (numberAt 1 s at) 2
 
 -- the entries from a place on, at most k of them

@@ -22,6 +22,7 @@ fn within(s: &[u8], at: usize, width: usize) -> bool
     }
 }
 
+// The number of 2 bytes at `at`; those of 4 and of 8 are made of halves, which the compiler joins into one load.
 fn two(s: &[u8], at: usize) -> u64
     requires { ⌜ at + 2 ≤ length (now s) ⌝ }
     ensures { λ r. ⌜ (r ≡ numberAt 2 (now (s .entry)) at) × (r < 256 ^ 2) ⌝ }

@@ -1,0 +1,23 @@
+-- `dispatcher::Dispatcher::mark` meets its contract: a call that meets no row sets the mark, and one that meets one is refused with the state as it was. Assumes nothing.
+use borrow.Author.Tests.{eq-eqb, ne-eqb}
+use borrow.Author.Needs.{needs}
+use Rattle.dispatcher.specs.Calls.{mark}
+use Rattle.dispatcher.proofs.Dispatcher.mark.Statement.{statement}
+use Rattle.dispatcher.proofs.Dispatcher.mark.Tie as tie
+
+mark-refusal-requires : tie.Need-mark-refusal-requires
+mark-refusal-requires c κs = search needs
+
+with-mark-requires : tie.Need-with-mark-requires
+with-mark-requires c κs = search needs
+
+returns : tie.Need-returns
+unfolding mark
+returns c = simp (← c .before .before .mark-refusal .ensures, eq-eqb _ _ (c .before .if1 .taken), c .with-mark .ensures)
+
+returns-2 : tie.Need-returns-2
+unfolding mark
+returns-2 c = simp (← c .before .mark-refusal .ensures, ne-eqb _ _ (c .if1 .left))
+
+pub mark-spec : {M : Type 1} → statement M
+mark-spec = tie.close (tie.spec mark-refusal-requires with-mark-requires returns returns-2)

@@ -1,0 +1,25 @@
+-- `dispatcher::mark::with_mark` meets its contract: by whether the mark is 1. Assumes nothing.
+use Rattle.dispatcher.specs.Types.{cond, _≡_, _∙_, ⊎-elim}
+use borrow.Author.Tests.{eq-eqb, ne-eqb}
+use borrow.Author.Needs.{needs}
+use lib.Dec.{eqb}
+use Rattle.sets.specs.Sets.{insert, remove}
+use Rattle.dispatcher.proofs.mark.with_mark.Statement.{statement}
+use Rattle.dispatcher.proofs.mark.with_mark.Tie as tie
+
+insert-requires : tie.Need-insert-requires
+insert-requires c κs = search needs
+
+remove-requires : tie.Need-remove-requires
+remove-requires c κs = search needs
+
+returns : tie.Need-returns
+returns c =
+    let w = c .before .before in
+    let s = w .before .args in
+    let e : w .if1 .marked ≡ cond (eqb (s .mark) 1) (insert (s .task) (s .d .marked)) (remove (s .task) (s .d .marked)) =
+    ⊎-elim (λ a. simp (eq-eqb _ _ (a .0 .taken)) (a .2 ∙ a .1 .ensures)) (λ a. simp (ne-eqb _ _ (a .0 .left)) (a .2 ∙ a .1 .ensures)) (w .if1 .came) in
+    simp e
+
+pub with-mark-spec : {M : Type 1} → statement M
+with-mark-spec = tie.close (tie.spec insert-requires remove-requires returns)

@@ -1,0 +1,69 @@
+// Opening a dispatcher from the task entries: 12, then 2, 1, 4, 5, 6, 7 entry by entry. A release entry is refused by 2.
+use crate::Clock;
+use crate::Dispatcher;
+use crate::Jobs;
+use crate::Next;
+use crate::Opening;
+use crate::Outgoing;
+use crate::Phase;
+use table::Refusal;
+use table::Table;
+ghost use mathlib.Core.Path.{_≡_};
+ghost use Rattle.dispatcher.specs.Calls as calls;
+
+// No task has a job, and the first interval gives the processor half 0.
+pub fn opened(table: Table, marked: u32) -> Dispatcher
+    ensures { λ r. ⌜ r ≡ calls.opened table marked ⌝ }
+{
+    Dispatcher {
+        table,
+        marked,
+        clock: Clock::Unset,
+        half: 1,
+        jobs: Jobs {
+            pending: 0,
+            ready: 0,
+            release: [0; 32],
+            blocked: [0; 32],
+        },
+        phase: Phase::Between {
+            next: Next::NoneNext,
+            outgoing: Outgoing::NoneOutgoing,
+        },
+    }
+}
+
+// What stands for the dispatcher where none opens is one without a task, so that a refusal tells no more than it says.
+fn not_opened(refusal: Refusal) -> Opening
+    ensures { λ r. ⌜ r ≡ calls.not-opened refusal ⌝ }
+{
+    Opening {
+        state: opened(table::no_table(), 0),
+        refusal,
+    }
+}
+
+// A dispatcher from the task entries, or the first refusal.
+pub fn open(s: &[u8]) -> Opening
+    ensures { λ r. ⌜ r ≡ calls.opening (now (s .entry)) ⌝ }
+{
+    if s.len() == 0 {
+        return not_opened(Refusal::Alone(12));
+    }
+    let tasks = table::read(s);
+    let refusal = tasks.refusal;
+    match refusal {
+        Refusal::NoRefusal => {
+            if tasks.end == s.len() {
+                let table = tasks.table;
+                return Opening {
+                    state: opened(table, tasks.marked),
+                    refusal,
+                };
+            }
+            not_opened(Refusal::AtEntry(2, tasks.end))
+        }
+        Refusal::Alone(_) => not_opened(refusal),
+        Refusal::AtEntry(_, _) => not_opened(refusal),
+    }
+}

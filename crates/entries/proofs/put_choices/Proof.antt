@@ -1,0 +1,85 @@
+-- `entries::put_choices` meets its contract: field by field, from byte 17 on. Assumes nothing.
+use mathlib.Core.Path.{_≡_, sym, subst}
+use mathlib.Core.List.{List, [], _∷_, _++_, append-assoc}
+use Prim.Native.Nat.{ℕ, _≤_}
+use lib.ListN.{length, take, length-append}
+use lib.Seq.{length-take-le}
+use Rattle.entries.specs.Entries.{choice-bytes, task-byte}
+use Rattle.entries.proofs.Laws.{Front, next, up-to, behind}
+use borrow.Author.Needs.{needs}
+use Rattle.entries.proofs.put_choices.Statement.{statement}
+use Rattle.entries.proofs.put_choices.Tie as tie
+
+put-byte-requires : tie.Need-put-byte-requires
+put-byte-requires c κs = search needs
+
+task-byte-requires : tie.Need-task-byte-requires
+task-byte-requires c κs = search needs
+
+put-byte-requires-2 : tie.Need-put-byte-requires-2
+put-byte-requires-2 c κs = search needs
+
+put-byte-requires-3 : tie.Need-put-byte-requires-3
+put-byte-requires-3 c κs = search needs
+
+task-byte-requires-2 : tie.Need-task-byte-requires-2
+task-byte-requires-2 c κs = search needs
+
+put-byte-requires-4 : tie.Need-put-byte-requires-4
+put-byte-requires-4 c κs = search needs
+
+task-byte-requires-3 : tie.Need-task-byte-requires-3
+task-byte-requires-3 c κs = search needs
+
+put-byte-requires-5 : tie.Need-put-byte-requires-5
+put-byte-requires-5 c κs = search needs
+
+put-byte-requires-6 : tie.Need-put-byte-requires-6
+put-byte-requires-6 c κs = search needs
+
+task-byte-requires-4 : tie.Need-task-byte-requires-4
+task-byte-requires-4 c κs = search needs
+
+put-byte-requires-7 : tie.Need-put-byte-requires-7
+put-byte-requires-7 c κs = search needs
+
+same-length : tie.Need-same-length
+same-length c = search needs
+
+regroup : (p : List ℕ) (a b c d e f g : ℕ)
+    → (((((((p ++ (a ∷ [])) ++ (b ∷ [])) ++ (c ∷ [])) ++ (d ∷ [])) ++ (e ∷ [])) ++ (f ∷ [])) ++ (g ∷ [])) ≡ p ++ (a ∷ b ∷ c ∷ d ∷ e ∷ f ∷ g ∷ [])
+regroup p a b c d e f g = simp append-assoc
+
+returns : tie.Need-returns
+unfolding choice-bytes
+returns c =
+    let a = c .before .before .before .before .before .before .before .before .before .before .before .before .before .before .before .before .before .before .before .before .before .before .before .before .before .before .before .before .before .before .before .before .before .args in
+    let old = a .out .now in
+    let long : 17 ≤ length old = search needs in
+    let size = length-take-le 17 old long in
+    let f1 = next (take 17 old) old old (a .e .half ∷ []) 17 (sym size) (c .before .before .before .before .before .before .before .before .before .before .before .before .before .before .before .before .before .before .before .before .before .before .before .before .before .before .before .before .before .before .put-byte .last .0) (c .before .before .before .before .before .before .before .before .before .before .before .before .before .before .before .before .before .before .before .before .before .before .before .before .before .before .before .before .before .before .put-byte .ensures) (up-to 17 old long) in
+    let f2 = next ((take 17 old) ++ (a .e .half ∷ [])) old (c .before .before .before .before .before .before .before .before .before .before .before .before .before .before .before .before .before .before .before .before .before .before .before .before .before .before .before .before .before .before .put-byte .last .0) (task-byte (a .e .task) ∷ []) 18 (simp (length-append, size)) (c .before .before .before .before .before .before .before .before .before .before .before .before .before .before .before .before .before .before .before .before .before .before .before .before .before .put-byte2 .last .0) (rw (c .before .before .before .before .before .before .before .before .before .before .before .before .before .before .before .before .before .before .before .before .before .before .before .before .before .before .task-byte .ensures) at (c .before .before .before .before .before .before .before .before .before .before .before .before .before .before .before .before .before .before .before .before .before .before .before .before .before .put-byte2 .ensures)) f1 in
+    let f3 = next (((take 17 old) ++ (a .e .half ∷ [])) ++ (task-byte (a .e .task) ∷ [])) old (c .before .before .before .before .before .before .before .before .before .before .before .before .before .before .before .before .before .before .before .before .before .before .before .before .before .put-byte2 .last .0) (a .e .work ∷ []) 19 (simp (length-append, size)) (c .before .before .before .before .before .before .before .before .before .before .before .before .before .before .before .before .before .before .before .before .before .put-byte3 .last .0) (c .before .before .before .before .before .before .before .before .before .before .before .before .before .before .before .before .before .before .before .before .before .put-byte3 .ensures) f2 in
+    let f4 = next ((((take 17 old) ++ (a .e .half ∷ [])) ++ (task-byte (a .e .task) ∷ [])) ++ (a .e .work ∷ [])) old (c .before .before .before .before .before .before .before .before .before .before .before .before .before .before .before .before .before .before .before .before .before .put-byte3 .last .0) (task-byte (a .e .copiedout) ∷ []) 20 (simp (length-append, size)) (c .before .before .before .before .before .before .before .before .before .before .before .before .before .before .before .before .put-byte4 .last .0) (rw (c .before .before .before .before .before .before .before .before .before .before .before .before .before .before .before .before .before .task-byte2 .ensures) at (c .before .before .before .before .before .before .before .before .before .before .before .before .before .before .before .before .put-byte4 .ensures)) f3 in
+    let f5 = next (((((take 17 old) ++ (a .e .half ∷ [])) ++ (task-byte (a .e .task) ∷ [])) ++ (a .e .work ∷ [])) ++ (task-byte (a .e .copiedout) ∷ [])) old (c .before .before .before .before .before .before .before .before .before .before .before .before .before .before .before .before .put-byte4 .last .0) (task-byte (a .e .chosen) ∷ []) 21 (simp (length-append, size)) (c .before .before .before .before .before .before .before .before .before .before .before .put-byte5 .last .0) (rw (c .before .before .before .before .before .before .before .before .before .before .before .before .task-byte3 .ensures) at (c .before .before .before .before .before .before .before .before .before .before .before .put-byte5 .ensures)) f4 in
+    let f6 = next ((((((take 17 old) ++ (a .e .half ∷ [])) ++ (task-byte (a .e .task) ∷ [])) ++ (a .e .work ∷ [])) ++ (task-byte (a .e .copiedout) ∷ [])) ++ (task-byte (a .e .chosen) ∷ [])) old (c .before .before .before .before .before .before .before .before .before .before .before .put-byte5 .last .0) (a .e .fate ∷ []) 22 (simp (length-append, size)) (c .before .before .before .before .before .before .before .put-byte6 .last .0) (c .before .before .before .before .before .before .before .put-byte6 .ensures) f5 in
+    let f7 = next (((((((take 17 old) ++ (a .e .half ∷ [])) ++ (task-byte (a .e .task) ∷ [])) ++ (a .e .work ∷ [])) ++ (task-byte (a .e .copiedout) ∷ [])) ++ (task-byte (a .e .chosen) ∷ [])) ++ (a .e .fate ∷ [])) old (c .before .before .before .before .before .before .before .put-byte6 .last .0) (task-byte (a .e .promoted) ∷ []) 23 (simp (length-append, size)) (c .before .before .put-byte7 .last .0) (rw (c .before .before .before .task-byte4 .ensures) at (c .before .before .put-byte7 .ensures)) f6 in
+    behind 17 (choice-bytes (a .e)) old (c .before .before .put-byte7 .last .0) long (subst (λ (x : List ℕ). Front x old (c .before .before .put-byte7 .last .0)) (regroup (take 17 old) _ _ _ _ _ _ _) f7)
+
+pub put-choices-spec : {M : Type 1} → statement M
+put-choices-spec =
+    tie.close
+    (tie.spec
+    put-byte-requires
+    task-byte-requires
+    put-byte-requires-2
+    put-byte-requires-3
+    task-byte-requires-2
+    put-byte-requires-4
+    task-byte-requires-3
+    put-byte-requires-5
+    put-byte-requires-6
+    task-byte-requires-4
+    put-byte-requires-7
+    same-length
+    returns)

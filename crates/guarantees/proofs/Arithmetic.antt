@@ -1,0 +1,122 @@
+-- Every state that calls made names tasks of the table alone, and no time and no count of it comes near the end of its type.
+use Rattle.guarantees.specs.Types.{_≡_, refl, sym, ap, _∙_, subst, List, [], _∷_, _⊎_, inl, inr, ℕ, suc, _+_, _≤_, _<_, min, Table, Jobs, NoneNext, NoneOutgoing, Phase, Between, Dispatcher, Due, Never, Tick}
+use native.Mathlib.Omega.{arith}
+use mathlib.Core.Path.{ap₂}
+use borrow.Author.Tests.{eqb-true, eq-eqb, leb-true, leb-false}
+use lib.Dec.{eqb, leb}
+use lib.ListN.{getD}
+use Rattle.sets.specs.Sets.{member, below, collect, union, difference}
+use Rattle.sets.specs.Laws.{by-test, none, member-task}
+use Rattle.dispatcher.specs.State.{with-jobs, with-phase, at-clock, later}
+use Rattle.dispatcher.specs.Instant.{step-a, step-b, step-c, step-d, step-e, step-g, taken, stamped, with-candidates, due, at-a, at-b, at-e, at-f, at-g, new-at}
+use Rattle.dispatcher.specs.Calls.{opened, opening, refusal}
+use Rattle.guarantees.specs.History.{Call, after-calls}
+use Rattle.guarantees.specs.States.{Named, PlainTime, PlainState, PlainArithmetic}
+use Rattle.guarantees.proofs.Proper.{Fair, Opens, opens}
+use Rattle.guarantees.proofs.Walk.{after}
+use Rattle.guarantees.proofs.Blocking.{Bounded, bounded-opened, bounded-mark, bounded-a, bounded-e, bounded-g}
+use Rattle.guarantees.proofs.Served.{Served-at, served-at, due-drop, NotBefore}
+use Rattle.guarantees.proofs.Invariant.{Good, good-opened, good-after, drop-one, debt-less}
+use Rattle.guarantees.proofs.Completion.{AtRest, rests, due-times}
+
+-- ---- an instant at which nothing is due and nothing is released
+
+-- nobody is stamped
+stamped-none : (v k : ℕ) (xs : List ℕ) → stamped 0 v k xs ≡ xs
+unfolding stamped
+stamped-none v k [] = refl
+stamped-none v k (x ∷ xs) = rw (none k) (ap (λ (l : List ℕ). x ∷ l) (stamped-none v (suc k) xs))
+
+module _ (d : Dispatcher) (t : ℕ) where
+  abbrev no-jobs : Jobs
+  no-jobs = record { pending = 0; ready = 0; release = d .jobs .release; blocked = d .jobs .blocked }
+
+  abbrev idle : Dispatcher
+  idle = with-phase (with-jobs d no-jobs) (Between NoneNext NoneOutgoing)
+
+  idle-stays : at-g idle t 0 ≡ at-clock idle t
+  unfolding at-g at-f at-e at-b at-a new-at step-a step-b step-c step-d step-e step-g taken with-candidates union difference collect below member
+  idle-stays = rw (stamped-none t 0 (d .jobs .release), stamped-none 0 0 (d .jobs .blocked))
+
+  is-idle : d .phase ≡ Between NoneNext NoneOutgoing → d .jobs .pending ≡ 0 → d .jobs .ready ≡ 0 → d ≡ idle
+  is-idle p q r = ap₂ (λ (j : Jobs) (p : Phase). with-phase (with-jobs d j) p) jobs p
+    where
+      jobs : d .jobs ≡ no-jobs
+      jobs = ap₂ (λ (x y : ℕ). record { pending = x; ready = y; release = d .jobs .release; blocked = d .jobs .blocked }) q r
+
+  nothing-begins : d .phase ≡ Between NoneNext NoneOutgoing → d .jobs .pending ≡ 0 → d .jobs .ready ≡ 0 → at-g d t 0 ≡ at-clock d t
+  nothing-begins p q r = subst (λ (x : Dispatcher). at-g x t 0 ≡ at-clock x t) (sym (is-idle p q r)) idle-stays
+
+-- ---- every state that calls made
+
+one-more : (c : ℕ) → c ≤ 2 → min (c + 1) 255 ≡ c + 1
+one-more c l = omega arith
+
+module _ (table : Table) (marks : ℕ) (fair : Fair table marks) where
+  abbrev G : Dispatcher → Type 0
+  G d = Good table marks fair d
+
+  named : (d : Dispatcher) → G d → Named (d .table) d
+  named d g =
+      subst (λ (x : Table). Named x d) (sym (g .table-is)) (record {
+        numbers = λ n k. member-task n (table .present) (fair .present) k;
+        marked = g .parted .marks;
+        pending = g .parted .pending;
+        ready = g .parted .ready;
+        phase = g .parted .known;
+      })
+
+  -- up to here a time has room for every length
+  plain-time : (t : ℕ) → t ≤ 2000000000 → PlainTime table t
+  plain-time t l = record {
+    copyin = λ n k. room (getD (table .copyin) n 0) (fair .copyins n k .1);
+    execution = λ n k. room (getD (table .execution) n 0) (fair .executions n k .1);
+    copyout = λ n k. room (getD (table .copyout) n 0) (fair .copyouts n k .1);
+  }
+    where
+      room : (x : ℕ) → x ≤ 1000000 → later t x ≡ t + x
+      room x m = omega arith
+
+  -- and past it nothing is released, and nothing is due
+  times : (d : Dispatcher) (t set : ℕ) → G d → Served-at d t set → PlainTime (d .table) t ⊎ (at-g d t set ≡ at-clock d t)
+  times d t set g s =
+      by-test (leb t 2000000000)
+      (λ l. inl (subst (λ (x : Table). PlainTime x t) (sym (g .table-is)) (plain-time t (leb-true t 2000000000 l))))
+      (λ l. by-test (eqb set 0) (λ e. inr (late (leb-false t 2000000000 l) (eqb-true set 0 e))) (λ e. absurd (omega (arith, s .early e, leb-false t 2000000000 l))))
+    where
+      go : (x : Due) → due (d .phase) ≡ x → 2000000000 < t → at-g d t 0 ≡ at-clock d t
+      go Never e l = let r : AtRest d = rests table marks fair d g e in nothing-begins d t (r .phase) (r .pending) (r .ready)
+      go (Tick u) e l =
+          absurd (omega (arith, due-times table marks fair d u g e .bound, debt-less d (g .sound), drop-one (NotBefore t) u (d .phase) (s .due) (due-drop u (d .phase) e)))
+
+      late : 2000000000 < t → set ≡ 0 → at-g d t set ≡ at-clock d t
+      late l e = ap (at-g d t) e ∙ go (due (d .phase)) refl l
+
+  plain : (calls : List Call) → PlainState (after-calls (opened table marks) calls)
+  plain calls = record {
+    named = named d good;
+    counts = λ n l. bounded n l .most;
+    instants = λ t set e. record {
+      times = times d t set good (served-at d t set (eq-eqb (refusal d t set) 0 e));
+      counts-b = λ n l. one-more (getD (at-a d t .state .jobs .blocked) n 0) (bounded-a (table .priority) n l d t set (bounded n l) .most);
+      counts-f = λ n l. one-more (getD (at-e d t set .jobs .blocked) n 0) (bounded-e (table .priority) n l d t set (bounded n l) .most);
+    };
+  }
+    where
+      d : Dispatcher
+      d = after-calls (opened table marks) calls
+
+      good : G (after-calls (opened table marks) calls)
+      good = good-after table marks fair calls (opened table marks) (good-opened table marks fair)
+
+      bounded : (n : ℕ) (l : n < 32) → Bounded (table .priority) n l (after-calls (opened table marks) calls)
+      bounded n l =
+          after (Bounded (table .priority) n l) (λ d t set e h. bounded-g (table .priority) n l d t set h) (λ d k m e h. bounded-mark (table .priority) n l d k m h)
+          calls (opened table marks) (bounded-opened (table .priority) n l table marks refl)
+
+pub plain-arithmetic : PlainArithmetic
+unfolding PlainArithmetic
+plain-arithmetic bytes e calls =
+    let o : Opens (opening bytes .state) = opens bytes e in
+    let d : Dispatcher = opening bytes .state in
+    subst (λ (x : Dispatcher). PlainState (after-calls x calls)) (sym (o .fresh)) (plain (d .table) (d .marked) (o .proper .fair) calls)

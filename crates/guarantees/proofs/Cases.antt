@@ -1,0 +1,148 @@
+-- What each step can do, as a rule for proofs: it leaves the dispatcher as it is, or does the one thing that it is for. A proof about a step
+-- gives its claim for each of the cases; where a rule of the instant list changes, its case changes here.
+use Rattle.guarantees.specs.Types.{_≡_, refl, Bool, true, false, cond, ℕ, Table, Processor, Idle, CopyingIn, Executing, Finished, CopyOut, NoCopyOut, CopyingOut, CopiedOut, CopyIn, Unchosen, NoneChosen, Copying, Loaded, Cancelled, Interval, Next, Outgoing, Phase, Between, Within, Dispatcher, Stage}
+use lib.Dec.{eqb}
+use lib.ListN.{getD}
+use Rattle.sets.specs.Sets.{intersection}
+use Rattle.dispatcher.specs.Instant.{processor-at, copyout-at, copyin-at, over, close, close-stage, step-b, copying-out, cancel, cancel-by, step-d, choose, choose-if, step-e, begin, wanted, step-g, step-a, without-done, completed, ended, at-b, new-at, held-over}
+use Rattle.dispatcher.specs.State.{later, with-phase, with-jobs}
+use Rattle.dispatcher.specs.Order.{outranks, highest-of}
+
+-- the releases of an instant that belong to the interval that its step g begins
+abbrev pub held-at : Dispatcher → ℕ → ℕ → ℕ
+held-at d t set = held-over (at-b d t .state .phase) (new-at d t set)
+
+-- ---- a phase that ends
+
+module _ (t : ℕ) where
+  pub copyin-cases : (R : CopyIn → Type 0) (c : CopyIn) → R c
+      → ((n until : ℕ) → c ≡ Copying n until → eqb until t ≡ true → R (Loaded n)) → R (copyin-at t c)
+  copyin-cases R Unchosen h f = h
+  copyin-cases R NoneChosen h f = h
+  copyin-cases R (Copying n until) h f = go (eqb until t) refl
+    where
+      go : (b : Bool) → eqb until t ≡ b → R (cond b (Loaded n) (Copying n until))
+      go true e = f n until refl e
+      go false e = h
+  copyin-cases R (Loaded n) h f = h
+  copyin-cases R (Cancelled n) h f = h
+
+  pub copyout-cases : (R : CopyOut → Type 0) (o : CopyOut) → R o
+      → ((n start until : ℕ) → o ≡ CopyingOut n start until → eqb until t ≡ true → R (CopiedOut n)) → R (copyout-at t o)
+  unfolding copyout-at
+  copyout-cases R NoCopyOut h f = h
+  copyout-cases R (CopyingOut n start until) h f = go (eqb until t) refl
+    where
+      go : (b : Bool) → eqb until t ≡ b → R (cond b (CopiedOut n) (CopyingOut n start until))
+      go true e = f n start until refl e
+      go false e = h
+  copyout-cases R (CopiedOut n) h f = h
+
+  pub processor-cases : (table : Table) (R : Processor → Type 0) (q : Processor) → R q
+      → ((n until : ℕ) → q ≡ CopyingIn n until → eqb until t ≡ true → R (Executing n t (later t (getD (table .execution) n 0))))
+      → ((n start until : ℕ) → q ≡ Executing n start until → eqb until t ≡ true → R (Finished n start))
+      → R (processor-at table t q)
+  unfolding processor-at
+  processor-cases table R Idle h f g = h
+  processor-cases table R (CopyingIn n until) h f g = go (eqb until t) refl
+    where
+      go : (b : Bool) → eqb until t ≡ b → R (cond b (Executing n t (later t (getD (table .execution) n 0))) (CopyingIn n until))
+      go true e = f n until refl e
+      go false e = h
+  processor-cases table R (Executing n start until) h f g = go (eqb until t) refl
+    where
+      go : (b : Bool) → eqb until t ≡ b → R (cond b (Finished n start) (Executing n start until))
+      go true e = g n start until refl e
+      go false e = h
+  processor-cases table R (Finished n start) h f g = h
+
+-- ---- the steps
+
+module _ (R : Dispatcher → Type 0) where
+  -- a
+  pub a-cases : (d : Dispatcher) (t : ℕ) → ((next : Next) (outgoing : Outgoing) → d .phase ≡ Between next outgoing → R d)
+      → ((i : Interval) → d .phase ≡ Within i → R (with-phase (with-jobs d (without-done (d .jobs) (completed (d .jobs) t (i .copyout)))) (Within (ended (d .table) t i))))
+      → R (step-a d t (d .phase) .state)
+  unfolding step-a
+  a-cases d t h f = go (d .phase) refl
+    where
+      go : (p : Phase) → d .phase ≡ p → R (step-a d t p .state)
+      go (Between next outgoing) e = h next outgoing e
+      go (Within i) e = f i e
+
+  -- b, f
+  pub b-cases : (s : Stage) (t : ℕ) → ((i : Interval) → s .state .phase ≡ Within i → over i ≡ false → R (s .state))
+      → ((next : Next) (outgoing : Outgoing) → s .state .phase ≡ Between next outgoing → R (s .state))
+      → ((i : Interval) → s .state .phase ≡ Within i → over i ≡ true → R (close (s .state) t i)) → R (step-b s t (s .state .phase) .state)
+  unfolding step-b close-stage
+  b-cases s t k h f = go (s .state .phase) refl
+    where
+      go-within : (i : Interval) (b : Bool) → s .state .phase ≡ Within i → over i ≡ b → R (close-stage s t i b .state)
+      go-within i true e o = f i e o
+      go-within i false e o = k i e o
+
+      go : (p : Phase) → s .state .phase ≡ p → R (step-b s t p .state)
+      go (Between next outgoing) e = h next outgoing e
+      go (Within i) e = go-within i (over i) e refl
+
+  -- d
+  pub d-cases : (d : Dispatcher) (new : ℕ) → R d
+      → ((i : Interval) (n until : ℕ) → d .phase ≡ Within i → i .copyin ≡ Copying n until → outranks d n (highest-of d (intersection new (d .marked))) ≡ true → R (cancel d i n true))
+      → R (step-d d new (d .phase))
+  unfolding step-d cancel-by
+  d-cases d new h f = go (d .phase) refl
+    where
+      go-outranks : (i : Interval) (n until : ℕ) (b : Bool) → d .phase ≡ Within i → i .copyin ≡ Copying n until → outranks d n (highest-of d (intersection new (d .marked))) ≡ b → R (cancel d i n b)
+      go-outranks i n until true e s b = f i n until e s b
+      go-outranks i n until false e s b = unfold cancel in h
+
+      go-copyin : (i : Interval) (c : CopyIn) → d .phase ≡ Within i → i .copyin ≡ c → R (cancel-by d new i c)
+      go-copyin i Unchosen e s = h
+      go-copyin i NoneChosen e s = h
+      go-copyin i (Copying n until) e s = go-outranks i n until (outranks d n (highest-of d (intersection new (d .marked)))) e s refl
+      go-copyin i (Loaded n) e s = h
+      go-copyin i (Cancelled n) e s = h
+
+      go : (p : Phase) → d .phase ≡ p → R (step-d d new p)
+      go (Between next outgoing) e = h
+      go (Within i) e = go-copyin i (i .copyin) e refl
+
+  -- e
+  pub e-cases : (d : Dispatcher) (t : ℕ) → R d
+      → ((i : Interval) → d .phase ≡ Within i → i .copyin ≡ Unchosen → copying-out (i .copyout) ≡ false → R (choose d t i (highest-of d (d .jobs .ready))))
+      → R (step-e d t (d .phase))
+  unfolding step-e choose-if
+  e-cases d t h f = go (d .phase) refl
+    where
+      go-free : (i : Interval) (b : Bool) → d .phase ≡ Within i → i .copyin ≡ Unchosen → copying-out (i .copyout) ≡ b → R (cond b d (choose d t i (highest-of d (d .jobs .ready))))
+      go-free i true e s u = h
+      go-free i false e s u = f i e s u
+
+      go-copyin : (i : Interval) (c : CopyIn) → d .phase ≡ Within i → i .copyin ≡ c → R (choose-if d t i c)
+      go-copyin i Unchosen e s = go-free i (copying-out (i .copyout)) e s refl
+      go-copyin i NoneChosen e s = h
+      go-copyin i (Copying n until) e s = h
+      go-copyin i (Loaded n) e s = h
+      go-copyin i (Cancelled n) e s = h
+
+      go : (p : Phase) → d .phase ≡ p → R (step-e d t p)
+      go (Between next outgoing) e = h
+      go (Within i) e = go-copyin i (i .copyin) e refl
+
+  -- g
+  pub g-cases : (d : Dispatcher) (t new : ℕ) → ((i : Interval) → d .phase ≡ Within i → R d)
+      → ((next : Next) (outgoing : Outgoing) → d .phase ≡ Between next outgoing → wanted next outgoing (d .jobs .ready) ≡ false → R d)
+      → ((next : Next) (outgoing : Outgoing) → d .phase ≡ Between next outgoing → wanted next outgoing (d .jobs .ready) ≡ true
+      → let b : Dispatcher = begin d t new next outgoing in R (step-e b t (b .phase)))
+      → R (step-g d t new (d .phase))
+  unfolding step-g
+  g-cases d t new k h f = go (d .phase) refl
+    where
+      go-wanted : (next : Next) (outgoing : Outgoing) (w : Bool) → d .phase ≡ Between next outgoing → wanted next outgoing (d .jobs .ready) ≡ w
+          → let b : Dispatcher = begin d t new next outgoing in R (cond w (step-e b t (b .phase)) d)
+      go-wanted next outgoing true e w = f next outgoing e w
+      go-wanted next outgoing false e w = h next outgoing e w
+
+      go : (p : Phase) → d .phase ≡ p → R (step-g d t new p)
+      go (Within i) e = k i e
+      go (Between next outgoing) e = go-wanted next outgoing (wanted next outgoing (d .jobs .ready)) e refl

@@ -1,0 +1,305 @@
+-- The copy-outs: the engine of a state, step by step and along the calls.
+use Rattle.guarantees.specs.Types.{_≡_, refl, sym, ap, _∙_, subst, Bool, true, false, cond, true≢false, false≢true, List, _∷_, _++_, append-assoc, ℕ, _+_, _^_, _≤_, _<_, Table, Jobs, Clock, MaybeTask, NoTask, Task, Processor, Idle, CopyingIn, Executing, Finished, CopyOut, NoCopyOut, CopyingOut, CopiedOut, Interval, Next, Outgoing, NoneOutgoing, AwaitsCopyOut, Phase, Between, Within, Dispatcher, NoJob, Job, Stage}
+use native.Mathlib.Omega.{arith}
+use borrow.Author.Tests.{eqb-true}
+use lib.Dec.{eqb}
+use lib.ListN.{getD}
+use Rattle.sets.specs.Sets.{member}
+use Rattle.sets.specs.Laws.{bit, same-task, member-task}
+use Rattle.dispatcher.specs.State.{at-clock, later}
+use Rattle.dispatcher.specs.Order.{highest-of}
+use Rattle.dispatcher.specs.Instant.{step-a, step-b, step-c, step-d, step-e, step-g, close, close-stage, over, with-candidates, cancel, choose, begin, begin-processor, begin-copyout, copying-out, wanted, completed, ended, processor-task, copyout-task, copyout-at, awaiting-copyout, resting, job-entry, at-a, at-b, at-e, at-f, at-g, new-at}
+use Rattle.dispatcher.specs.Calls.{opened}
+use Rattle.guarantees.specs.History.{Event, Begins, Ends, Call, history, happens, finishes-in, completes, ends, takes, begins}
+use Rattle.guarantees.proofs.Proper.{Fair}
+use Rattle.guarantees.proofs.Walk.{walk}
+use Rattle.guarantees.proofs.Settled.{RestAt}
+use Rattle.guarantees.proofs.Times.{Times, times-map, copyout-times}
+use Rattle.guarantees.proofs.Cases.{held-at, d-cases, e-cases}
+use Rattle.guarantees.proofs.Steps.{processor-task-same}
+use Rattle.guarantees.proofs.Events.{by-finishes, by-takes, tail-of, front-of, happens-parts}
+use Rattle.guarantees.proofs.Served.{last, served-at}
+use Rattle.guarantees.proofs.Invariant.{Good, Until, mass, debt, debt-less, good-opened, good-next, good-mark}
+use Rattle.guarantees.proofs.Frames.{Frame, b-frame, table-e, clock-g}
+use Rattle.guarantees.proofs.Engine.{Engine, Free, Owed, Running, Busy, Leaving, Apart, at-end, owes}
+use Rattle.guarantees.proofs.Places.{Parted, processor-bit, copyout-bit, copyin-bit, rests, no-copyout}
+use Rattle.guarantees.specs.States.{copyout-known}
+
+-- ---- the engine of a state
+
+abbrev Plain : ℕ → Type 0
+Plain u = u ≤ 2000000000
+
+abbrev engine-in : MaybeTask → CopyOut → Engine
+engine-in r NoCopyOut = Running r
+engine-in r (CopyingOut n start until) = Busy r n until
+engine-in r (CopiedOut n) = Running r
+
+-- where the last interval has ended at t
+abbrev engine-left : ℕ → Outgoing → Engine
+engine-left t NoneOutgoing = Free
+engine-left t (AwaitsCopyOut n start) = Owed t n
+
+abbrev engine-of : ℕ → Phase → Engine
+engine-of t (Between next outgoing) = engine-left t outgoing
+engine-of t (Within i) = engine-in (processor-task (i .processor)) (i .copyout)
+
+-- no task is executed and copied out in one interval
+abbrev ApartIn : MaybeTask → CopyOut → Type 0
+ApartIn r NoCopyOut = Unit {0}
+ApartIn r (CopyingOut n start until) = Apart r (Task n)
+ApartIn r (CopiedOut n) = Unit {0}
+
+abbrev ApartAt : Phase → Type 0
+ApartAt (Between next outgoing) = Unit {0}
+ApartAt (Within i) = ApartIn (processor-task (i .processor)) (i .copyout)
+
+apart-bits : (a b p : Bool) (x : ℕ) → bit p ≡ x + bit a + bit b → b ≡ true → a ≡ false
+apart-bits false b p x h e = refl
+apart-bits true b p x h e = absurd (most p (let z : bit b ≡ 1 = rw e in omega arith))
+  where
+    most : (p : Bool) → 2 ≤ bit p → ⊥
+    most true l = omega arith
+    most false l = omega arith
+
+apart-in : (present : ℕ) (tasks : present < 2 ^ 32) (d : Dispatcher) (i : Interval) (q : Processor) (o : CopyOut) → i .processor ≡ q → i .copyout ≡ o
+    → Parted present tasks d (Within i) → ApartIn (processor-task q) o
+apart-in present tasks d i q NoCopyOut e f h = tt
+apart-in present tasks d i q (CopiedOut m) e f h = tt
+apart-in present tasks d i q (CopyingOut m start until) e f h = go q (at-m q e)
+  where
+    small : m < 32
+    small = member-task m present tasks (subst (copyout-known present) f (h .known .2))
+
+    at-m : (q : Processor) → i .processor ≡ q
+        → bit (member m (d .jobs .pending)) ≡ bit (member m (d .jobs .ready)) + copyin-bit m (i .copyin) + processor-bit m q + bit (eqb m m)
+    at-m q e =
+        subst (λ (q : Processor). bit (member m (d .jobs .pending)) ≡ bit (member m (d .jobs .ready)) + copyin-bit m (i .copyin) + processor-bit m q + bit (eqb m m)) e
+        (subst (λ (o : CopyOut). bit (member m (d .jobs .pending)) ≡ bit (member m (d .jobs .ready)) + copyin-bit m (i .copyin) + processor-bit m (i .processor) + copyout-bit m o) f
+        (omega (arith, h .parts m small)))
+
+    go : (q : Processor) → bit (member m (d .jobs .pending)) ≡ bit (member m (d .jobs .ready)) + copyin-bit m (i .copyin) + processor-bit m q + bit (eqb m m)
+        → Apart (processor-task q) (Task m)
+    go Idle x = tt
+    go (CopyingIn n u) x = apart-bits (eqb m n) (eqb m m) (member m (d .jobs .pending)) (bit (member m (d .jobs .ready)) + copyin-bit m (i .copyin)) x (same-task m)
+    go (Executing n s u) x = apart-bits (eqb m n) (eqb m m) (member m (d .jobs .pending)) (bit (member m (d .jobs .ready)) + copyin-bit m (i .copyin)) x (same-task m)
+    go (Finished n s) x = apart-bits (eqb m n) (eqb m m) (member m (d .jobs .pending)) (bit (member m (d .jobs .ready)) + copyin-bit m (i .copyin)) x (same-task m)
+
+apart-at : (present : ℕ) (tasks : present < 2 ^ 32) (d : Dispatcher) (p : Phase) → Parted present tasks d p → ApartAt p
+apart-at present tasks d (Between next outgoing) h = tt
+apart-at present tasks d (Within i) h = apart-in present tasks d i (i .processor) (i .copyout) refl refl h
+
+-- ---- step by step, at an instant
+
+c-engine : (d : Dispatcher) (t new : ℕ) (p : Phase) → engine-of t (with-candidates d new p) ≡ engine-of t p
+unfolding with-candidates
+c-engine d t new (Between next outgoing) = refl
+c-engine d t new (Within i) = refl
+
+d-engine : (d : Dispatcher) (t new : ℕ) → engine-of t (step-d d new (d .phase) .phase) ≡ engine-of t (d .phase)
+unfolding cancel
+d-engine d t new = d-cases (λ x. engine-of t (x .phase) ≡ engine-of t (d .phase)) d new refl (λ i n u e s b. rw e)
+
+choose-engine : (d : Dispatcher) (t x : ℕ) (i : Interval) (q : MaybeTask) → engine-of x (choose d t i q .phase) ≡ engine-of x (Within i)
+unfolding choose
+choose-engine d t x i NoTask = refl
+choose-engine d t x i (Task q) = refl
+
+e-engine : (d : Dispatcher) (t : ℕ) → engine-of t (step-e d t (d .phase) .phase) ≡ engine-of t (d .phase)
+e-engine d t = e-cases (λ x. engine-of t (x .phase) ≡ engine-of t (d .phase)) d t refl (λ i e s u. choose-engine d t t i (highest-of d (d .jobs .ready)) ∙ rw e)
+
+engine-e : (d : Dispatcher) (t set : ℕ) → engine-of t (at-e d t set .phase) ≡ engine-of t (at-b d t .state .phase)
+unfolding at-e step-c
+engine-e d t set =
+    let b : Dispatcher = at-b d t .state in
+    let new : ℕ = new-at d t set in
+    let c : Dispatcher = step-c b t new in
+    let x : Dispatcher = step-d c new (c .phase) in
+    e-engine x t ∙ d-engine c t new ∙ c-engine b t new (b .phase)
+
+module _ (lengths : List ℕ) (t : ℕ) where
+  -- a
+  completes-leaving : (j : Jobs) (r : MaybeTask) (o : CopyOut) (ys : List Event) → Leaving lengths t (engine-in r (copyout-at t o)) ys
+      → Leaving lengths t (engine-in r o) (completes (completed j t o) ++ ys)
+  unfolding completes completed copyout-at Leaving
+  completes-leaving j r NoCopyOut ys h = h
+  completes-leaving j r (CopyingOut n start until) ys h = go (eqb until t) refl h
+    where
+      go : (b : Bool) → eqb until t ≡ b → Leaving lengths t (engine-in r (cond b (CopiedOut n) (CopyingOut n start until))) ys
+          → Leaving lengths t (Busy r n until) (completes (cond b (Job (job-entry j n start t)) NoJob) ++ ys)
+      go true e h = ((refl, sym (eqb-true until t e), refl), h)
+      go false e h = h
+  completes-leaving j r (CopiedOut n) ys h = h
+
+  a-leaving : (d : Dispatcher) (p : Phase) (ys : List Event) → d .phase ≡ p → Leaving lengths t (engine-of t (step-a d t p .state .phase)) ys
+      → Leaving lengths t (engine-of t p) (completes (step-a d t p .done) ++ ys)
+  unfolding step-a ended completes
+  a-leaving d (Between next outgoing) ys e h = subst (λ (p : Phase). Leaving lengths t (engine-of t p) ys) e h
+  a-leaving d (Within i) ys e h =
+      completes-leaving (d .jobs) (processor-task (i .processor)) (i .copyout) ys
+      (subst (λ (r : MaybeTask). Leaving lengths t (engine-in r (copyout-at t (i .copyout))) ys) (processor-task-same (d .table) t (i .processor)) h)
+
+  -- b, f
+  leaves-owed : (q : Processor) → resting q ≡ true → engine-left t (awaiting-copyout q) ≡ owes t (processor-task q)
+  leaves-owed Idle h = refl
+  leaves-owed (CopyingIn n until) h = absurd (false≢true h)
+  leaves-owed (Executing n start until) h = absurd (false≢true h)
+  leaves-owed (Finished n start) h = refl
+
+  close-leaving : (r : MaybeTask) (o : CopyOut) (ys : List Event) → copying-out o ≡ false → Leaving lengths t (owes t r) ys → Leaving lengths t (engine-in r o) (Ends t ∷ ys)
+  unfolding Leaving
+  close-leaving r NoCopyOut ys u h = (tt, h)
+  close-leaving r (CopyingOut n start until) ys u h = absurd (true≢false u)
+  close-leaving r (CopiedOut n) ys u h = (tt, h)
+
+  stays-leaving : (i : Interval) (q : Phase) (ys : List Event) → q ≡ Within i → Leaving lengths t (engine-of t q) ys → Leaving lengths t (engine-of t (Within i)) (ends t (Within i) q ++ ys)
+  unfolding ends
+  stays-leaving i q ys e k = rw e (rw e at k)
+
+  b-leaving : (s : Stage) (p : Phase) (ys : List Event) → s .state .phase ≡ p → Leaving lengths t (engine-of t (step-b s t p .state .phase)) ys
+      → Leaving lengths t (engine-of t p) (ends t p (step-b s t p .state .phase) ++ ys)
+  unfolding step-b close-stage close ends
+  b-leaving s (Between next outgoing) ys e h = subst (λ (p : Phase). Leaving lengths t (engine-of t p) ys) e h
+  b-leaving s (Within i) ys e h = go (over i) refl h
+    where
+      go : (b : Bool) → over i ≡ b → Leaving lengths t (engine-of t (close-stage s t i b .state .phase)) ys
+          → Leaving lengths t (engine-of t (Within i)) (ends t (Within i) (close-stage s t i b .state .phase) ++ ys)
+      go true o h =
+          close-leaving (processor-task (i .processor)) (i .copyout) ys (no-copyout i o)
+          (subst (λ (x : Engine). Leaving lengths t x ys) (leaves-owed (i .processor) (rests i o)) h)
+      go false o h = stays-leaving i (s .state .phase) ys e h
+
+  -- g
+  abbrev Both : Processor → CopyOut → Phase → Type 0
+  Both q o (Between next outgoing) = ⊥
+  Both q o (Within j) = (j .processor ≡ q) × (j .copyout ≡ o)
+
+  choose-both : (d : Dispatcher) (i : Interval) (q : Processor) (o : CopyOut) (r : MaybeTask) → Both q o (Within i) → Both q o (choose d t i r .phase)
+  unfolding choose
+  choose-both d i q o NoTask h = h
+  choose-both d i q o (Task r) h = h
+
+  begun-both : (d : Dispatcher) (q : Processor) (o : CopyOut) → Both q o (d .phase) → Both q o (step-e d t (d .phase) .phase)
+  begun-both d q o h =
+      e-cases (λ x. Both q o (x .phase)) d t h (λ i e s u. choose-both d i q o (highest-of d (d .jobs .ready)) (subst (Both q o) e h))
+
+  none-apart : (r : MaybeTask) → Apart r NoTask
+  none-apart NoTask = tt
+  none-apart (Task n) = tt
+
+  -- the copy-out in an interval that begins now
+  out-leaving : (table : Table) (r : MaybeTask) (outgoing : Outgoing) (ys : List Event) → table .copyout ≡ lengths → copyout-times Plain (begin-copyout table t outgoing)
+      → ApartIn r (begin-copyout table t outgoing) → Leaving lengths t (engine-in r (begin-copyout table t outgoing)) ys
+      → Leaving lengths t (engine-left t outgoing) (Begins t r (copyout-task (begin-copyout table t outgoing)) ∷ ys)
+  unfolding Leaving
+  out-leaving table r NoneOutgoing ys e p a h = ((refl, none-apart r, refl), h)
+  out-leaving table r (AwaitsCopyOut n start) ys e p a h =
+      ((refl, a, (refl, refl)), subst (λ (u : ℕ). Leaving lengths t (Busy r n u) ys) (exact (getD (table .copyout) n 0) p ∙ ap (λ (l : List ℕ). t + getD l n 0) e) h)
+    where
+      exact : (x : ℕ) → later t x ≤ 2000000000 → later t x ≡ t + x
+      exact x l = omega arith
+
+  opens-leaving : (table : Table) (next : Next) (outgoing : Outgoing) (q : Phase) (ys : List Event) → table .copyout ≡ lengths
+      → Both (begin-processor table t next) (begin-copyout table t outgoing) q → Times Plain q → ApartAt q → Leaving lengths t (engine-of t q) ys
+      → Leaving lengths t (engine-left t outgoing) (begins t (Between next outgoing) q ++ ys)
+  unfolding begins
+  opens-leaving table next outgoing (Between x y) ys e b p a h = absurd b
+  opens-leaving table next outgoing (Within j) ys e b p a h =
+      subst (λ (o : CopyOut). Leaving lengths t (engine-left t outgoing) (Begins t (processor-task (j .processor)) (copyout-task o) ∷ ys)) (sym (b .1))
+      (out-leaving table (processor-task (j .processor)) outgoing ys e (subst (copyout-times Plain) (b .1) (p .1))
+      (subst (ApartIn (processor-task (j .processor))) (b .1) a)
+      (subst (λ (o : CopyOut). Leaving lengths t (engine-in (processor-task (j .processor)) o) ys) (b .1) h))
+
+  shut-leaving : (next : Next) (outgoing : Outgoing) (q : Phase) (ys : List Event) → q ≡ Between next outgoing → Leaving lengths t (engine-of t q) ys
+      → Leaving lengths t (engine-left t outgoing) (begins t (Between next outgoing) q ++ ys)
+  unfolding begins
+  shut-leaving next outgoing q ys e k = rw e (rw e at k)
+
+  g-leaving : (f : Dispatcher) (new : ℕ) (p : Phase) (ys : List Event) → f .phase ≡ p → f .table .copyout ≡ lengths → Times Plain (step-g f t new p .phase)
+      → ApartAt (step-g f t new p .phase) → Leaving lengths t (engine-of t (step-g f t new p .phase)) ys → Leaving lengths t (engine-of t p) (begins t p (step-g f t new p .phase) ++ ys)
+  unfolding step-g begins
+  g-leaving f new (Within i) ys e x p a h = subst (λ (p : Phase). Leaving lengths t (engine-of t p) ys) e h
+  g-leaving f new (Between next outgoing) ys e x p a h = go (wanted next outgoing (f .jobs .ready)) p a h
+    where
+      b : Dispatcher
+      b = begin f t new next outgoing
+
+      go : (w : Bool) → Times Plain (cond w (step-e b t (b .phase)) f .phase) → ApartAt (cond w (step-e b t (b .phase)) f .phase)
+          → Leaving lengths t (engine-of t (cond w (step-e b t (b .phase)) f .phase)) ys
+          → Leaving lengths t (engine-left t outgoing) (begins t (Between next outgoing) (cond w (step-e b t (b .phase)) f .phase) ++ ys)
+      go true p a h =
+          opens-leaving (f .table) next outgoing (step-e b t (b .phase) .phase) ys x
+          (begun-both b (begin-processor (f .table) t next) (begin-copyout (f .table) t outgoing) (unfold begin in (refl, refl))) p a h
+      go false p a h = shut-leaving next outgoing (f .phase) ys e h
+
+-- ---- along the calls
+
+-- a settled dispatcher owes nothing
+engine-settled : (d : Dispatcher) (x y : ℕ) (p : Phase) → RestAt (d .jobs .ready) p → engine-of x p ≡ engine-of y p
+engine-settled d x y (Between next outgoing) h = rw (h .1)
+engine-settled d x y (Within i) h = refl
+
+-- and no copy-out of it is overdue
+engine-ends : (now mass debt : ℕ) (d : Dispatcher) (p : Phase) → RestAt (d .jobs .ready) p → Times (Until now mass debt) p → at-end now (engine-of 0 p)
+engine-ends now mass debt d (Between next outgoing) h x = rw (h .1) tt
+engine-ends now mass debt d (Within i) h x = go (i .copyout) (x .1)
+  where
+    go : (o : CopyOut) → copyout-times (Until now mass debt) o → at-end now (engine-in (processor-task (i .processor)) o)
+    go NoCopyOut x = tt
+    go (CopyingOut n start until) x = x .after
+    go (CopiedOut n) x = tt
+
+module _ (table : Table) (marks : ℕ) (fair : Fair table marks) where
+  plain : (d : Dispatcher) → Good table marks fair d → Times Plain (d .phase)
+  plain d g =
+      times-map (Until (last (d .clock)) (mass d) (debt d)) Plain (λ u x. omega (arith, x .bound, debt-less d (g .sound))) (d .phase) (g .times)
+
+  leaving-tail : (d : Dispatcher) (t set : ℕ) (ys : List Event) → d .table ≡ table → Good table marks fair (at-g d t set)
+      → Leaving (table .copyout) t (engine-of t (at-g d t set .phase)) ys → Leaving (table .copyout) t (engine-of t (at-e d t set .phase)) (tail-of d t set ++ ys)
+  unfolding tail-of at-g at-f
+  leaving-tail d t set ys x n h =
+      let e : Dispatcher = at-e d t set in
+      let s : Stage = record { state = e; done = at-b d t .done; closed = at-b d t .closed } in
+      let f : Dispatcher = at-f d t set .state in
+      rw (append-assoc (ends t (e .phase) (f .phase)) (begins t (f .phase) (at-g d t set .phase)) ys)
+      (b-leaving (table .copyout) t s (e .phase) (begins t (f .phase) (at-g d t set .phase) ++ ys) refl
+      (g-leaving (table .copyout) t f (held-at d t set) (f .phase) ys refl
+      (ap (λ (y : Table). y .copyout) (ap (λ (y : Frame). y .table) (b-frame s t) ∙ table-e d t set ∙ x)) (plain (at-g d t set) n)
+      (apart-at (table .present) (fair .present) (at-g d t set) (at-g d t set .phase) (n .parted)) h))
+
+  leaving-front : (d : Dispatcher) (t : ℕ) (ys : List Event) → last (d .clock) ≤ t → Leaving (table .copyout) t (engine-of t (at-b d t .state .phase)) ys
+      → Leaving (table .copyout) (last (d .clock)) (engine-of t (d .phase)) (front-of d t ++ ys)
+  unfolding front-of at-b at-a Leaving
+  leaving-front d t ys l h =
+      let a : Stage = at-a d t in
+      let e : List Event = ends t (a .state .phase) (at-b d t .state .phase) in (
+        l,
+        rw (append-assoc (finishes-in t (d .phase)) (completes (a .done) ++ e) ys, append-assoc (completes (a .done)) e ys)
+            (by-finishes (Leaving (table .copyout) t (engine-of t (d .phase))) (λ n es h. h) t (d .phase) (completes (a .done) ++ (e ++ ys))
+            (a-leaving (table .copyout) t (at-clock d t) (d .phase) (e ++ ys) refl (b-leaving (table .copyout) t a (a .state .phase) ys refl h))),
+      )
+
+  leaving-instant : (d : Dispatcher) (t set : ℕ) (ys : List Event) → last (d .clock) ≤ t → Good table marks fair d → Good table marks fair (at-g d t set)
+      → Leaving (table .copyout) t (engine-of 0 (at-g d t set .phase)) ys → Leaving (table .copyout) (last (d .clock)) (engine-of 0 (d .phase)) (happens d t set ++ ys)
+  leaving-instant d t set ys l g n h =
+      rw (happens-parts d t set ys, engine-settled d 0 t (d .phase) (g .settled .rests))
+      (leaving-front d t (takes 32 (new-at d t set) (d .marked) t ++ (tail-of d t set ++ ys)) l
+      (by-takes (Leaving (table .copyout) t (engine-of t (at-b d t .state .phase))) 32 (new-at d t set) (d .marked) t (λ n l m es h. unfold Leaving in h) (tail-of d t set ++ ys)
+      (subst (λ (s : Engine). Leaving (table .copyout) t s (tail-of d t set ++ ys)) (engine-e d t set)
+      (leaving-tail d t set ys (g .table-is) n
+      (subst (λ (s : Engine). Leaving (table .copyout) t s ys) (engine-settled (at-g d t set) 0 t (at-g d t set .phase) (n .settled .rests)) h)))))
+
+  pub leaving : (d : Dispatcher) (cs : List Call) → Good table marks fair d → Leaving (table .copyout) (last (d .clock)) (engine-of 0 (d .phase)) (history d cs)
+  leaving d cs =
+      walk (λ d h. Good table marks fair d → Leaving (table .copyout) (last (d .clock)) (engine-of 0 (d .phase)) h)
+      (λ d g. unfold Leaving in engine-ends (last (d .clock)) (mass d) (debt d) d (d .phase) (g .settled .rests) (g .times))
+      (λ d t set cs e k g.
+      let n : Good table marks fair (at-g d t set) = good-next table marks fair d t set g (served-at d t set e) in
+      leaving-instant d t set (history (at-g d t set) cs) (served-at d t set e .onward) g n
+      (subst (λ (c : Clock). Leaving (table .copyout) (last c) (engine-of 0 (at-g d t set .phase)) (history (at-g d t set) cs)) (clock-g d t set) (k n)))
+      (λ d n m cs e k g. k (good-mark table marks fair d n m e g))
+      cs d
+
+  -- every list of calls from the state that opening returned
+  pub copied-out : (cs : List Call) → Leaving (table .copyout) 0 Free (history (opened table marks) cs)
+  copied-out cs = unfold opened in leaving (opened table marks) cs (good-opened table marks fair)

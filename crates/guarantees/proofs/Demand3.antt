@@ -1,0 +1,137 @@
+-- Demand 3: the claim holds of every list of calls.
+use Rattle.guarantees.specs.Types.{_≡_, refl, sym, ap, _∙_, subst, Bool, true, false, List, _++_, inl, inr, ℕ, zero, suc, _≤_, _<_, Table, MaybeTask, NoTask, Task, Dispatcher}
+use native.Mathlib.Omega.{arith}
+use native.Mathlib.Nat.{le-of-suc-le-suc}
+use borrow.Author.Tests.{ltb-true, ltb-false}
+use lib.Dec.{ltb}
+use lib.ListN.{getD, length}
+use Rattle.sets.specs.Sets.{member}
+use Rattle.sets.specs.Laws.{by-test, none, member-task, size, size-none}
+use Rattle.dispatcher.specs.Instant.{due}
+use Rattle.dispatcher.specs.Calls.{opened, opening}
+use Rattle.guarantees.specs.History.{Event, Call, history, after-calls}
+use Rattle.guarantees.specs.Reading.{Situation, NoneOpen, Open, situation, intervals, total, is-take}
+use Rattle.guarantees.specs.Claim.{met, Lower, ThisOrHigher, InOrder, Holds, AllCompleted, Claim, Demand3}
+use Rattle.guarantees.proofs.Proper.{Fair, Opens, opens}
+use Rattle.guarantees.proofs.Walk.{after-append, history-append}
+use Rattle.guarantees.proofs.Waiting.{NotLower}
+use Rattle.guarantees.proofs.Order.{Waits, Kept, kept, released-in}
+use Rattle.guarantees.proofs.Totals.{total-append}
+use Rattle.guarantees.proofs.Count.{at-most-three}
+use Rattle.guarantees.proofs.Invariant.{Good, mass, good-opened, good-after}
+use Rattle.guarantees.proofs.Engine.{Free, executed-in, copied-out-so, completed-so}
+use Rattle.guarantees.proofs.CopyOuts.{copied-out}
+use Rattle.guarantees.proofs.Known.{KnownTask, AllKnown, release-known, interval-known, all-known}
+use Rattle.guarantees.proofs.Pending.{pending-in, pending-same, completes-after}
+use Rattle.guarantees.proofs.Completion.{rests, drains, Drained, drained, balanced}
+
+module _ (table : Table) (marks : ℕ) (fair : Fair table marks) where
+  -- ---- the order
+
+  -- all priorities are different, so that a job that is not lower is this one or higher
+  this-or-higher : (n : ℕ) (r : MaybeTask) → member n (table .present) ≡ true → KnownTask (table .present) r → NotLower (table .priority) n r
+      → ThisOrHigher (table .priority) n r
+  this-or-higher n NoTask h k l = l
+  this-or-higher n (Task j) h k l =
+      by-test (ltb (getD (table .priority) j 0) (getD (table .priority) n 0))
+      (λ e. inr (ltb-true (getD (table .priority) j 0) (getD (table .priority) n 0) e))
+      (λ e. inl (fair .different j n k h (omega (arith, ltb-false (getD (table .priority) j 0) (getD (table .priority) n 0) e))))
+
+  not-lower : (n : ℕ) (r : MaybeTask) → NotLower (table .priority) n r → Lower (table .priority) n r → ⊥
+  not-lower n NoTask h l = l
+  not-lower n (Task k) h l = omega arith
+
+  -- the intervals from the third on have all begun after the release
+  third-known : (n : ℕ) (at : Situation) (es : List Event) → AllKnown (table .present) es → (i : ℕ) → 2 ≤ i → i < length (met n at (intervals es))
+      → KnownTask (table .present) (getD (met n at (intervals es)) i NoTask)
+  third-known n NoneOpen es h i a l = interval-known (table .present) n es h i l
+  third-known n (Open r f) es h zero a l = absurd (omega arith)
+  third-known n (Open r f) es h (suc i) a l = interval-known (table .present) n es h i (le-of-suc-le-suc l)
+
+  in-order : (n : ℕ) (m : Bool) (at : Situation) (es : List Event) → member n (table .present) ≡ true → AllKnown (table .present) es
+      → Waits (table .priority) n m at (intervals es) → InOrder (table .priority) n m at (met n at (intervals es))
+  in-order n m at es h k w = record {
+    lower-in-two = λ i a l. not-lower n (getD (met n at (intervals es)) i NoTask) (w .third i a l);
+    third-on = λ i a l. this-or-higher n (getD (met n at (intervals es)) i NoTask) h (third-known n at es k i a l) (w .third i a l);
+    second-marked = w .second;
+  }
+
+  -- ---- the claim of each history
+
+  holds : (calls : List Call) → Holds table (history (opened table marks) calls)
+  holds calls = record {
+    each-job = λ before after n t m e.
+        let k : (member n (table .present) ≡ true) × AllKnown (table .present) after = release-known (table .present) before after n t m (subst (AllKnown (table .present)) e known) in
+        in-order n m (situation NoneOpen before) after (k .0) (k .1) (released-in (table .priority) h before after n t m in-turn e);
+    each-executed = λ before after n t l e. executed-in (table .copyout) n h before after t 0 l Free (copied-out table marks fair calls) e;
+    each-copyout = λ before after n b r e. copied-out-so (table .copyout) h (copied-out table marks fair calls) before after n b r e;
+    each-completion = λ before after n c e. completed-so (table .copyout) h (copied-out table marks fair calls) before after n c e;
+    at-most-three = at-most-three table marks calls;
+  }
+    where
+      h : List Event
+      h = history (opened table marks) calls
+
+      known : AllKnown (table .present) (history (opened table marks) calls)
+      known = all-known table marks fair (opened table marks) calls (good-opened table marks fair)
+
+      in-turn : Kept (table .priority) NoneOpen (history (opened table marks) calls)
+      in-turn = unfold opened in kept (table .priority) (opened table marks) calls refl
+
+  -- ---- the empty sets after a list
+
+  -- no job is pending at the opening
+  none-at-first : (n : ℕ) → member n (opened table marks .jobs .pending) ≡ false
+  unfolding opened
+  none-at-first n = none n
+
+  size-at-first : size (opened table marks .jobs .pending) ≡ 0
+  unfolding opened
+  size-at-first = size-none
+
+  all-completed : (calls : List Call) → after-calls (opened table marks) calls .jobs .pending ≡ 0 → AllCompleted (history (opened table marks) calls)
+  all-completed calls p = record {
+    each = λ before after n t m e.
+        let k : (member n (table .present) ≡ true) × AllKnown (table .present) after =
+        release-known (table .present) before after n t m (subst (AllKnown (table .present)) e (all-known table marks fair d calls (good-opened table marks fair))) in
+        completes-after before after n t m false
+        (subst (λ (x : List Event). pending-in n false x ≡ false) e
+        (subst (λ (b : Bool). pending-in n b (history d calls) ≡ false) (none-at-first n)
+        (pending-same n (member-task n (table .present) (fair .present) (k .0)) d calls ∙ ap (member n) p ∙ none n)));
+    as-many = omega (arith, balanced table marks fair d calls (good-opened table marks fair), size-at-first, ap size p, size-none);
+  }
+    where
+      d : Dispatcher
+      d = opened table marks
+
+  claim : (calls : List Call) → Claim (opened table marks) calls
+  claim calls = record {
+    of-the-list = unfold opened in holds calls;
+    come-to-an-end = drains table marks fair (mass (after-calls d calls)) (after-calls d calls) good (omega arith);
+    with-empty-sets = λ rest e. unfold opened in holds (calls ++ rest);
+    nothing-pending = λ rest e. pending rest (drained table marks fair rest (after-calls d calls) good e);
+    complete-every-job = λ rest e. all-completed (calls ++ rest) (pending rest (drained table marks fair rest (after-calls d calls) good e));
+    none-more-taken = λ rest e.
+        ap (total is-take) (history-append calls rest d)
+        ∙ omega (arith, total-append is-take (history d calls) (history (after-calls d calls) rest), drained table marks fair rest (after-calls d calls) good e .takes);
+  }
+    where
+      d : Dispatcher
+      d = opened table marks
+
+      good : Good table marks fair (after-calls (opened table marks) calls)
+      good = good-after table marks fair calls (opened table marks) (good-opened table marks fair)
+
+      pending : (rest : List Call) → Drained table marks fair (after-calls (opened table marks) calls) rest
+          → after-calls (opened table marks) (calls ++ rest) .jobs .pending ≡ 0
+      pending rest x =
+          rests table marks fair (after-calls (opened table marks) (calls ++ rest))
+          (good-after table marks fair (calls ++ rest) (opened table marks) (good-opened table marks fair))
+          (ap (λ (g : Dispatcher). due (g .phase)) (after-append calls rest (opened table marks)) ∙ x .never) .pending
+
+pub demand-3 : Demand3
+unfolding Demand3
+demand-3 bytes e calls =
+    let o : Opens (opening bytes .state) = opens bytes e in
+    let d : Dispatcher = opening bytes .state in
+    subst (λ (x : Dispatcher). Claim x calls) (sym (o .fresh)) (claim (d .table) (d .marked) (o .proper .fair) calls)

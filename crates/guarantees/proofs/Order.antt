@@ -1,0 +1,376 @@
+-- The order, along a history: the claim on each release, from what the states say of the intervals to come (Waiting).
+use Rattle.guarantees.specs.Types.{_≡_, refl, sym, ap, _∙_, subst, Bool, true, false, cond, false≢true, List, [], _∷_, _++_, append-assoc, _↔_, ℕ, zero, suc, _≤_, _<_, Table, MaybeTask, NoTask, Task, CopyIn, Unchosen, NoneChosen, Copying, Loaded, Cancelled, Interval, Next, Outgoing, Phase, Between, Within, Dispatcher, Stage}
+use native.Mathlib.Omega.{arith}
+use native.Mathlib.Nat.{not-suc-le-zero, le-of-suc-le-suc}
+use borrow.Author.Tests.{ltb-false}
+use lib.Dec.{eqb}
+use lib.ListN.{getD, length}
+use Rattle.sets.specs.Sets.{member, intersection, insert, union}
+use Rattle.sets.specs.Laws.{by-test, clash, union-right, intersection-in, insert-other}
+use Rattle.guarantees.proofs.Highest.{Best}
+use Rattle.guarantees.proofs.Walk.{walk}
+use Rattle.guarantees.specs.History.{history, Event, Comes, Takes, Begins, Completes, Finishes, Ends, Call, happens, finishes, finishes-in, completes, ends, takes, begins}
+use Rattle.dispatcher.specs.Instant.{step-a, step-b, step-c, step-d, step-e, step-g, close, close-stage, over, with-candidates, cancel, cancel-by, choose, begin, begin-processor, wanted, taken, ended, processor-task, copyin-at, at-a, at-b, at-e, at-f, at-g, new-at}
+use Rattle.dispatcher.specs.State.{at-clock}
+use Rattle.dispatcher.specs.Order.{highest-of, outranks}
+use Rattle.guarantees.specs.Reading.{Situation, NoneOpen, Open, situation, after-event, intervals}
+use Rattle.guarantees.specs.Claim.{executes, upto, met, Lower, LowerFinished}
+use Rattle.guarantees.proofs.Frames.{table-b, marked-b, table-g}
+use Rattle.guarantees.proofs.Cases.{held-at, d-cases, e-cases}
+use Rattle.guarantees.proofs.Waiting.{NotLower, Waiting, Fate, Rule, Rival, Bound, Any, Old, Ahead, Then, rule-old, rule-any, e-waiting, from-c, to-come, ahead, soon}
+use Rattle.guarantees.proofs.Steps.{processor-task-same, NewIn, NewAt, c-new, best-of}
+use Rattle.guarantees.proofs.Events.{by-completes, by-takes, tail-of, tail-intervals, front-of, happens-parts}
+
+-- the situation in a phase
+abbrev pub finished-of : CopyIn → MaybeTask
+finished-of Unchosen = NoTask
+finished-of NoneChosen = NoTask
+finished-of (Copying n until) = NoTask
+finished-of (Loaded n) = Task n
+finished-of (Cancelled n) = NoTask
+
+abbrev pub situation-of : Phase → Situation
+situation-of (Between next outgoing) = NoneOpen
+situation-of (Within i) = Open (processor-task (i .processor)) (finished-of (i .copyin))
+
+-- an interval is open in which the engine has finished no copy-in
+abbrev Bare : Phase → Type 0
+Bare (Between next outgoing) = ⊥
+Bare (Within i) = finished-of (i .copyin) ≡ NoTask
+
+candidates-bare : (d : Dispatcher) (new : ℕ) (p : Phase) → Bare p → Bare (with-candidates d new p)
+unfolding with-candidates
+candidates-bare d new (Between next outgoing) h = h
+candidates-bare d new (Within i) h = h
+
+-- ---- the situation, step by step
+
+c-situation : (d : Dispatcher) (new : ℕ) (p : Phase) → situation-of (with-candidates d new p) ≡ situation-of p
+unfolding with-candidates
+c-situation d new (Between next outgoing) = refl
+c-situation d new (Within i) = refl
+
+d-situation : (d : Dispatcher) (new : ℕ) → situation-of (step-d d new (d .phase) .phase) ≡ situation-of (d .phase)
+unfolding cancel
+d-situation d new = d-cases (λ x. situation-of (x .phase) ≡ situation-of (d .phase)) d new refl (λ i n u e s b. rw (e, s))
+
+choose-situation : (d : Dispatcher) (t : ℕ) (i : Interval) (q : MaybeTask) → situation-of (choose d t i q .phase) ≡ Open (processor-task (i .processor)) NoTask
+unfolding choose
+choose-situation d t i NoTask = refl
+choose-situation d t i (Task q) = refl
+
+e-situation : (d : Dispatcher) (t : ℕ) → situation-of (step-e d t (d .phase) .phase) ≡ situation-of (d .phase)
+e-situation d t = e-cases (λ x. situation-of (x .phase) ≡ situation-of (d .phase)) d t refl (λ i e s u. choose-situation d t i (highest-of d (d .jobs .ready)) ∙ rw (e, s))
+
+situation-e : (d : Dispatcher) (t set : ℕ) → situation-of (at-e d t set .phase) ≡ situation-of (at-b d t .state .phase)
+unfolding at-e step-c
+situation-e d t set =
+    let b : Dispatcher = at-b d t .state in
+    let new : ℕ = new-at d t set in
+    let c : Dispatcher = step-c b t new in
+    let x : Dispatcher = step-d c new (c .phase) in
+    e-situation x t ∙ d-situation c new ∙ c-situation b new (b .phase)
+
+-- an interval that has just begun
+begin-situation : (f : Dispatcher) (t new : ℕ) (next : Next) (outgoing : Outgoing) →
+    let b : Dispatcher = begin f t new next outgoing in
+    situation-of (step-e b t (b .phase) .phase) ≡ Open (processor-task (begin-processor (f .table) t next)) NoTask
+unfolding begin
+begin-situation f t new next outgoing = let b : Dispatcher = begin f t new next outgoing in e-situation b t
+
+module _ (pr : List ℕ) where
+  -- the claim on a release of task n, marked or not, where rs are the intervals that begin after it
+  pub record Waits (n : ℕ) (marked : Bool) (at : Situation) (rs : List MaybeTask) : Type 0 where
+    pub third : (i : ℕ) → 2 ≤ i → i < length (met n at rs) → NotLower pr n (getD (met n at rs) i NoTask)
+    pub second : marked ≡ true → 1 < length (met n at rs) → Lower pr n (getD (met n at rs) 1 NoTask) ↔ LowerFinished pr n at
+
+  -- and on each release, along a history
+  unfoldable pub Kept : Situation → List Event → Type 0
+  Kept s [] = Unit {0}
+  Kept s (Comes t ∷ es) = Kept s es
+  Kept s (Takes n t m ∷ es) = Waits n m s (intervals es) × Kept s es
+  Kept s (Finishes n ∷ es) = Kept (after-event s (Finishes n)) es
+  Kept s (Completes n t ∷ es) = Kept s es
+  Kept s (Ends t ∷ es) = Kept NoneOpen es
+  Kept s (Begins t r l ∷ es) = Kept (Open r NoTask) es
+
+  split : (s : Situation) (before after : List Event) (n t : ℕ) (m : Bool) → Kept s (before ++ (Takes n t m ∷ after))
+      → Waits n m (situation s before) (intervals after)
+  unfolding Kept situation
+  split s [] after n t m k = k .0
+  split s (Comes t′ ∷ es) after n t m k = split s es after n t m k
+  split s (Takes n′ t′ m′ ∷ es) after n t m k = split s es after n t m (k .1)
+  split s (Finishes n′ ∷ es) after n t m k = split (after-event s (Finishes n′)) es after n t m k
+  split s (Completes n′ t′ ∷ es) after n t m k = split s es after n t m k
+  split s (Ends t′ ∷ es) after n t m k = split NoneOpen es after n t m k
+  split s (Begins t′ r l ∷ es) after n t m k = split (Open r NoTask) es after n t m k
+
+  -- so the claim holds of each release
+  pub released-in : (h before after : List Event) (n t : ℕ) (m : Bool) → Kept NoneOpen h → h ≡ before ++ (Takes n t m ∷ after)
+      → Waits n m (situation NoneOpen before) (intervals after)
+  released-in h before after n t m k e = split NoneOpen before after n t m (subst (λ (x : List Event). Kept NoneOpen x) e k)
+
+  -- ---- from the walk along the intervals to the claim
+
+  module _ (n : ℕ) where
+    -- past the first interval of a list
+    past : (X : MaybeTask → Type 0) (r : MaybeTask) (rs : List MaybeTask) (i : ℕ) → suc i < length (upto n (r ∷ rs))
+        → (executes n r ≡ false → i < length (upto n rs) → X (getD (upto n rs) i NoTask)) → X (getD (upto n (r ∷ rs)) (suc i) NoTask)
+    unfolding upto
+    past X r rs i l h = go (executes n r) refl l
+      where
+        go : (b : Bool) → executes n r ≡ b → suc i < length (r ∷ cond b [] (upto n rs)) → X (getD (cond b [] (upto n rs)) i NoTask)
+        go true e l = absurd (not-suc-le-zero (le-of-suc-le-suc l))
+        go false e l = h e (le-of-suc-le-suc l)
+
+    ahead-at : (rs : List MaybeTask) → Ahead pr n rs → (i : ℕ) → i < length (upto n rs) → NotLower pr n (getD (upto n rs) i NoTask)
+    unfolding Ahead upto
+    ahead-at [] a i l = absurd (not-suc-le-zero l)
+    ahead-at (r ∷ rs) a zero l = a .0
+    ahead-at (r ∷ rs) a (suc i) l = past (NotLower pr n) r rs i l (λ e m. ahead-at rs (a .1 e) i m)
+
+    not-lower : (r : MaybeTask) → NotLower pr n r → Lower pr n r ↔ ⊥
+    not-lower NoTask h = absurd h
+    not-lower (Task k) h = (λ l. omega arith, λ x. absurd x)
+
+    then-map : (P Q : MaybeTask → Type 0) → ((r : MaybeTask) → P r → Q r) → (rs : List MaybeTask) → Then pr n P rs → Then pr n Q rs
+    unfolding Then
+    then-map P Q f [] a = tt
+    then-map P Q f (r ∷ rs) a = (f r (a .0), a .1)
+
+    any : (Q : MaybeTask → Type 0) → ((r : MaybeTask) → Q r) → (ready candidates : ℕ) (c : CopyIn) → Any pr n Q ready candidates c
+    any Q q ready candidates Unchosen = q
+    any Q q ready candidates NoneChosen = q
+    any Q q ready candidates (Copying c until) = q
+    any Q q ready candidates (Loaded c) = q (Task c)
+    any Q q ready candidates (Cancelled c) = q
+
+    then-at : (Q : MaybeTask → Type 0) (rs : List MaybeTask) → Then pr n Q rs → (i : ℕ) → suc i < length (upto n rs) → NotLower pr n (getD (upto n rs) (suc i) NoTask)
+    unfolding Then upto
+    then-at Q [] a i l = absurd (not-suc-le-zero l)
+    then-at Q (r ∷ rs) a i l = past (NotLower pr n) r rs i l (λ e m. ahead-at rs (a .1 e) i m)
+
+    then-first : (Q : MaybeTask → Type 0) (rs : List MaybeTask) → Then pr n Q rs → 0 < length (upto n rs) → Q (getD (upto n rs) 0 NoTask)
+    unfolding Then upto
+    then-first Q [] a l = absurd (not-suc-le-zero l)
+    then-first Q (r ∷ rs) a l = a .0
+
+    abbrev Second : Bool → MaybeTask → MaybeTask → Type 0
+    Second m f r = m ≡ true → Lower pr n r ↔ Lower pr n f
+
+    waits-open : (m : Bool) (r f : MaybeTask) (rs : List MaybeTask) → Then pr n (Second m f) rs → Waits n m (Open r f) rs
+    waits-open m r f rs a = record { third = third; second = λ e l. then-first (Second m f) rs a (le-of-suc-le-suc l) e }
+      where
+        third : (i : ℕ) → 2 ≤ i → i < length (r ∷ upto n rs) → NotLower pr n (getD (r ∷ upto n rs) i NoTask)
+        third zero h l = absurd (omega arith)
+        third (suc zero) h l = absurd (omega arith)
+        third (suc (suc i)) h l = then-at (Second m f) rs a i (le-of-suc-le-suc l)
+
+    waits-none-open : (m : Bool) (rs : List MaybeTask) → Then pr n (λ r. Unit {0}) rs → Waits n m NoneOpen rs
+    waits-none-open m rs a = record { third = third; second = λ e l. not-lower (getD (upto n rs) 1 NoTask) (then-at (λ r. Unit {0}) rs a 0 l) }
+      where
+        third : (i : ℕ) → 2 ≤ i → i < length (upto n rs) → NotLower pr n (getD (upto n rs) i NoTask)
+        third zero h l = absurd (omega arith)
+        third (suc i) h l = then-at (λ r. Unit {0}) rs a i l
+
+    -- ---- the releases of an instant
+
+    module _ (small : n < 32) where
+      -- a marked release, where the engine had finished no copy-in
+      not-outranked : (d : Dispatcher) (new c : ℕ) (q : MaybeTask) → member n new ≡ true → member n (d .marked) ≡ true
+          → Best (d .table .priority) (intersection new (d .marked)) q → outranks d c q ≡ false → getD (d .table .priority) c 0 ≤ getD (d .table .priority) n 0
+      not-outranked d new c NoTask h m b e = clash (member n (intersection new (d .marked))) (intersection-in new (d .marked) n small h m) (b n small)
+      not-outranked d new c (Task q) h m b e =
+          omega (arith, b .2 n small (intersection-in new (d .marked) n small h m), ltb-false (getD (d .table .priority) q 0) (getD (d .table .priority) c 0) e)
+
+      d-marked : (d : Dispatcher) (new : ℕ) (i : Interval) (c : CopyIn) → i .copyin ≡ c → d .phase ≡ Within i → d .table .priority ≡ pr → NewIn d new i
+          → member n new ≡ true → member n (d .marked) ≡ true → finished-of c ≡ NoTask → Old pr n (cancel-by d new i c)
+      unfolding cancel-by cancel
+      d-marked d new i c s e t f h m x = go c s x
+        where
+          r : member n (d .jobs .ready) ≡ true
+          r = f .ready n small h
+
+          rival : (ready : ℕ) → member n ready ≡ true → Rival pr n ready (i .candidates)
+          rival ready y = record { who = n; task = small; is-ready = y; is-candidate = f .candidates n small h m; high = omega arith }
+
+          stays : Bound pr n (d .jobs .ready) (i .candidates) (i .copyin) → Old pr n d
+          stays b = record { table = t; ready = λ y. r; fate = subst (Fate pr n (Bound pr n) (NotLower pr n) (d .jobs .ready)) (sym e) b }
+
+          go : (c : CopyIn) → i .copyin ≡ c → finished-of c ≡ NoTask → Old pr n (cancel-by d new i c)
+          go Unchosen s x = stays (rw s tt)
+          go NoneChosen s x = stays (rw s (rival (d .jobs .ready) r))
+          go (Copying c until) s x =
+              by-test (outranks d c (highest-of d (intersection new (d .marked))))
+              (λ b. rw b (record { table = t; ready = λ y. insert-other c (d .jobs .ready) n small r; fate = rival (insert c (d .jobs .ready)) (insert-other c (d .jobs .ready) n small r) }))
+              (λ b. rw b (stays (rw s (rw t at (not-outranked d new c (highest-of d (intersection new (d .marked))) h m (best-of d (intersection new (d .marked))) b)))))
+          go (Loaded c) s x = absurd (let z : _≡_ {A = ℕ} 0 1 = cc in omega arith)
+          go (Cancelled c) s x = stays (rw s (rival (d .jobs .ready) r))
+
+      d-marked-at : (d : Dispatcher) (new : ℕ) (p : Phase) → d .phase ≡ p → d .table .priority ≡ pr → NewAt d new p
+          → member n new ≡ true → member n (d .marked) ≡ true → Bare p → Old pr n (step-d d new p)
+      unfolding step-d
+      d-marked-at d new (Between next outgoing) e t f h m x = absurd x
+      d-marked-at d new (Within i) e t f h m x = d-marked d new i (i .copyin) refl e t f h m x
+
+      module _ (d : Dispatcher) (t set : ℕ) (cs : List Call) (tab : d .table .priority ≡ pr) (taken : member n (new-at d t set) ≡ true) where
+        c : Dispatcher
+        c = step-c (at-b d t .state) t (new-at d t set)
+
+        tab-c : c .table .priority ≡ pr
+        unfolding c step-c
+        tab-c = ap (λ (x : Table). x .priority) (table-b d t) ∙ tab
+
+        ready-c : member n (c .jobs .ready) ≡ true
+        unfolding c step-c
+        ready-c = union-right (at-b d t .state .jobs .ready) (new-at d t set) n small taken
+
+        -- what is to come after step e
+        soon-later : (F : ℕ → ℕ → CopyIn → Type 0) (Q : MaybeTask → Type 0) → Rule pr n F Q → Waiting pr n F Q (at-e d t set)
+            → Then pr n Q (intervals (tail-of d t set ++ history (at-g d t set) cs))
+        soon-later F Q rule h =
+            rw (tail-intervals d t set (history (at-g d t set) cs))
+            (to-come pr n F Q rule small d t set (history (at-g d t set) cs) h (soon pr n small F Q rule (at-g d t set) cs) (ahead pr n small (at-g d t set) cs))
+
+        soon-c : (Q : MaybeTask → Type 0) (p : Phase) → at-b d t .state .phase ≡ p → Fate pr n (Any pr n Q) Q (c .jobs .ready) (with-candidates (at-b d t .state) (new-at d t set) p)
+            → Then pr n Q (intervals (tail-of d t set ++ history (at-g d t set) cs))
+        unfolding c step-c
+        soon-c Q p e h =
+            soon-later (Any pr n Q) Q (rule-any pr n Q)
+            (from-c pr n (Any pr n Q) Q (rule-any pr n Q) small d t set
+            (record { table = tab-c; ready = λ y. ready-c; fate = subst (λ (x : Phase). Fate pr n (Any pr n Q) Q (c .jobs .ready) (with-candidates (at-b d t .state) (new-at d t set) x)) (sym e) h }))
+
+        old-c : member n (d .marked) ≡ true → Bare (at-b d t .state .phase) → Old pr n (at-e d t set)
+        unfolding at-e c step-c
+        old-c m x =
+            e-waiting pr n (Bound pr n) (NotLower pr n) (rule-old pr n small) small t (step-d c (new-at d t set) (c .phase))
+            (d-marked-at c (new-at d t set) (c .phase) refl tab-c (c-new (at-b d t .state) t (new-at d t set))
+            taken (ap (member n) (marked-b d t) ∙ m) (candidates-bare (at-b d t .state) (new-at d t set) (at-b d t .state .phase) x))
+
+        bare : (i : Interval) → at-b d t .state .phase ≡ Within i → (k : CopyIn) → i .copyin ≡ k → member n (d .marked) ≡ true → finished-of k ≡ NoTask
+            → Then pr n (Second true (finished-of k)) (intervals (tail-of d t set ++ history (at-g d t set) cs))
+        bare i e k s m x =
+            then-map (NotLower pr n) (Second true (finished-of k)) (λ r h y. rw x (not-lower r h)) (intervals (tail-of d t set ++ history (at-g d t set) cs))
+            (soon-later (Bound pr n) (NotLower pr n) (rule-old pr n small) (old-c m (rw e (rw s x))))
+
+        amid : (i : Interval) → at-b d t .state .phase ≡ Within i → (k : CopyIn) → i .copyin ≡ k → (m : Bool) → member n (d .marked) ≡ m
+            → Then pr n (Second m (finished-of k)) (intervals (tail-of d t set ++ history (at-g d t set) cs))
+        unfolding with-candidates
+        amid i e k s false m = soon-c (Second false (finished-of k)) (Within i) e (any (Second false (finished-of k)) (λ r x. absurd (false≢true x)) (c .jobs .ready) (union (i .candidates) (intersection (new-at d t set) (at-b d t .state .marked))) (i .copyin))
+        amid i e (Loaded l) s true m = soon-c (Second true (Task l)) (Within i) e (rw s (λ x. (λ y. y, λ y. y)))
+        amid i e Unchosen s true m = bare i e Unchosen s m refl
+        amid i e NoneChosen s true m = bare i e NoneChosen s m refl
+        amid i e (Copying l until) s true m = bare i e (Copying l until) s m refl
+        amid i e (Cancelled l) s true m = bare i e (Cancelled l) s m refl
+
+        pub released : (p : Phase) → at-b d t .state .phase ≡ p → Waits n (member n (d .marked)) (situation-of p) (intervals (tail-of d t set ++ history (at-g d t set) cs))
+        unfolding with-candidates
+        released (Between next outgoing) e =
+            waits-none-open (member n (d .marked)) (intervals (tail-of d t set ++ history (at-g d t set) cs)) (soon-c (λ r. Unit {0}) (Between next outgoing) e tt)
+        released (Within i) e =
+            waits-open (member n (d .marked)) (processor-task (i .processor)) (finished-of (i .copyin)) (intervals (tail-of d t set ++ history (at-g d t set) cs))
+            (amid i e (i .copyin) refl (member n (d .marked)) refl)
+
+  -- ---- along an instant
+
+  kept-finishes : (d : Dispatcher) (t : ℕ) (p : Phase) (ys : List Event) → d .phase ≡ p → Kept (situation-of (step-a d t p .state .phase)) ys → Kept (situation-of p) (finishes-in t p ++ ys)
+  unfolding step-a ended finishes-in finishes Kept
+  kept-finishes d t (Between next outgoing) ys e k = subst (λ (x : Phase). Kept (situation-of x) ys) e k
+  kept-finishes d t (Within i) ys e k =
+      go (i .copyin) (subst (λ (r : MaybeTask). Kept (Open r (finished-of (copyin-at t (i .copyin)))) ys) (processor-task-same (d .table) t (i .processor)) k)
+    where
+      go : (c : CopyIn) → Kept (Open (processor-task (i .processor)) (finished-of (copyin-at t c))) ys → Kept (Open (processor-task (i .processor)) (finished-of c)) (finishes t c ++ ys)
+      go Unchosen k = k
+      go NoneChosen k = k
+      go (Copying n until) k = go-copying (eqb until t) k
+        where
+          go-copying : (b : Bool) → Kept (Open (processor-task (i .processor)) (finished-of (cond b (Loaded n) (Copying n until)))) ys
+              → Kept (Open (processor-task (i .processor)) NoTask) (cond b (Finishes n ∷ []) [] ++ ys)
+          go-copying true k = k
+          go-copying false k = k
+      go (Loaded n) k = k
+      go (Cancelled n) k = k
+
+  kept-stays : (t : ℕ) (i : Interval) (q : Phase) (ys : List Event) → q ≡ Within i → Kept (situation-of q) ys → Kept (situation-of (Within i)) (ends t (Within i) q ++ ys)
+  unfolding ends
+  kept-stays t i q ys e k = rw e (rw e at k)
+
+  kept-ends : (s : Stage) (t : ℕ) (p : Phase) (ys : List Event) → s .state .phase ≡ p → Kept (situation-of (step-b s t p .state .phase)) ys
+      → Kept (situation-of p) (ends t p (step-b s t p .state .phase) ++ ys)
+  unfolding step-b close-stage close ends Kept
+  kept-ends s t (Between next outgoing) ys e k = subst (λ (x : Phase). Kept (situation-of x) ys) e k
+  kept-ends s t (Within i) ys e k = go (over i) k
+    where
+      go : (b : Bool) → Kept (situation-of (close-stage s t i b .state .phase)) ys → Kept (situation-of (Within i)) (ends t (Within i) (close-stage s t i b .state .phase) ++ ys)
+      go true k = k
+      go false k = kept-stays t i (s .state .phase) ys e k
+
+  kept-opens : (t : ℕ) (next : Next) (outgoing : Outgoing) (q : Phase) (r : MaybeTask) (ys : List Event) → situation-of q ≡ Open r NoTask → Kept (situation-of q) ys
+      → Kept NoneOpen (begins t (Between next outgoing) q ++ ys)
+  unfolding begins Kept
+  kept-opens t next outgoing (Between x y) r ys e k = k
+  kept-opens t next outgoing (Within j) r ys e k =
+      let z : finished-of (j .copyin) ≡ NoTask = cc in
+      subst (λ (f : MaybeTask). Kept (Open (processor-task (j .processor)) f) ys) z k
+
+  kept-shut : (t : ℕ) (next : Next) (outgoing : Outgoing) (q : Phase) (ys : List Event) → q ≡ Between next outgoing → Kept (situation-of q) ys
+      → Kept NoneOpen (begins t (Between next outgoing) q ++ ys)
+  unfolding begins Kept
+  kept-shut t next outgoing q ys e k = rw e (rw e at k)
+
+  kept-begins : (f : Dispatcher) (t new : ℕ) (p : Phase) (ys : List Event) → f .phase ≡ p → Kept (situation-of (step-g f t new p .phase)) ys
+      → Kept (situation-of p) (begins t p (step-g f t new p .phase) ++ ys)
+  unfolding step-g begins
+  kept-begins f t new (Within i) ys e k = subst (λ (x : Phase). Kept (situation-of x) ys) e k
+  kept-begins f t new (Between next outgoing) ys e k = go (wanted next outgoing (f .jobs .ready)) k
+    where
+      b : Dispatcher
+      b = begin f t new next outgoing
+
+      go : (w : Bool) → Kept (situation-of (cond w (step-e b t (b .phase)) f .phase)) ys → Kept NoneOpen (begins t (Between next outgoing) (cond w (step-e b t (b .phase)) f .phase) ++ ys)
+      go true k = kept-opens t next outgoing (step-e b t (b .phase) .phase) (processor-task (begin-processor (f .table) t next)) ys (begin-situation f t new next outgoing) k
+      go false k = kept-shut t next outgoing (f .phase) ys e k
+
+  kept-takes : (new marked t : ℕ) (s : Situation) (ys : List Event) → ((n : ℕ) → n < 32 → member n new ≡ true → Waits n (member n marked) s (intervals ys))
+      → Kept s ys → Kept s (takes 32 new marked t ++ ys)
+  unfolding Kept intervals
+  kept-takes new marked t s ys w h =
+      by-takes (λ zs. Kept s zs × (intervals zs ≡ intervals ys)) 32 new marked t
+      (λ n l m es k. ((subst (Waits n (member n marked) s) (sym (k .1)) (w n l m), k .0), k .1)) ys (h, refl) .0
+
+  kept-front : (d : Dispatcher) (t : ℕ) (ys : List Event) → Kept (situation-of (at-b d t .state .phase)) ys → Kept (situation-of (d .phase)) (front-of d t ++ ys)
+  unfolding front-of at-b at-a Kept
+  kept-front d t ys k =
+      let a : Stage = at-a d t in
+      let e : List Event = ends t (a .state .phase) (at-b d t .state .phase) in
+      rw (append-assoc (finishes-in t (d .phase)) (completes (a .done) ++ e) ys, append-assoc (completes (a .done)) e ys)
+      (kept-finishes (at-clock d t) t (d .phase) (completes (a .done) ++ (e ++ ys)) refl
+      (by-completes (Kept (situation-of (a .state .phase))) (λ n t es k. k) (a .done) (e ++ ys) (kept-ends a t (a .state .phase) ys refl k)))
+
+  kept-tail : (d : Dispatcher) (t set : ℕ) (ys : List Event) → Kept (situation-of (at-g d t set .phase)) ys → Kept (situation-of (at-e d t set .phase)) (tail-of d t set ++ ys)
+  unfolding tail-of at-f at-g
+  kept-tail d t set ys k =
+      let e : Dispatcher = at-e d t set in
+      let f : Dispatcher = at-f d t set .state in
+      rw (append-assoc (ends t (e .phase) (f .phase)) (begins t (f .phase) (at-g d t set .phase)) ys)
+      (kept-ends (record { state = e; done = at-b d t .done; closed = at-b d t .closed }) t (e .phase) (begins t (f .phase) (at-g d t set .phase) ++ ys) refl
+      (kept-begins f t (held-at d t set) (f .phase) ys refl k))
+
+  kept-instant : (d : Dispatcher) (t set : ℕ) (cs : List Call) → d .table .priority ≡ pr
+      → Kept (situation-of (at-g d t set .phase)) (history (at-g d t set) cs) → Kept (situation-of (d .phase)) (happens d t set ++ history (at-g d t set) cs)
+  kept-instant d t set cs p k =
+      let h : List Event = history (at-g d t set) cs in
+      rw (happens-parts d t set h)
+      (kept-front d t (takes 32 (new-at d t set) (d .marked) t ++ (tail-of d t set ++ h))
+      (kept-takes (new-at d t set) (d .marked) t (situation-of (at-b d t .state .phase)) (tail-of d t set ++ h)
+      (λ n l m. released n l d t set cs p m (at-b d t .state .phase) refl)
+      (subst (λ (s : Situation). Kept s (tail-of d t set ++ h)) (situation-e d t set) (kept-tail d t set h k))))
+
+  pub kept : (d : Dispatcher) (cs : List Call) → d .table .priority ≡ pr → Kept (situation-of (d .phase)) (history d cs)
+  unfolding Kept
+  kept d cs =
+      walk (λ d h. d .table .priority ≡ pr → Kept (situation-of (d .phase)) h)
+      (λ d p. tt)
+      (λ d t set cs e k p. kept-instant d t set cs p (k (ap (λ (x : Table). x .priority) (table-g d t set) ∙ p)))
+      (λ d n m cs e k p. k p)
+      cs d

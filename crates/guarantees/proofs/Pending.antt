@@ -1,0 +1,186 @@
+-- The pending jobs, by the history: a job is pending from its release until its completion, and the state's set says the same.
+use Rattle.guarantees.specs.Types.{_≡_, refl, sym, ap, _∙_, subst, Bool, true, false, cond, not, _&&_, _||_, true≢false, List, [], _∷_, _++_, append-assoc, ℕ, zero, suc, _≤_, _<_, MaybeTask, NoTask, Task, Interval, Phase, Between, Within, Dispatcher, Done, NoJob, Job, Stage, Tick}
+use native.Mathlib.Omega.{arith}
+use native.Mathlib.Nat.{not-suc-le-zero}
+use borrow.Author.Tests.{eqb-true, eqb-false, eq-eqb, ne-eqb}
+use lib.Dec.{eqb}
+use Rattle.sets.specs.Sets.{member, union}
+use Rattle.sets.specs.Laws.{by-test, united, removed}
+use Rattle.dispatcher.specs.State.{at-clock}
+use Rattle.dispatcher.specs.Order.{highest-of}
+use Rattle.dispatcher.specs.Instant.{step-a, step-b, step-c, step-d, step-e, step-g, close, cancel, choose, begin, without-done, after-done, at-a, at-b, at-e, at-f, at-g, new-at}
+use Rattle.guarantees.specs.History.{Event, Comes, Finishes, Completes, Ends, Takes, Begins, Call, history, after-calls, happens, finishes-in, completes, ends, takes, begins}
+use Rattle.guarantees.specs.Reading.{completion}
+use Rattle.guarantees.proofs.Walk.{walk-to}
+use Rattle.guarantees.proofs.Cases.{held-at, b-cases, d-cases, e-cases, g-cases}
+use Rattle.guarantees.proofs.Events.{by-finishes, by-ends, by-takes, by-begins, tail-of, front-of, happens-parts}
+
+-- ---- by the history
+
+abbrev pub pending-by : ℕ → Bool → Event → Bool
+pending-by n b (Comes t) = b
+pending-by n b (Finishes k) = b
+pending-by n b (Completes k t) = cond (eqb k n) false b
+pending-by n b (Ends t) = b
+pending-by n b (Takes k t m) = cond (eqb k n) true b
+pending-by n b (Begins t r l) = b
+
+-- whether task n has a pending job after some events
+unfoldable pub pending-in : ℕ → Bool → List Event → Bool
+pending-in n b [] = b
+pending-in n b (e ∷ es) = pending-in n (pending-by n b e) es
+
+-- a job that is pending and later is not has completed
+has-completed : (n : ℕ) (es : List Event) → pending-in n true es ≡ false → (u : ℕ) × (completion n es ≡ Tick u)
+unfolding pending-in completion
+has-completed n [] h = absurd (true≢false h)
+has-completed n (Comes t ∷ es) h = has-completed n es h
+has-completed n (Finishes k ∷ es) h = has-completed n es h
+has-completed n (Completes k t ∷ es) h =
+    by-test (eqb k n) (λ e. (t, rw e)) (λ e. let x : (u : ℕ) × (completion n es ≡ Tick u) = has-completed n es (rw e at h) in (x .0, rw e (x .1)))
+has-completed n (Ends t ∷ es) h = has-completed n es h
+has-completed n (Takes k t m ∷ es) h =
+    has-completed n es (by-test (eqb k n) (λ e. rw e at h) (λ e. rw e at h))
+has-completed n (Begins t r l ∷ es) h = has-completed n es h
+
+pub completes-after : (before after : List Event) (n t : ℕ) (m b : Bool) → pending-in n b (before ++ (Takes n t m ∷ after)) ≡ false
+    → (u : ℕ) × (completion n after ≡ Tick u)
+unfolding pending-in
+completes-after [] after n t m b h = has-completed n after (subst (λ (x : Bool). pending-in n (cond x true b) after ≡ false) (eq-eqb n n refl) h)
+completes-after (e ∷ es) after n t m b h = completes-after es after n t m (pending-by n b e) h
+
+-- ---- the events of an instant
+
+module _ (n : ℕ) where
+  abbrev As : Bool → List Event → List Event → Type 0
+  As b ys zs = pending-in n b zs ≡ pending-in n b ys
+
+  tail-pending : (d : Dispatcher) (t set : ℕ) (b : Bool) (ys : List Event) → pending-in n b (tail-of d t set ++ ys) ≡ pending-in n b ys
+  unfolding tail-of pending-in
+  tail-pending d t set b ys =
+      let x : List Event = begins t (at-f d t set .state .phase) (at-g d t set .phase) in
+      ap (pending-in n b) (append-assoc (ends t (at-e d t set .phase) (at-f d t set .state .phase)) x ys)
+      ∙ by-ends (As b ys) t (λ es e. e) (at-e d t set .phase) (at-f d t set .state .phase) (x ++ ys)
+      (by-begins (As b ys) t (λ r l es e. e) (at-f d t set .state .phase) (at-g d t set .phase) ys refl)
+
+  same-either-way : (k : ℕ) → eqb k n ≡ eqb n k
+  same-either-way k = by-test (eqb n k) (λ e. rw e (eq-eqb k n (sym (eqb-true n k e)))) (λ e. rw e (ne-eqb k n (λ x. eqb-false n k e (sym x))))
+
+  module _ (small : n < 32) where
+    completes-pending : (s : ℕ) (o : Done) (ys : List Event) → pending-in n (member n s) (completes o ++ ys) ≡ pending-in n (member n (after-done s o)) ys
+    unfolding completes pending-in
+    completes-pending s NoJob ys = refl
+    completes-pending s (Job e) ys =
+        ap (λ (b : Bool). pending-in n b ys) (ap (λ (x : Bool). cond x false (member n s)) (same-either-way (e .task)) ∙ go (eqb n (e .task)) (member n s) ∙ sym (removed (e .task) s n small))
+      where
+        go : (x b : Bool) → cond x false b ≡ (not x && b)
+        go true b = refl
+        go false b = refl
+
+    one-other : (k t : ℕ) (m x b : Bool) (ys : List Event) → eqb k n ≡ false → pending-in n b (cond x (Takes k t m ∷ []) [] ++ ys) ≡ pending-in n b ys
+    unfolding pending-in
+    one-other k t m true b ys e = rw e
+    one-other k t m false b ys e = refl
+
+    one-this : (k t : ℕ) (m x b : Bool) (ys : List Event) → eqb k n ≡ true → pending-in n b (cond x (Takes k t m ∷ []) [] ++ ys) ≡ pending-in n (b || x) ys
+    unfolding pending-in
+    one-this k t m true true ys e = rw e
+    one-this k t m true false ys e = rw e
+    one-this k t m false true ys e = refl
+    one-this k t m false false ys e = refl
+
+    takes-others : (k new marked t : ℕ) (b : Bool) (ys : List Event) → k ≤ n → pending-in n b (takes k new marked t ++ ys) ≡ pending-in n b ys
+    unfolding pending-in
+    takes-others k new marked t b ys l = by-takes (As b ys) k new marked t (λ j m x es e. rw (ne-eqb j n (omega arith)) e) ys refl
+
+    takes-this : (k new marked t : ℕ) (b : Bool) (ys : List Event) → n < k → pending-in n b (takes k new marked t ++ ys) ≡ pending-in n (b || member n new) ys
+    unfolding takes
+    takes-this zero new marked t b ys l = absurd (not-suc-le-zero l)
+    takes-this (suc k) new marked t b ys l =
+        ap (pending-in n b) (append-assoc (takes k new marked t) (cond (member k new) (Takes k t (member k marked) ∷ []) []) ys)
+        ∙ by-test (eqb k n)
+        (λ e. takes-others k new marked t b (cond (member k new) (Takes k t (member k marked) ∷ []) [] ++ ys) (omega (arith, eqb-true k n e))
+        ∙ one-this k t (member k marked) (member k new) b ys e ∙ ap (λ (j : ℕ). pending-in n (b || member j new) ys) (eqb-true k n e))
+        (λ e. takes-this k new marked t b (cond (member k new) (Takes k t (member k marked) ∷ []) [] ++ ys) (omega (arith, eqb-false k n e))
+        ∙ one-other k t (member k marked) (member k new) (b || member n new) ys e)
+
+    happens-pending : (d : Dispatcher) (t set : ℕ) (ys : List Event)
+        → pending-in n (member n (d .jobs .pending)) (happens d t set ++ ys) ≡ pending-in n (member n (union (after-done (d .jobs .pending) (at-a d t .done)) (new-at d t set))) ys
+    unfolding front-of
+    happens-pending d t set ys =
+        let new : ℕ = new-at d t set in
+        let rest : List Event = takes 32 new (d .marked) t ++ (tail-of d t set ++ ys) in
+        let e : List Event = ends t (at-a d t .state .phase) (at-b d t .state .phase) in
+        let c : List Event = completes (at-a d t .done) in
+        let p : ℕ = d .jobs .pending in
+        let s : ℕ = after-done (d .jobs .pending) (at-a d t .done) in
+        ap (pending-in n (member n p)) (happens-parts d t set ys ∙ simp append-assoc)
+        ∙ comes t (finishes-in t (d .phase) ++ (c ++ (e ++ rest)))
+        ∙ skips-finishes (member n p) (c ++ (e ++ rest))
+        ∙ completes-pending p (at-a d t .done) (e ++ rest)
+        ∙ skips-ends (member n s) rest
+        ∙ takes-this 32 new (d .marked) t (member n s) (tail-of d t set ++ ys) small
+        ∙ tail-pending d t set (member n s || member n new) ys
+        ∙ ap (λ (b : Bool). pending-in n b ys) (sym (united s new n small))
+      where
+        comes : (t : ℕ) (zs : List Event) → pending-in n (member n (d .jobs .pending)) (Comes t ∷ zs) ≡ pending-in n (member n (d .jobs .pending)) zs
+        comes t zs = unfold pending-in in refl
+
+        skips-finishes : (b : Bool) (zs : List Event) → pending-in n b (finishes-in t (d .phase) ++ zs) ≡ pending-in n b zs
+        skips-finishes b zs = unfold pending-in in by-finishes (As b zs) (λ k es e. e) t (d .phase) zs refl
+
+        skips-ends : (b : Bool) (zs : List Event) → pending-in n b (ends t (at-a d t .state .phase) (at-b d t .state .phase) ++ zs) ≡ pending-in n b zs
+        skips-ends b zs = unfold pending-in in by-ends (As b zs) t (λ es e. e) (at-a d t .state .phase) (at-b d t .state .phase) zs refl
+
+-- ---- the state's set
+
+b-pending : (s : Stage) (t : ℕ) → step-b s t (s .state .phase) .state .jobs .pending ≡ s .state .jobs .pending
+unfolding close
+b-pending s t = b-cases (λ x. x .jobs .pending ≡ s .state .jobs .pending) s t (λ i e o. refl) (λ next outgoing e. refl) (λ i e o. refl)
+
+d-pending : (d : Dispatcher) (new : ℕ) → step-d d new (d .phase) .jobs .pending ≡ d .jobs .pending
+unfolding cancel
+d-pending d new = d-cases (λ x. x .jobs .pending ≡ d .jobs .pending) d new refl (λ i n u e s b. refl)
+
+choose-pending : (d : Dispatcher) (t : ℕ) (i : Interval) (q : MaybeTask) → choose d t i q .jobs .pending ≡ d .jobs .pending
+unfolding choose
+choose-pending d t i NoTask = refl
+choose-pending d t i (Task q) = refl
+
+e-pending : (d : Dispatcher) (t : ℕ) → step-e d t (d .phase) .jobs .pending ≡ d .jobs .pending
+e-pending d t = e-cases (λ x. x .jobs .pending ≡ d .jobs .pending) d t refl (λ i e s u. choose-pending d t i (highest-of d (d .jobs .ready)))
+
+g-pending : (d : Dispatcher) (t new : ℕ) → step-g d t new (d .phase) .jobs .pending ≡ d .jobs .pending
+unfolding begin
+g-pending d t new =
+    g-cases (λ x. x .jobs .pending ≡ d .jobs .pending) d t new (λ i e. refl) (λ next outgoing e w. refl) (λ next outgoing e w. e-pending (begin d t new next outgoing) t)
+
+a-pending : (d : Dispatcher) (t : ℕ) (p : Phase) → step-a d t p .state .jobs .pending ≡ after-done (d .jobs .pending) (step-a d t p .done)
+unfolding step-a without-done
+a-pending d t (Between next outgoing) = refl
+a-pending d t (Within i) = refl
+
+pending-g : (d : Dispatcher) (t set : ℕ) → at-g d t set .jobs .pending ≡ union (after-done (d .jobs .pending) (at-a d t .done)) (new-at d t set)
+unfolding at-g at-f at-e at-b at-a step-c
+pending-g d t set =
+    let b : Dispatcher = at-b d t .state in
+    let new : ℕ = new-at d t set in
+    let c : Dispatcher = step-c b t new in
+    let x : Dispatcher = step-d c new (c .phase) in
+    g-pending (at-f d t set .state) t (held-at d t set)
+    ∙ b-pending (record { state = at-e d t set; done = at-b d t .done; closed = at-b d t .closed }) t
+    ∙ e-pending x t ∙ d-pending c new
+    ∙ ap (λ (s : ℕ). union s new) (b-pending (at-a d t) t ∙ a-pending (at-clock d t) t (d .phase))
+
+-- ---- along the calls
+
+pub pending-same : (n : ℕ) → n < 32 → (d : Dispatcher) (cs : List Call)
+    → pending-in n (member n (d .jobs .pending)) (history d cs) ≡ member n (after-calls d cs .jobs .pending)
+pending-same n small d cs =
+    walk-to (λ d h g. pending-in n (member n (d .jobs .pending)) h ≡ member n (g .jobs .pending))
+    (λ d. unfold pending-in in refl)
+    (λ d t set cs e k.
+    happens-pending n small d t set (history (at-g d t set) cs)
+    ∙ ap (λ (s : ℕ). pending-in n (member n s) (history (at-g d t set) cs)) (sym (pending-g d t set)) ∙ k)
+    (λ d m x cs e k. k)
+    cs d

@@ -1,0 +1,283 @@
+-- The tables that opening serves: they have a task, all priorities are different, and each length is in its range.
+use Rattle.guarantees.specs.Types.{_≡_, refl, sym, ap, _∙_, subst, Bool, true, false, cond, _&&_, _||_, List, _⊎_, inl, inr, ⊎-elim, ℕ, zero, suc, _+_, _^_, _≤_, _<_, Table, Dispatcher, Opening, Refusal, NoRefusal, Alone, AtEntry, Tasks}
+use Rattle.entries.specs.declared.TaskParameters.{TaskParameters}
+use Rattle.entries.specs.declared.Entry.{Entry}
+use Rattle.entries.specs.declared.Entry.the-variants.{Malformed, TaskEntry, ReleaseEntry}
+use native.Mathlib.Omega.{arith}
+use native.Mathlib.Nat.{not-suc-le-zero}
+use borrow.Author.Tests.{eqb-true, eqb-false, eq-eqb, ltb-false}
+use lib.Dec.{eqb, ltb}
+use lib.ListN.{length, getD, set, length-set}
+use lib.Seq.{getD-set-same, getD-set-other}
+use Rattle.sets.specs.Sets.{member, insert}
+use Rattle.sets.specs.Laws.{by-test, below-suc, clash, both, none, insert-same, insert-other, insert-out, insert-small, member-task}
+use Rattle.entries.specs.Entries.{entry-at}
+use Rattle.table.specs.Tasks.{no-table, given, outside, number-refused, mark-or-length-refusal, task-refusal, with-task, with-marked, refused-at, read-to, behind-tasks, tasks-from, tasks-of}
+use Rattle.dispatcher.specs.Calls.{opened, not-opened, opened-behind, opening}
+
+-- ---- tests in a row
+
+-- where no number is answered no test has passed
+pub none-passed : (w x y z : ℕ) (a b c e : Bool) → cond a (suc w) (cond b (suc x) (cond c (suc y) (cond e (suc z) 0))) ≡ 0
+    → (a ≡ false) × (b ≡ false) × (c ≡ false) × (e ≡ false)
+none-passed w x y z true b c e h = absurd (omega arith)
+none-passed w x y z false true c e h = absurd (omega arith)
+none-passed w x y z false false true e h = absurd (omega arith)
+none-passed w x y z false false false true h = absurd (omega arith)
+none-passed w x y z false false false false h = (refl, refl, refl, refl)
+
+neither : (a b : Bool) → (a || b) ≡ false → (a ≡ false) × (b ≡ false)
+neither true b h = clash true refl h
+neither false b h = (refl, h)
+
+-- ---- a table as it is read
+
+abbrev pub InRange : ℕ → Type 0
+InRange x = (1 ≤ x) × (x ≤ 1000000)
+
+pub record Fair (table : Table) (marked : ℕ) : Type 0 where
+  pub present : table .present < 2 ^ 32
+  pub marks : (k : ℕ) → member k marked ≡ true → member k (table .present) ≡ true
+  pub different : (j k : ℕ) → member j (table .present) ≡ true → member k (table .present) ≡ true
+      → getD (table .priority) j 0 ≡ getD (table .priority) k 0 → j ≡ k
+  pub copyins : (k : ℕ) → member k (table .present) ≡ true → InRange (getD (table .copyin) k 0)
+  pub executions : (k : ℕ) → member k (table .present) ≡ true → InRange (getD (table .execution) k 0)
+  pub copyouts : (k : ℕ) → member k (table .present) ≡ true → InRange (getD (table .copyout) k 0)
+
+-- with room for 32 tasks
+pub record Roomy (table : Table) : Type 0 where
+  pub priorities : length (table .priority) ≡ 32
+  pub copyins : length (table .copyin) ≡ 32
+  pub executions : length (table .execution) ≡ 32
+  pub copyouts : length (table .copyout) ≡ 32
+
+roomy-none : Roomy no-table
+roomy-none = record { priorities = refl; copyins = refl; executions = refl; copyouts = refl }
+
+fair-none : Fair no-table 0
+fair-none = record {
+  present = omega arith;
+  marks = λ k h. h;
+  different = λ j k h. clash (member j 0) h (none j);
+  copyins = λ k h. clash (member k 0) h (none k);
+  executions = λ k h. clash (member k 0) h (none k);
+  copyouts = λ k h. clash (member k 0) h (none k);
+}
+
+not-given : (m : ℕ) (t : Table) (p : ℕ) → given m t p ≡ false → (j : ℕ) → j < m → member j (t .present) ≡ true → getD (t .priority) j 0 ≡ p → ⊥
+unfolding given
+not-given zero t p h j l = absurd (not-suc-le-zero l)
+not-given (suc m) t p h j l =
+    let x : ((member m (t .present) && eqb (getD (t .priority) m 0) p) ≡ false) × (given m t p ≡ false) =
+    neither (member m (t .present) && eqb (getD (t .priority) m 0) p) (given m t p) h in
+    below-suc (λ (j : ℕ). member j (t .present) ≡ true → getD (t .priority) j 0 ≡ p → ⊥) m (not-given m t p (x .1))
+    (λ y z. clash (member m (t .present) && eqb (getD (t .priority) m 0) p) (both (member m (t .present)) (eqb (getD (t .priority) m 0) p) y (eq-eqb (getD (t .priority) m 0) p z)) (x .0)) j l
+
+in-range : (x : ℕ) → outside x ≡ false → InRange x
+unfolding outside
+in-range x h =
+    let y : (eqb x 0 ≡ false) × (ltb 1000000 x ≡ false) = neither (eqb x 0) (ltb 1000000 x) h in
+    (omega (arith, eqb-false x 0 (y .0)), ltb-false 1000000 x (y .1))
+
+-- a task entry that meets no refusal
+module _ (t : Table) (marked : ℕ) (fair : Fair t marked) (roomy : Roomy t) (p : TaskParameters) (taken : task-refusal t p ≡ 0) where
+  abbrev n : ℕ
+  n = p .number
+
+  abbrev Met : Type 0
+  Met = (n < 32) × (member n (t .present) ≡ false) × (given 32 t (p .priority) ≡ false)
+      × InRange (p .copyin) × InRange (p .execution) × InRange (p .copyout)
+
+  met : Met
+  unfolding task-refusal number-refused mark-or-length-refusal
+  met =
+      let a : Bool = ltb 31 n || member n (t .present) in
+      let c : Bool = outside (p .copyin) || (outside (p .execution) || outside (p .copyout)) in
+      let f : (a ≡ false) × (given 32 t (p .priority) ≡ false) × (ltb 1 (p .mark) ≡ false) × (c ≡ false) =
+      none-passed 3 4 5 6 a (given 32 t (p .priority)) (ltb 1 (p .mark)) c taken in
+      let x : (ltb 31 n ≡ false) × (member n (t .present) ≡ false) = neither (ltb 31 n) (member n (t .present)) (f .0) in
+      let y : (outside (p .copyin) ≡ false) × ((outside (p .execution) || outside (p .copyout)) ≡ false) =
+      neither (outside (p .copyin)) (outside (p .execution) || outside (p .copyout)) (f .3) in
+      let z : (outside (p .execution) ≡ false) × (outside (p .copyout) ≡ false) = neither (outside (p .execution)) (outside (p .copyout)) (y .1) in
+      (omega (arith, ltb-false 31 n (x .0)), x .1, f .1, in-range (p .copyin) (y .0), in-range (p .execution) (z .0), in-range (p .copyout) (z .1))
+
+  -- of a list with one value for each task: a property of the new value and of those of the tasks before
+  stored : (P : ℕ → Type 0) (xs : List ℕ) (v : ℕ) → length xs ≡ 32 → P v → ((k : ℕ) → member k (t .present) ≡ true → P (getD xs k 0))
+      → (k : ℕ) → member k (insert n (t .present)) ≡ true → P (getD (set xs n v) k 0)
+  stored P xs v l h f k m =
+      by-test (eqb k n)
+      (λ e. subst P (sym (ap (λ (x : ℕ). getD (set xs n v) x 0) (eqb-true k n e) ∙ getD-set-same xs n v 0 (omega (arith, met .0)))) h)
+      (λ e. subst P (sym (getD-set-other xs n k v 0 (eqb-false k n e))) (f k (⊎-elim (λ x. clash (eqb k n) x e) (λ x. x) (insert-out n (t .present) k m))))
+
+  apart : (j k : ℕ) → member j (insert n (t .present)) ≡ true → member k (insert n (t .present)) ≡ true
+      → getD (set (t .priority) n (p .priority)) j 0 ≡ getD (set (t .priority) n (p .priority)) k 0 → j ≡ k
+  apart j k a b e =
+      by-test (eqb j n)
+      (λ x. by-test (eqb k n)
+      (λ y. eqb-true j n x ∙ sym (eqb-true k n y))
+      (λ y. absurd (other k y (old k y b) (sym (at-n j x) ∙ e))))
+      (λ x. by-test (eqb k n)
+      (λ y. absurd (other j x (old j x a) (sym (at-n k y) ∙ sym e)))
+      (λ y. fair .different j k (old j x a) (old k y b) (sym (at-other j x) ∙ e ∙ at-other k y)))
+    where
+      old : (k : ℕ) → eqb k n ≡ false → member k (insert n (t .present)) ≡ true → member k (t .present) ≡ true
+      old k e m = ⊎-elim (λ x. clash (eqb k n) x e) (λ x. x) (insert-out n (t .present) k m)
+
+      at-n : (k : ℕ) → eqb k n ≡ true → getD (set (t .priority) n (p .priority)) k 0 ≡ p .priority
+      at-n k e =
+          ap (λ (x : ℕ). getD (set (t .priority) n (p .priority)) x 0) (eqb-true k n e)
+          ∙ getD-set-same (t .priority) n (p .priority) 0 (omega (arith, met .0, roomy .priorities))
+
+      at-other : (k : ℕ) → eqb k n ≡ false → getD (set (t .priority) n (p .priority)) k 0 ≡ getD (t .priority) k 0
+      at-other k e = getD-set-other (t .priority) n k (p .priority) 0 (eqb-false k n e)
+
+      other : (k : ℕ) → eqb k n ≡ false → member k (t .present) ≡ true → p .priority ≡ getD (set (t .priority) n (p .priority)) k 0 → ⊥
+      other k e m h = not-given 32 t (p .priority) (met .2) k (member-task k (t .present) (fair .present) m) m (sym (h ∙ at-other k e))
+
+  marks-more : (k : ℕ) → member k (with-marked marked p) ≡ true → member k (insert n (t .present)) ≡ true
+  unfolding with-marked
+  marks-more k = go (eqb (p .mark) 1)
+    where
+      older : member k marked ≡ true → member k (insert n (t .present)) ≡ true
+      older m =
+          let x : member k (t .present) ≡ true = fair .marks k m in
+          insert-other n (t .present) k (member-task k (t .present) (fair .present) x) x
+
+      go : (b : Bool) → member k (cond b (insert n marked) marked) ≡ true → member k (insert n (t .present)) ≡ true
+      go true m =
+          ⊎-elim (λ x. insert-same n (t .present) k (member-task k (insert n marked) (insert-small n marked) m) x) older (insert-out n marked k m)
+      go false m = older m
+
+  fair-more : Fair (with-task t p) (with-marked marked p)
+  unfolding with-task
+  fair-more = record {
+    present = insert-small n (t .present);
+    marks = marks-more;
+    different = apart;
+    copyins = stored InRange (t .copyin) (p .copyin) (roomy .copyins) (met .3) (fair .copyins);
+    executions = stored InRange (t .execution) (p .execution) (roomy .executions) (met .4) (fair .executions);
+    copyouts = stored InRange (t .copyout) (p .copyout) (roomy .copyouts) (met .5) (fair .copyouts);
+  }
+
+  roomy-more : Roomy (with-task t p)
+  unfolding with-task
+  roomy-more = record {
+    priorities = length-set (t .priority) n (p .priority) ∙ roomy .priorities;
+    copyins = length-set (t .copyin) n (p .copyin) ∙ roomy .copyins;
+    executions = length-set (t .execution) n (p .execution) ∙ roomy .executions;
+    copyouts = length-set (t .copyout) n (p .copyout) ∙ roomy .copyouts;
+  }
+
+  some-more : member n (with-task t p .present) ≡ true
+  unfolding with-task
+  some-more = insert-same n (t .present) n (met .0) (eq-eqb n n refl)
+
+  members-more : (k : ℕ) → member k (t .present) ≡ true → member k (with-task t p .present) ≡ true
+  unfolding with-task
+  members-more k m = insert-other n (t .present) k (member-task k (t .present) (fair .present) m) m
+
+-- ---- the entries one after another
+
+-- what an entry can lead to
+module _ (P : Tasks → Type 0) (s : List ℕ) (k at : ℕ) (t : Table) (marked : ℕ) where
+  entry-cases : P (read-to t marked at) → ((n : ℕ) → P (refused-at n at))
+      → ((p : TaskParameters) → task-refusal t p ≡ 0 → P (tasks-from k s (at + 16) (with-task t p) (with-marked marked p))) → P (tasks-from (suc k) s at t marked)
+  unfolding tasks-from
+  entry-cases h f g = go (behind-tasks s at)
+    where
+      go-task : (p : TaskParameters) (r : ℕ) → task-refusal t p ≡ r
+          → P (elim r [ zero ↦ tasks-from k s (at + 16) (with-task t p) (with-marked marked p) | suc n ↦ refused-at (suc n) at ])
+      go-task p zero e = g p e
+      go-task p (suc n) e = f (suc n)
+
+      go-entry : (e : Entry)
+          → P (elim e [
+            | Malformed n ↦ refused-at n at
+            | ReleaseEntry r ↦ read-to t marked at
+            | TaskEntry p ↦ elim (task-refusal t p) [ zero ↦ tasks-from k s (at + 16) (with-task t p) (with-marked marked p) | suc n ↦ refused-at (suc n) at ]
+          ])
+      go-entry (Malformed n) = f n
+      go-entry (ReleaseEntry r) = h
+      go-entry (TaskEntry p) = go-task p (task-refusal t p) refl
+
+      go : (b : Bool)
+          → P (elim b [
+            | true ↦ read-to t marked at
+            | false ↦ elim (entry-at s at) [
+              | Malformed n ↦ refused-at n at
+              | ReleaseEntry r ↦ read-to t marked at
+              | TaskEntry p ↦ elim (task-refusal t p) [ zero ↦ tasks-from k s (at + 16) (with-task t p) (with-marked marked p) | suc n ↦ refused-at (suc n) at ]
+            ]
+          ])
+      go true = h
+      go false = go-entry (entry-at s at)
+
+-- what is read without a refusal is fair, and has a task or nothing was read
+abbrev Read : ℕ → Tasks → Type 0
+Read at r = r .refusal ≡ NoRefusal → Fair (r .table) (r .marked) × ((r .end ≡ at) ⊎ ((n : ℕ) × (member n (r .table .present) ≡ true)))
+
+-- with a task before, there is one after
+abbrev ReadOn : Tasks → Type 0
+ReadOn r = r .refusal ≡ NoRefusal → Fair (r .table) (r .marked) × ((n : ℕ) × (member n (r .table .present) ≡ true))
+
+unread {ℓ} : {A : Type ℓ} (n at : ℕ) → AtEntry n at ≡ NoRefusal → A
+unread n at e = absurd (let z : _≡_ {A = ℕ} 0 1 = cc in omega arith)
+
+reads-on : (k : ℕ) (s : List ℕ) (at : ℕ) (t : Table) (marked n : ℕ) → Fair t marked → Roomy t → member n (t .present) ≡ true → ReadOn (tasks-from k s at t marked)
+reads-on zero s at t marked n f r m = unfold tasks-from in λ e. (f, (n, m))
+reads-on (suc k) s at t marked n f r m =
+    entry-cases ReadOn s k at t marked (λ e. (f, (n, m))) (λ x e. unread x at e)
+    (λ p e. reads-on k s (at + 16) (with-task t p) (with-marked marked p) n (fair-more t marked f r p e) (roomy-more t marked f r p e) (members-more t marked f r p e n m))
+
+reads : (k : ℕ) (s : List ℕ) (at : ℕ) (t : Table) (marked : ℕ) → Fair t marked → Roomy t → Read at (tasks-from k s at t marked)
+reads zero s at t marked f r = unfold tasks-from in λ e. (f, inl refl)
+reads (suc k) s at t marked f r =
+    entry-cases (Read at) s k at t marked (λ e. (f, inl refl)) (λ x e. unread x at e)
+    (λ p e x.
+    let y : Fair (tasks-from k s (at + 16) (with-task t p) (with-marked marked p) .table) (tasks-from k s (at + 16) (with-task t p) (with-marked marked p) .marked)
+    × ((n : ℕ) × (member n (tasks-from k s (at + 16) (with-task t p) (with-marked marked p) .table .present) ≡ true)) =
+    reads-on k s (at + 16) (with-task t p) (with-marked marked p) (p .number) (fair-more t marked f r p e) (roomy-more t marked f r p e) (some-more t marked f r p e) x in
+    (y .0, inr (y .1)))
+
+-- ---- opening
+
+pub record Proper (table : Table) (marked : ℕ) : Type 0 where
+  pub some-task : table .present ≡ 0 → ⊥
+  pub fair : Fair table marked
+
+-- the state that opening returns has a proper table, and no job
+pub record Opens (d : Dispatcher) : Type 0 where
+  pub proper : Proper (d .table) (d .marked)
+  pub fresh : d ≡ opened (d .table) (d .marked)
+
+some-proper : (table : Table) (marked : ℕ) → Fair table marked → (n : ℕ) → member n (table .present) ≡ true → Opens (opened table marked)
+unfolding opened
+some-proper table marked f n m = record {
+  proper = record { some-task = λ e. clash (member n 0) (subst (λ (s : ℕ). member n s ≡ true) e m) (none n); fair = f };
+  fresh = refl;
+}
+
+abbrev OpensIf : Opening → Type 0
+OpensIf o = o .refusal ≡ NoRefusal → Opens (o .state)
+
+opens-behind : (k : Tasks) (size : ℕ) (r : Refusal) → k .refusal ≡ r → (size ≡ 0 → ⊥) → Read 0 k → OpensIf (opened-behind k size r)
+opens-behind k size NoRefusal e h read = go (eqb (k .end) size) refl (read e)
+  where
+    go : (b : Bool) → eqb (k .end) size ≡ b → Fair (k .table) (k .marked) × ((k .end ≡ 0) ⊎ ((n : ℕ) × (member n (k .table .present) ≡ true)))
+        → OpensIf (cond b (record { state = opened (k .table) (k .marked); refusal = NoRefusal }) (not-opened (AtEntry 2 (k .end))))
+    go true b x y =
+        ⊎-elim (λ z. absurd (h (omega (arith, eqb-true (k .end) size b)))) (λ z. some-proper (k .table) (k .marked) (x .0) (z .0) (z .1)) (x .1)
+    go false b x y = unread 2 (k .end) y
+opens-behind k size (Alone n) e h read = λ x. absurd (let z : _≡_ {A = ℕ} 0 1 = cc in omega arith)
+opens-behind k size (AtEntry n at) e h read = λ x. unread n at x
+
+pub opens : (bytes : List ℕ) → opening bytes .refusal ≡ NoRefusal → Opens (opening bytes .state)
+unfolding opening
+opens bytes = go (eqb (length bytes) 0) refl
+  where
+    go : (b : Bool) → eqb (length bytes) 0 ≡ b
+        → OpensIf (cond b (not-opened (Alone 12)) (opened-behind (tasks-of bytes) (length bytes) (tasks-of bytes .refusal)))
+    go true b = λ x. absurd (let z : _≡_ {A = ℕ} 0 1 = cc in omega arith)
+    go false b =
+        opens-behind (tasks-of bytes) (length bytes) (tasks-of bytes .refusal) refl (eqb-false (length bytes) 0 b)
+        (unfold tasks-of in reads (length bytes) bytes 0 no-table 0 fair-none roomy-none)

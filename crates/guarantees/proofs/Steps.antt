@@ -1,0 +1,60 @@
+-- Small facts on single steps, which several of the proofs use.
+use Rattle.guarantees.specs.Types.{_≡_, refl, sym, ap, subst, true, not, _&&_, ℕ, _<_, Table, MaybeTask, NoTask, Task, Processor, Interval, Phase, Between, Within, Dispatcher}
+use Rattle.sets.specs.Sets.{member, intersection}
+use Rattle.sets.specs.Laws.{right, union-right, intersection-in}
+use Rattle.dispatcher.specs.Order.{highest-of}
+use Rattle.dispatcher.specs.Instant.{processor-at, processor-task, resting, settled, step-c, step-e, over, with-candidates, choose, copying-out}
+use Rattle.guarantees.proofs.Highest.{Best, best}
+use Rattle.guarantees.proofs.Cases.{processor-cases, e-cases}
+
+pub best-of : (d : Dispatcher) (s : ℕ) → Best (d .table .priority) s (highest-of d s)
+best-of d s = best (d .table .priority) s
+
+-- an interval is open, and its processor is this one
+abbrev pub Opened : Processor → Phase → Type 0
+Opened q (Between next outgoing) = ⊥
+Opened q (Within j) = j .processor ≡ q
+
+pub choose-opens : (d : Dispatcher) (t : ℕ) (i : Interval) (q : MaybeTask) → Opened (i .processor) (choose d t i q .phase)
+unfolding choose
+choose-opens d t i NoTask = refl
+choose-opens d t i (Task q) = refl
+
+pub e-opens : (d : Dispatcher) (t : ℕ) (q : Processor) → Opened q (d .phase) → Opened q (step-e d t (d .phase) .phase)
+e-opens d t q h =
+    e-cases (λ x. Opened q (x .phase)) d t h
+    (λ i e s u. subst (λ (z : Processor). Opened z (choose d t i (highest-of d (d .jobs .ready)) .phase)) (subst (Opened q) e h) (choose-opens d t i (highest-of d (d .jobs .ready))))
+
+-- every task of one set is in another
+abbrev pub Sub : ℕ → ℕ → Type 0
+Sub s s′ = (k : ℕ) → k < 32 → member k s ≡ true → member k s′ ≡ true
+
+pub settles : (i : Interval) → over i ≡ true → settled (i .copyin) ≡ true
+settles i o =
+    right (not (copying-out (i .copyout))) (settled (i .copyin))
+    (right (resting (i .processor)) (not (copying-out (i .copyout)) && settled (i .copyin)) o)
+
+-- what is taken at an instant is in the sets
+pub record NewIn (d : Dispatcher) (new : ℕ) (i : Interval) : Type 0 where
+  pub ready : Sub new (d .jobs .ready)
+  pub candidates : (k : ℕ) → k < 32 → member k new ≡ true → member k (d .marked) ≡ true → member k (i .candidates) ≡ true
+
+abbrev pub NewAt : Dispatcher → ℕ → Phase → Type 0
+NewAt d new (Between next outgoing) = Unit {0}
+NewAt d new (Within i) = NewIn d new i
+
+pub c-new : (d : Dispatcher) (t new : ℕ) → NewAt (step-c d t new) new (step-c d t new .phase)
+unfolding step-c
+c-new d t new = go (d .phase)
+  where
+    go : (p : Phase) → NewAt (step-c d t new) new (with-candidates d new p)
+    go (Between next outgoing) = unfold with-candidates in tt
+    go (Within i) = unfold with-candidates in record {
+      ready = λ k l h. union-right (d .jobs .ready) new k l h;
+      candidates = λ k l h m. union-right (i .candidates) (intersection new (d .marked)) k l (intersection-in new (d .marked) k l h m);
+    }
+
+-- the end of a phase leaves the task that the processor has
+pub processor-task-same : (table : Table) (t : ℕ) (q : Processor) → processor-task (processor-at table t q) ≡ processor-task q
+processor-task-same table t q =
+    processor-cases t table (λ x. processor-task x ≡ processor-task q) q refl (λ n u e x. ap processor-task (sym e)) (λ n s u e x. ap processor-task (sym e))

@@ -1,0 +1,371 @@
+-- The order, by the states: a job that waits, and what the next interval will run. For each waiting job of task n one of two rules holds of
+-- the copy-in of the open interval, and each step keeps it. A job of an earlier interval: the copy-in is not chosen yet, or is of a task
+-- not lower than n, or, where none was chosen or it was cancelled, some task released and marked in this interval and ready is not lower
+-- than n. A job of this interval: the same, or whatever is to be shown of the next interval holds of any task or of the loaded one.
+use Rattle.guarantees.specs.Types.{Table, _≡_, refl, sym, _∙_, subst, true, false, false≢true, List, [], _∷_, _++_, ℕ, _≤_, _<_, MaybeTask, NoTask, Task, Processor, CopyIn, Unchosen, NoneChosen, Copying, Loaded, Cancelled, Interval, Next, NoneNext, LoadedNext, PromotedNext, Outgoing, Phase, Between, Within, Dispatcher, Stage}
+use native.Mathlib.Omega.{arith}
+use borrow.Author.Tests.{ltb-true}
+use lib.Dec.{eqb}
+use lib.ListN.{getD}
+use Rattle.sets.specs.Sets.{member, union, intersection, insert, remove}
+use Rattle.sets.specs.Laws.{none, by-test, clash, union-left, intersection-in, intersection-left, intersection-right, insert-same, insert-other, remove-in}
+use Rattle.guarantees.proofs.Highest.{Best}
+use Rattle.guarantees.proofs.Walk.{walk}
+use Rattle.guarantees.specs.History.{history, Event, Call, begins, happens}
+use Rattle.dispatcher.specs.Instant.{settled, step-a, step-b, step-c, step-d, step-e, step-g, promoted, next-of, without-promoted, close, with-candidates, cancel, choose, begin, begin-processor, without-done, ended, processor-task, at-a, at-b, at-e, at-f, at-g, new-at}
+use Rattle.dispatcher.specs.State.{at-clock, later}
+use Rattle.dispatcher.specs.Order.{highest-of, outranks}
+use Rattle.guarantees.specs.Reading.{intervals}
+use Rattle.guarantees.specs.Claim.{executes}
+use Rattle.guarantees.proofs.Steps.{Sub, NewIn, NewAt, c-new, best-of, settles, Opened, e-opens}
+use Rattle.guarantees.proofs.Events.{happens-intervals}
+use Rattle.guarantees.proofs.Cases.{held-at, copyin-cases, a-cases, b-cases, d-cases, e-cases, g-cases}
+
+-- ---- the job that the next interval executes, as far as it is chosen
+abbrev pub held-task : CopyIn → MaybeTask
+held-task Unchosen = NoTask
+held-task NoneChosen = NoTask
+held-task (Copying c until) = Task c
+held-task (Loaded c) = Task c
+held-task (Cancelled c) = NoTask
+
+abbrev pub next-task : Next → MaybeTask
+next-task NoneNext = NoTask
+next-task (LoadedNext c) = Task c
+next-task (PromotedNext c) = Task c
+
+abbrev pub up-next : Phase → MaybeTask
+up-next (Between next outgoing) = next-task next
+up-next (Within i) = held-task (i .copyin)
+
+-- an interval that begins runs it
+pub runs : (table : Table) (t : ℕ) (next : Next) → processor-task (begin-processor table t next) ≡ next-task next
+runs table t NoneNext = refl
+runs table t (LoadedNext c) = refl
+runs table t (PromotedNext c) = refl
+
+-- a task of no lower priority than n's
+abbrev pub NotLower : List ℕ → ℕ → MaybeTask → Type 0
+NotLower pr n NoTask = ⊥
+NotLower pr n (Task k) = getD pr k 0 ≤ getD pr n 0
+
+module _ (pr : List ℕ) (n : ℕ) where
+  -- What holds of the copy-in of the open interval, F, so that what the next interval runs has Q.
+  pub record Rule (F : ℕ → ℕ → CopyIn → Type 0) (Q : MaybeTask → Type 0) : Type 0 where
+    pub load : (ready candidates c until : ℕ) → F ready candidates (Copying c until) → F ready candidates (Loaded c)
+    pub run : (ready candidates c : ℕ) → F ready candidates (Loaded c) → Q (Task c)
+    pub none : (ready candidates : ℕ) (q : MaybeTask) → Best pr (intersection candidates ready) q → F ready candidates NoneChosen → Q q
+    pub lost : (ready candidates c : ℕ) (q : MaybeTask) → Best pr (intersection candidates ready) q → F ready candidates (Cancelled c) → Q q
+    pub more : (ready candidates ready′ candidates′ : ℕ) (c : CopyIn) → Sub ready ready′ → Sub candidates candidates′ → F ready candidates c → F ready′ candidates′ c
+    pub cancel : (ready candidates c until q : ℕ) → q < 32 → member q ready ≡ true → member q candidates ≡ true → getD pr q 0 < getD pr c 0
+        → F ready candidates (Copying c until) → F (insert c ready) candidates (Cancelled c)
+    pub pass : (ready candidates : ℕ) → member n ready ≡ true → Best pr ready NoTask → F ready candidates Unchosen → F ready candidates NoneChosen
+    pub choose : (ready candidates q until : ℕ) → member n ready ≡ true → Best pr ready (Task q) → F ready candidates Unchosen → F (remove q ready) candidates (Copying q until)
+
+  module _ (F : ℕ → ℕ → CopyIn → Type 0) (Q : MaybeTask → Type 0) where
+    abbrev pub Fate : ℕ → Phase → Type 0
+    Fate ready (Between next outgoing) = Q (next-task next)
+    Fate ready (Within i) = F ready (i .candidates) (i .copyin)
+
+    -- n's job awaits its execution, and F holds of what the next interval will run
+    pub record Waiting (d : Dispatcher) : Type 0 where
+      pub table : d .table .priority ≡ pr
+      pub ready : executes n (up-next (d .phase)) ≡ false → member n (d .jobs .ready) ≡ true
+      pub fate : Fate (d .jobs .ready) (d .phase)
+
+    module _ (rule : Rule F Q) (small : n < 32) where
+      pub ready-at : (d : Dispatcher) {p : Phase} → d .phase ≡ p → Waiting d → executes n (up-next p) ≡ false → member n (d .jobs .ready) ≡ true
+      ready-at d e h = subst (λ (x : Phase). executes n (up-next x) ≡ false → member n (d .jobs .ready) ≡ true) e (h .ready)
+
+      pub fate-at : (d : Dispatcher) {p : Phase} → d .phase ≡ p → Waiting d → Fate (d .jobs .ready) p
+      fate-at d e h = subst (Fate (d .jobs .ready)) e (h .fate)
+
+      best-at : (d : Dispatcher) (s : ℕ) → Waiting d → Best pr s (highest-of d s)
+      best-at d s h = subst (λ (x : List ℕ). Best x s (highest-of d s)) (h .table) (best-of d s)
+
+      pub a-waiting : (t : ℕ) (d : Dispatcher) → Waiting d → Waiting (step-a d t (d .phase) .state)
+      unfolding without-done ended
+      a-waiting t d h =
+          a-cases Waiting d t (λ next outgoing e. h)
+          (λ i e. record {
+            table = h .table;
+            ready = copyin-cases t (λ c. executes n (held-task c) ≡ false → member n (d .jobs .ready) ≡ true) (i .copyin) (ready-at d e h) (λ c u x y. rw x at (ready-at d e h));
+            fate = copyin-cases t (F (d .jobs .ready) (i .candidates)) (i .copyin) (fate-at d e h)
+                (λ c u x y. rule .load (d .jobs .ready) (i .candidates) c u (subst (F (d .jobs .ready) (i .candidates)) x (fate-at d e h)));
+          })
+
+      -- what an interval that is over leaves
+      unfoldable pub Left : Dispatcher → CopyIn → MaybeTask → Type 0
+      Left d c q = (executes n (next-task (next-of c q)) ≡ false → member n (without-promoted (d .jobs .ready) q) ≡ true) × Q (next-task (next-of c q))
+
+      pub closed : (d : Dispatcher) (i : Interval) (c : CopyIn) → settled c ≡ true → Waiting d
+          → (executes n (held-task c) ≡ false → member n (d .jobs .ready) ≡ true) → F (d .jobs .ready) (i .candidates) c → Left d c (promoted d i c)
+      unfolding promoted Left
+      closed d i Unchosen s h w f = absurd (false≢true s)
+      closed d i (Copying c until) s h w f = absurd (false≢true s)
+      closed d i (Loaded c) s h w f = (w, rule .run (d .jobs .ready) (i .candidates) c f)
+      closed d i NoneChosen s h w f = go (highest-of d (intersection (i .candidates) (d .jobs .ready))) (rule .none (d .jobs .ready) (i .candidates) (highest-of d (intersection (i .candidates) (d .jobs .ready))) (best-at d (intersection (i .candidates) (d .jobs .ready)) h) f)
+        where
+          go : (q : MaybeTask) → Q q → Left d NoneChosen q
+          go NoTask x = (w, x)
+          go (Task q) x = (λ e. remove-in q (d .jobs .ready) n small e (w refl), x)
+      closed d i (Cancelled c) s h w f = go (highest-of d (intersection (i .candidates) (d .jobs .ready))) (rule .lost (d .jobs .ready) (i .candidates) c (highest-of d (intersection (i .candidates) (d .jobs .ready))) (best-at d (intersection (i .candidates) (d .jobs .ready)) h) f)
+        where
+          go : (q : MaybeTask) → Q q → Left d (Cancelled c) q
+          go NoTask x = (w, x)
+          go (Task q) x = (λ e. remove-in q (d .jobs .ready) n small e (w refl), x)
+
+      pub b-waiting : (t : ℕ) (s : Stage) → Waiting (s .state) → Waiting (step-b s t (s .state .phase) .state)
+      unfolding close Left
+      b-waiting t s h =
+          b-cases Waiting s t (λ i e o. h) (λ next outgoing e. h)
+          (λ i e o.
+          let z : Left (s .state) (i .copyin) (promoted (s .state) i (i .copyin)) = closed (s .state) i (i .copyin) (settles i o) h (ready-at (s .state) e h) (fate-at (s .state) e h) in
+          record { table = h .table; ready = z .0; fate = z .1 })
+
+      pub c-waiting : (t new : ℕ) (d : Dispatcher) → Waiting d → Waiting (step-c d t new)
+      unfolding step-c
+      c-waiting t new d h = record {
+        table = h .table;
+        ready = λ e. union-left (d .jobs .ready) new n small (h .ready (same (d .phase) ∙ e));
+        fate = go (d .phase) (h .fate);
+      }
+        where
+          same : (p : Phase) → executes n (up-next p) ≡ executes n (up-next (with-candidates d new p))
+          same (Between next outgoing) = unfold with-candidates in refl
+          same (Within i) = unfold with-candidates in refl
+
+          go : (p : Phase) → Fate (d .jobs .ready) p → Fate (union (d .jobs .ready) new) (with-candidates d new p)
+          go (Between next outgoing) f = unfold with-candidates in f
+          go (Within i) f = unfold with-candidates in
+              rule .more (d .jobs .ready) (i .candidates) (union (d .jobs .ready) new) (union (i .candidates) (intersection new (d .marked))) (i .copyin)
+              (λ k l m. union-left (d .jobs .ready) new k l m) (λ k l m. union-left (i .candidates) (intersection new (d .marked)) k l m) f
+
+      pub d-waiting : (new : ℕ) (d : Dispatcher) → NewAt d new (d .phase) → Waiting d → Waiting (step-d d new (d .phase))
+      unfolding cancel
+      d-waiting new d new-in h =
+          d-cases Waiting d new h
+          (λ i c u e s b. record {
+            table = h .table;
+            ready = λ x. by-test (eqb n c) (λ y. insert-same c (d .jobs .ready) n small y) (λ y. insert-other c (d .jobs .ready) n small ((rw s at (ready-at d e h)) y));
+            fate = go i c u (subst (NewAt d new) e new-in) (subst (F (d .jobs .ready) (i .candidates)) s (fate-at d e h)) (highest-of d (intersection new (d .marked))) (best-at d (intersection new (d .marked)) h) b;
+          })
+        where
+          go : (i : Interval) (c u : ℕ) → NewIn d new i → F (d .jobs .ready) (i .candidates) (Copying c u)
+              → (q : MaybeTask) → Best pr (intersection new (d .marked)) q → outranks d c q ≡ true → F (insert c (d .jobs .ready)) (i .candidates) (Cancelled c)
+          go i c u k f NoTask x b = absurd (false≢true b)
+          go i c u k f (Task q) x b =
+              let m : member q new ≡ true = intersection-left new (d .marked) q (x .1) in
+              rule .cancel (d .jobs .ready) (i .candidates) c u q (x .0) (k .ready q (x .0) m) (k .candidates q (x .0) m (intersection-right new (d .marked) q (x .1)))
+              (less (h .table) b) f
+            where
+              less : d .table .priority ≡ pr → outranks d c (Task q) ≡ true → getD pr q 0 < getD pr c 0
+              less e b = rw e at (ltb-true (getD (d .table .priority) q 0) (getD (d .table .priority) c 0) b)
+
+      pub e-waiting : (t : ℕ) (d : Dispatcher) → Waiting d → Waiting (step-e d t (d .phase))
+      unfolding choose
+      e-waiting t d h =
+          e-cases Waiting d t h
+          (λ i e s u. go i (rw s at (ready-at d e h)) (subst (F (d .jobs .ready) (i .candidates)) s (fate-at d e h)) (highest-of d (d .jobs .ready)) (best-at d (d .jobs .ready) h))
+        where
+          go : (i : Interval) → (false ≡ false → member n (d .jobs .ready) ≡ true) → F (d .jobs .ready) (i .candidates) Unchosen → (q : MaybeTask) → Best pr (d .jobs .ready) q → Waiting (choose d t i q)
+          go i w f NoTask b = record { table = h .table; ready = w; fate = rule .pass (d .jobs .ready) (i .candidates) (w refl) b f }
+          go i w f (Task q) b = record {
+            table = h .table;
+            ready = λ x. remove-in q (d .jobs .ready) n small x (w refl);
+            fate = rule .choose (d .jobs .ready) (i .candidates) q (later t (getD (d .table .copyin) q 0)) (w refl) b f;
+          }
+
+-- ---- two rules
+
+module _ (pr : List ℕ) (n : ℕ) where
+  -- a ready job, released and marked in the open interval, that is not lower than n's
+  pub record Rival (ready candidates : ℕ) : Type 0 where
+    pub who : ℕ
+    pub task : who < 32
+    pub is-ready : member who ready ≡ true
+    pub is-candidate : member who candidates ≡ true
+    pub high : getD pr who 0 ≤ getD pr n 0
+
+  -- a job that was released before the open interval: the next runs none that is lower
+  abbrev pub Bound : ℕ → ℕ → CopyIn → Type 0
+  Bound ready candidates Unchosen = Unit {0}
+  Bound ready candidates NoneChosen = Rival ready candidates
+  Bound ready candidates (Copying c until) = getD pr c 0 ≤ getD pr n 0
+  Bound ready candidates (Loaded c) = getD pr c 0 ≤ getD pr n 0
+  Bound ready candidates (Cancelled c) = Rival ready candidates
+
+  rival-heads : (ready candidates : ℕ) (q : MaybeTask) → Best pr (intersection candidates ready) q → Rival ready candidates → NotLower pr n q
+  rival-heads ready candidates NoTask b r =
+      clash (member (r .who) (intersection candidates ready)) (intersection-in candidates ready (r .who) (r .task) (r .is-candidate) (r .is-ready)) (b (r .who) (r .task))
+  rival-heads ready candidates (Task q) b r =
+      omega (arith, r .high, b .2 (r .who) (r .task) (intersection-in candidates ready (r .who) (r .task) (r .is-candidate) (r .is-ready)))
+
+  bound-more : (ready candidates ready′ candidates′ : ℕ) (c : CopyIn) → Sub ready ready′ → Sub candidates candidates′ → Bound ready candidates c → Bound ready′ candidates′ c
+  bound-more ready candidates ready′ candidates′ c r f b = go c b
+    where
+      rival : Rival ready candidates → Rival ready′ candidates′
+      rival h = record { who = h .who; task = h .task; is-ready = r (h .who) (h .task) (h .is-ready); is-candidate = f (h .who) (h .task) (h .is-candidate); high = h .high }
+
+      go : (c : CopyIn) → Bound ready candidates c → Bound ready′ candidates′ c
+      go Unchosen b = tt
+      go NoneChosen b = rival b
+      go (Copying c until) b = b
+      go (Loaded c) b = b
+      go (Cancelled c) b = rival b
+
+  pub rule-old : n < 32 → Rule pr n Bound (NotLower pr n)
+  rule-old small = record {
+    load = λ ready candidates c until h. h;
+    run = λ ready candidates c h. h;
+    none = rival-heads;
+    lost = λ ready candidates c q b h. rival-heads ready candidates q b h;
+    more = bound-more;
+    cancel = λ ready candidates c until q l m f less h. record { who = q; task = l; is-ready = insert-other c ready q l m; is-candidate = f; high = omega arith };
+    pass = λ ready candidates m b h. clash (member n ready) m (b n small);
+    choose = λ ready candidates q until m b h. b .2 n small m;
+  }
+
+  -- any other job: whatever the next interval runs, or what is loaded, has Q
+  module _ (Q : MaybeTask → Type 0) where
+    abbrev pub Any : ℕ → ℕ → CopyIn → Type 0
+    Any ready candidates Unchosen = (r : MaybeTask) → Q r
+    Any ready candidates NoneChosen = (r : MaybeTask) → Q r
+    Any ready candidates (Copying c until) = (r : MaybeTask) → Q r
+    Any ready candidates (Loaded c) = Q (Task c)
+    Any ready candidates (Cancelled c) = (r : MaybeTask) → Q r
+
+    pub rule-any : Rule pr n Any Q
+    rule-any = record {
+      load = λ ready candidates c until h. h (Task c);
+      run = λ ready candidates c h. h;
+      none = λ ready candidates q b h. h q;
+      lost = λ ready candidates c q b h. h q;
+      more = λ ready candidates ready′ candidates′ c r f h. go ready candidates ready′ candidates′ c h;
+      cancel = λ ready candidates c until q l m f less h. h;
+      pass = λ ready candidates m b h. h;
+      choose = λ ready candidates q until m b h. h;
+    }
+      where
+        go : (ready candidates ready′ candidates′ : ℕ) (c : CopyIn) → Any ready candidates c → Any ready′ candidates′ c
+        go ready candidates ready′ candidates′ Unchosen h = h
+        go ready candidates ready′ candidates′ NoneChosen h = h
+        go ready candidates ready′ candidates′ (Copying c until) h = h
+        go ready candidates ready′ candidates′ (Loaded c) h = h
+        go ready candidates ready′ candidates′ (Cancelled c) h = h
+
+  abbrev pub Old : Dispatcher → Type 0
+  Old d = Waiting pr n Bound (NotLower pr n) d
+
+  -- the intervals to come run none that is lower, up to the one that executes n's job
+  unfoldable pub Ahead : List MaybeTask → Type 0
+  Ahead [] = Unit {0}
+  Ahead (r ∷ rs) = NotLower pr n r × (executes n r ≡ false → Ahead rs)
+
+  -- the next interval has Q, and those after it run none that is lower
+  unfoldable pub Then : (MaybeTask → Type 0) → List MaybeTask → Type 0
+  Then Q [] = Unit {0}
+  Then Q (r ∷ rs) = Q r × (executes n r ≡ false → Ahead rs)
+
+  -- ---- an interval begins, and the calls to come
+
+  module _ (F : ℕ → ℕ → CopyIn → Type 0) (Q : MaybeTask → Type 0) (rule : Rule pr n F Q) (small : n < 32) where
+    abbrev W : Dispatcher → Type 0
+    W d = Waiting pr n F Q d
+
+    unfoldable pub Forth : List MaybeTask → Dispatcher → Type 0
+    Forth [] d = W d
+    Forth (r ∷ rs) d = (rs ≡ []) × Q r × (executes n r ≡ false → Old d)
+
+    begins-same : (t : ℕ) (p : Phase) → begins t p p ≡ []
+    unfolding begins
+    begins-same t (Between next outgoing) = refl
+    begins-same t (Within i) = refl
+
+    stays : (t : ℕ) (d : Dispatcher) → W d → Forth (intervals (begins t (d .phase) (d .phase))) d
+    stays t d h = rw (begins-same t (d .phase)) (unfold intervals Forth in h)
+
+    begun : (t : ℕ) (p q : Phase) (next : Next) (outgoing : Outgoing) (x : Processor) (d : Dispatcher) → p ≡ Between next outgoing → Opened x q
+        → Q (processor-task x) → (executes n (processor-task x) ≡ false → Old d) → Forth (intervals (begins t p q)) d
+    unfolding begins intervals Forth
+    begun t p (Between y z) next outgoing x d e o h k = absurd o
+    begun t p (Within j) next outgoing x d e o h k = subst (λ (p : Phase). Forth (intervals (begins t p (Within j))) d) (sym e) (refl, rw o h, λ y. k (rw o at y))
+
+    g-waiting : (t new : ℕ) (f : Dispatcher) → W f → Forth (intervals (begins t (f .phase) (step-g f t new (f .phase) .phase))) (step-g f t new (f .phase))
+    unfolding begin
+    g-waiting t new f h =
+        g-cases (λ x. Forth (intervals (begins t (f .phase) (x .phase))) x) f t new (λ i e. stays t f h) (λ next outgoing e w. stays t f h)
+        (λ next outgoing e w.
+        let b : Dispatcher = begin f t new next outgoing in
+        let r : processor-task (begin-processor (f .table) t next) ≡ next-task next = runs (f .table) t next in
+        begun t (f .phase) (step-e b t (b .phase) .phase) next outgoing (begin-processor (f .table) t next) (step-e b t (b .phase)) e
+        (e-opens b t (begin-processor (f .table) t next) refl)
+        (rw r (fate-at pr n F Q rule small f e h))
+        (λ y. e-waiting pr n Bound (NotLower pr n) (rule-old small) small t b
+        (record { table = h .table; ready = λ z. ready-at pr n F Q rule small f e h (rw r at y); fate = tt })))
+
+    -- the steps together
+    from-e : (d : Dispatcher) (t set : ℕ) → W (at-e d t set) → Forth (intervals (begins t (at-f d t set .state .phase) (at-g d t set .phase))) (at-g d t set)
+    unfolding at-f at-g
+    from-e d t set h =
+        g-waiting t (held-at d t set) (at-f d t set .state) (b-waiting pr n F Q rule small t (record { state = at-e d t set; done = at-b d t .done; closed = at-b d t .closed }) h)
+
+    pub from-c : (d : Dispatcher) (t set : ℕ) → W (step-c (at-b d t .state) t (new-at d t set)) → W (at-e d t set)
+    unfolding at-e
+    from-c d t set h =
+        let new : ℕ = new-at d t set in
+        let c : Dispatcher = step-c (at-b d t .state) t new in
+        e-waiting pr n F Q rule small t (step-d c new (c .phase)) (d-waiting pr n F Q rule small new c (c-new (at-b d t .state) t new) h)
+
+    instant : (d : Dispatcher) (t set : ℕ) → W d → Forth (intervals (begins t (at-f d t set .state .phase) (at-g d t set .phase))) (at-g d t set)
+    unfolding at-b at-a
+    instant d t set h =
+        from-e d t set (from-c d t set (c-waiting pr n F Q rule small t (new-at d t set) (at-b d t .state)
+        (b-waiting pr n F Q rule small t (at-a d t) (a-waiting pr n F Q rule small t (at-clock d t) (record { table = h .table; ready = h .ready; fate = h .fate })))))
+
+    join : (rs later : List MaybeTask) (g : Dispatcher) → Forth rs g → (W g → Then Q later) → (Old g → Ahead later) → Then Q (rs ++ later)
+    unfolding Forth Then
+    join [] later g h k a = k h
+    join (r ∷ rs) later g h k a = (h .1, λ e. subst (λ (x : List MaybeTask). Ahead (x ++ later)) (sym (h .0)) (a (h .2 e)))
+
+    pub to-come : (d : Dispatcher) (t set : ℕ) (rest : List Event) → W (at-e d t set) → (W (at-g d t set) → Then Q (intervals rest)) → (Old (at-g d t set) → Ahead (intervals rest))
+        → Then Q (intervals (begins t (at-f d t set .state .phase) (at-g d t set .phase)) ++ intervals rest)
+    to-come d t set rest h k a = join (intervals (begins t (at-f d t set .state .phase) (at-g d t set .phase))) (intervals rest) (at-g d t set) (from-e d t set h) k a
+
+    step : (d : Dispatcher) (t set : ℕ) (rest : List Event) → W d → (W (at-g d t set) → Then Q (intervals rest)) → (Old (at-g d t set) → Ahead (intervals rest))
+        → Then Q (intervals (happens d t set ++ rest))
+    step d t set rest h k a =
+        rw (happens-intervals d t set rest)
+        (join (intervals (begins t (at-f d t set .state .phase) (at-g d t set .phase))) (intervals rest) (at-g d t set) (instant d t set h) k a)
+
+  module _ (small : n < 32) where
+    then-ahead : (rs : List MaybeTask) → Then (NotLower pr n) rs → Ahead rs
+    unfolding Then Ahead
+    then-ahead [] h = tt
+    then-ahead (r ∷ rs) h = h
+
+    ahead-then : (rs : List MaybeTask) → Ahead rs → Then (NotLower pr n) rs
+    unfolding Then Ahead
+    ahead-then [] h = tt
+    ahead-then (r ∷ rs) h = h
+
+    old-step : (d : Dispatcher) (t set : ℕ) (rest : List Event) → (Old (at-g d t set) → Ahead (intervals rest)) → Old d → Ahead (intervals (happens d t set ++ rest))
+    old-step d t set rest k o =
+        then-ahead (intervals (happens d t set ++ rest))
+        (step Bound (NotLower pr n) (rule-old small) small d t set rest o (λ g. ahead-then (intervals rest) (k g)) k)
+
+    -- a job that was released in an interval before the open one
+    pub ahead : (d : Dispatcher) (cs : List Call) → Old d → Ahead (intervals (history d cs))
+    ahead d cs =
+        walk (λ d h. Old d → Ahead (intervals h)) (λ d o. unfold Ahead intervals in tt)
+        (λ d t set cs e k o. old-step d t set (history (at-g d t set) cs) k o)
+        (λ d n m h e k o. k (record { table = o .table; ready = o .ready; fate = o .fate }))
+        cs d
+
+    -- and one of the open interval
+    pub soon : (F : ℕ → ℕ → CopyIn → Type 0) (Q : MaybeTask → Type 0) (rule : Rule pr n F Q) (d : Dispatcher) (cs : List Call) → Waiting pr n F Q d → Then Q (intervals (history d cs))
+    soon F Q rule d cs =
+        walk (λ d h. Waiting pr n F Q d → Then Q (intervals h)) (λ d o. unfold Then intervals in tt)
+        (λ d t set cs e k o. step F Q rule small d t set (history (at-g d t set) cs) o k (ahead (at-g d t set) cs))
+        (λ d n m h e k o. k (record { table = o .table; ready = o .ready; fate = o .fate }))
+        cs d

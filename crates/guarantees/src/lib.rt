@@ -1,0 +1,11 @@
+// Demand 3, for every list of instants and mark calls: its statement is in specs/, its proof in proofs/. Whoever opens a dispatcher
+// here holds it.
+use dispatcher::Opening;
+ghost use Rattle.guarantees.specs.Claim.{OpenedWithClaim};
+
+// A dispatcher from the task entries, or the first refusal. Of every list of calls from a state that is handed out here the claim holds.
+pub fn open(s: &[u8]) -> Opening
+    ensures { λ r. ⌜ OpenedWithClaim (now (s .entry)) r ⌝ }
+{
+    dispatcher::open(s)
+}

@@ -1,0 +1,112 @@
+-- The printed lines, as bytes: a letter, the fields of document 01's entries in decimal and in body order, one space between, `-` for
+-- no task, a newline.
+use mathlib.Core.Bool.{cond}
+use mathlib.Core.List.{List, [], _∷_, _++_}
+use Prim.Native.Nat.{ℕ, zero, suc, _+_, _/_, _%_}
+use lib.Dec.{ltb}
+use Rattle.dispatcher.specs.Answers.{mark-number, refusal-number, refusal-place}
+use Rattle.lines.specs.Types.{MaybeTask, NoTask, Task, JobEntry, IntervalEntry, Refusal, NoRefusal, Alone, AtEntry, Done, NoJob, Job, Closing, Unclosed, BeforeReleases, AfterReleases, Due, Never, Tick, Occurred, Answer, Refused, Served, MarkAnswer, MarkRefused, MarkServed}
+
+-- ---- Fields
+
+-- the decimal digits of a number, highest first, as far as a count of them goes: byte 48 is `0`
+unfoldable pub digits : ℕ → ℕ → List ℕ
+digits zero n = []
+digits (suc most) n =
+    let higher : List ℕ = digits most (n / 10) in
+    cond (ltb n 10) ((48 + n) ∷ []) (higher ++ ((48 + n % 10) ∷ []))
+
+-- and all of them: a number n has no more than n + 1
+unfoldable pub decimal : ℕ → List ℕ
+decimal n = digits (suc n) n
+
+-- a space, and the number
+abbrev pub field : ℕ → List ℕ
+field n = 32 ∷ decimal n
+
+-- a space, and `-`
+abbrev pub no-field : List ℕ
+no-field = 32 ∷ 45 ∷ []
+
+abbrev pub task-field : MaybeTask → List ℕ
+task-field NoTask = no-field
+task-field (Task n) = field n
+
+abbrev pub due-field : Due → List ℕ
+due-field Never = no-field
+due-field (Tick t) = field t
+
+abbrev pub newline : List ℕ
+newline = 10 ∷ []
+
+-- ---- Entries of the record
+
+-- J, kind 16: task, release, execution start, completion, blocked intervals
+unfoldable pub job-line : JobEntry → List ℕ
+job-line e =
+    74 ∷ (field (e .task) ++ (field (e .release) ++ (field (e .start) ++ (field (e .completion) ++ (field (e .blocked) ++ newline)))))
+
+-- I, kind 17: begin, end, processor's half, processor's task, work, task copied out, task chosen for copy-in, its fate, task promoted
+-- at the end
+unfoldable pub interval-line : IntervalEntry → List ℕ
+interval-line e =
+    73 ∷ (field (e .begin) ++ (field (e .end) ++ (field (e .half) ++ (task-field (e .task) ++ (field (e .work)
+    ++ (task-field (e .copiedout) ++ (task-field (e .chosen) ++ (field (e .fate) ++ (task-field (e .promoted) ++ newline)))))))))
+
+-- S, kind 18: task, time
+unfoldable pub skipped-line : ℕ → ℕ → List ℕ
+skipped-line task time = 83 ∷ (field task ++ (field time ++ newline))
+
+-- ---- Refusals
+
+-- R: the number and the place of a refused input, 0 where there is no place
+unfoldable pub refused-input-line : Refusal → List ℕ
+refused-input-line r = 82 ∷ (field (refusal-number r) ++ (field (refusal-place r) ++ newline))
+
+-- R: the number alone of a refused call
+unfoldable pub refused-call-line : ℕ → List ℕ
+refused-call-line n = 82 ∷ (field n ++ newline)
+
+-- ---- Answers
+
+-- O: a dispatcher has opened
+abbrev pub opened-line : List ℕ
+opened-line = 79 ∷ newline
+
+-- M: a mark call was served
+abbrev pub marked-line : List ℕ
+marked-line = 77 ∷ newline
+
+-- X: a call is cut short, or is none
+abbrev pub cut-short-line : List ℕ
+cut-short-line = 88 ∷ newline
+
+-- A: the set skipped and the next due time, `-` where nothing is due
+unfoldable pub answer-line : Occurred → List ℕ
+answer-line o = 65 ∷ (field (o .skipped) ++ (due-field (o .due) ++ newline))
+
+abbrev pub done-lines : Done → List ℕ
+done-lines NoJob = []
+done-lines (Job e) = job-line e
+
+abbrev pub closing-lines : Closing → List ℕ
+closing-lines Unclosed = []
+closing-lines (BeforeReleases e) = interval-line e
+closing-lines (AfterReleases e) = interval-line e
+
+-- what occurred at a served instant, in that order: the job done (step a), the interval closed (step b or f), the answer
+unfoldable pub served-lines : Occurred → List ℕ
+served-lines o = done-lines (o .done) ++ (closing-lines (o .closed) ++ answer-line o)
+
+abbrev pub instant-lines : Answer → List ℕ
+instant-lines (Refused n) = refused-call-line n
+instant-lines (Served o) = served-lines o
+
+abbrev pub mark-lines : MarkAnswer → List ℕ
+mark-lines MarkServed = marked-line
+mark-lines (MarkRefused n) = refused-call-line (mark-number (MarkRefused n))
+
+abbrev pub opening-lines : Refusal → List ℕ
+opening-lines NoRefusal = opened-line
+opening-lines (Alone n) = refused-input-line (Alone n)
+opening-lines (AtEntry n at) = refused-input-line (AtEntry n at)

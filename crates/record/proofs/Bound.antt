@@ -1,0 +1,43 @@
+-- No record is longer than 99 bytes for each release of its file: one that is taken has a job done, of 27 bytes, and at most three intervals, of 24
+-- bytes each; one that is skipped has 10.
+use mathlib.Core.Path.{_≡_, refl}
+use mathlib.Core.List.{List}
+use Prim.Native.Nat.{ℕ, _*_, _≤_}
+use native.Mathlib.Omega.{arith}
+use lib.ListN.{length}
+use Rattle.table.specs.Tasks.{tasks-of}
+use Rattle.dispatcher.specs.Calls.{opened}
+use Rattle.guarantees.specs.Types.{Table, Dispatcher}
+use Rattle.guarantees.proofs.Count.{at-most-three}
+use Rattle.record.specs.Types.{Release}
+use Rattle.record.specs.Files.{Releases, releases-of}
+use Rattle.record.specs.Run.{budget, record-bytes, moments-of}
+use Rattle.record.proofs.Accepted.{Accepted, accepted}
+use Rattle.record.proofs.Lengths.{length-record}
+use Rattle.record.proofs.Ends.{is-open}
+use Rattle.record.proofs.Feeding.{Fed}
+use Rattle.record.proofs.FileClaim.{fed, completed}
+
+none-open : (table : Table) (marks : ℕ) → is-open (opened table marks .phase) ≡ 0
+unfolding opened
+none-open table marks = refl
+
+pub record-bound : (s : List ℕ) (rs : List Release) → releases-of s ≡ Releases rs → length (record-bytes (moments-of s rs)) ≤ 99 * length rs
+record-bound s rs h =
+    let a : Accepted s rs = accepted s rs h in
+    let d : Dispatcher = opened (tasks-of s .table) (tasks-of s .marked) in
+    let f : Fed (budget (length rs)) d rs (moments-of s rs) = fed s rs a in
+    omega (
+      arith,
+      length-record (moments-of s rs),
+      f .releases,
+      f .jobs,
+      f .intervals,
+      completed s rs a .as-many,
+      none-open (tasks-of s .table) (tasks-of s .marked),
+      at-most-three (tasks-of s .table) (tasks-of s .marked) (f .calls),
+    )
+
+-- so a slice of 405,504 bytes is long enough for every record
+pub record-fits : (s : List ℕ) (rs : List Release) → releases-of s ≡ Releases rs → length (record-bytes (moments-of s rs)) ≤ 405504
+record-fits s rs h = omega (arith, record-bound s rs h, accepted s rs h .few)

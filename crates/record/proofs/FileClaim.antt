@@ -1,0 +1,94 @@
+-- Demand 3 for files: the claim holds of every input that is accepted.
+use mathlib.Core.Path.{_≡_, refl, sym, ap, _∙_, subst}
+use mathlib.Core.List.{List, [], _∷_, append-nil}
+use Prim.Native.Nat.{ℕ}
+use native.Mathlib.Omega.{arith}
+use lib.ListN.{length}
+use Rattle.sets.specs.Laws.{size-none}
+use Rattle.table.specs.Tasks.{tasks-of}
+use Rattle.dispatcher.specs.Instant.{due, sooner}
+use Rattle.dispatcher.specs.Calls.{opened}
+use Rattle.guarantees.specs.Types.{Dispatcher, Due, Never, Tick}
+use Rattle.guarantees.specs.History.{Call, Instant, after-call, after-calls, history, EmptySets}
+use Rattle.guarantees.specs.Claim.{AllCompleted}
+use Rattle.guarantees.proofs.Invariant.{mass, good-opened}
+use Rattle.record.specs.Types.{Release}
+use Rattle.record.specs.Run.{first-time, released-at, released-after, budget, moments-of}
+use Rattle.record.specs.FileClaim.{Feeds, FedClaim, Demand3Files}
+use Rattle.record.proofs.Accepted.{Accepted, accepted}
+use Rattle.record.proofs.TasksAlone.{opens, fair, claim}
+use Rattle.record.proofs.Feeding.{Fit, Fed, feeding}
+
+-- ---- there is one way to feed a file
+
+not-over : (d : Dispatcher) (rs : List Release) (t : ℕ) → rs ≡ [] → due (d .phase) ≡ Never → sooner (first-time rs) (due (d .phase)) ≡ Tick t → ⊥
+unfolding sooner
+not-over d rs t e h x =
+    let y : Never ≡ Tick t = subst (λ (u : Due). sooner Never u ≡ Tick t) h (subst (λ (qs : List Release). sooner (first-time qs) (due (d .phase)) ≡ Tick t) e x) in
+    let z : _≡_ {A = ℕ} 0 1 = cc in
+    omega arith
+
+one-feed : (cs es : List Call) (d : Dispatcher) (rs : List Release) → Feeds d rs cs → Feeds d rs es → cs ≡ es
+unfolding Feeds
+one-feed [] [] d rs h g = refl
+one-feed [] (e ∷ es) d rs h g = absurd (not-over d rs (g .0) (h .0) (h .1) (g .1))
+one-feed (c ∷ cs) [] d rs h g = absurd (not-over d rs (h .0) (g .0) (g .1) (h .1))
+one-feed (c ∷ cs) (e ∷ es) d rs h g =
+    let t : h .0 ≡ g .0 = same (h .0) (g .0) (sym (h .1) ∙ g .1) in
+    let x : c ≡ e = h .2 ∙ ap (λ (u : ℕ). Instant u (released-at u rs)) t ∙ sym (g .2) in
+    ap (λ (l : List Call). c ∷ l)
+    (one-feed cs es (after-call d c) (released-after (h .0) rs) (h .3)
+    (subst (λ (u : ℕ). Feeds (after-call d c) (released-after u rs) es) (sym t) (subst (λ (y : Call). Feeds (after-call d y) (released-after (g .0) rs) es) (sym x) (g .3))))
+    ∙ ap (λ (y : Call). y ∷ es) x
+  where
+    same : (t u : ℕ) → Tick t ≡ Tick u → t ≡ u
+    same t u e = cc
+
+-- ---- the file's run
+
+module _ (s : List ℕ) (rs : List Release) (a : Accepted s rs) where
+  abbrev d : Dispatcher
+  d = opened (tasks-of s .table) (tasks-of s .marked)
+
+  fit : Fit (tasks-of s .table) (tasks-of s .marked) (fair s rs a) (opened (tasks-of s .table) (tasks-of s .marked)) rs
+  fit = record { good = good-opened (tasks-of s .table) (tasks-of s .marked) (fair s rs a); sorted = a .sorted; ahead = unfold opened in tt }
+
+  none-yet : mass (opened (tasks-of s .table) (tasks-of s .marked)) ≡ 0
+  unfolding mass opened
+  none-yet = omega (arith, size-none)
+
+  -- a run has at most 25 instants for each release
+  pub fed : Fed (budget (length rs)) (opened (tasks-of s .table) (tasks-of s .marked)) rs (moments-of s rs)
+  unfolding moments-of
+  fed = feeding (tasks-of s .table) (tasks-of s .marked) (fair s rs a) (budget (length rs)) d rs fit (omega (arith, none-yet))
+
+  pub completed : AllCompleted (history (opened (tasks-of s .table) (tasks-of s .marked)) (fed .calls))
+  completed =
+      subst (λ (cs : List Call). AllCompleted (history d cs)) (append-nil (fed .calls))
+      (claim s rs a (fed .calls) .complete-every-job [] (unfold EmptySets in fed .rests))
+
+  fed-claim : FedClaim (opened (tasks-of s .table) (tasks-of s .marked)) rs (moments-of s rs) (fed .calls)
+  fed-claim = record {
+    all-served = fed .all-served;
+    gives-record = fed .gives;
+    within-budget = fed .within;
+    claim = claim s rs a (fed .calls);
+    nothing-pending =
+        subst (λ (cs : List Call). after-calls d cs .jobs .pending ≡ 0) (append-nil (fed .calls))
+        (claim s rs a (fed .calls) .nothing-pending [] (unfold EmptySets in fed .rests));
+    complete-every-job = completed;
+    taken-or-skipped = fed .releases;
+    an-entry-each = fed .jobs ∙ completed .as-many;
+  }
+
+pub demand-3-files : Demand3Files
+unfolding Demand3Files
+demand-3-files s rs h =
+    let a : Accepted s rs = accepted s rs h in
+    let d : Dispatcher = opened (tasks-of s .table) (tasks-of s .marked) in
+    let f : Fed (budget (length rs)) d rs (moments-of s rs) = fed s rs a in
+    record {
+      opens = opens s rs a;
+      come-to-an-end = (f .calls, f .feeds);
+      of-the-feed = λ cs g. subst (FedClaim d rs (moments-of s rs)) (one-feed (f .calls) cs d rs (f .feeds) g) (fed-claim s rs a);
+    }

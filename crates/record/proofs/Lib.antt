@@ -1,0 +1,13 @@
+pub mod Reading
+pub mod Cursor
+pub mod Writing
+pub mod Running
+pub mod Accepted
+pub mod Released
+pub mod Lengths
+pub mod Ends
+pub mod TasksAlone
+pub mod Feeding
+pub mod FileClaim
+pub mod Bound
+pub mod Outcomes

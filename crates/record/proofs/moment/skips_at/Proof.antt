@@ -1,0 +1,70 @@
+-- `record::skips_at` meets its contract: the skipped releases of the tasks passed are laid. Assumes nothing.
+use mathlib.Core.Path.{_≡_, refl}
+use Prim.Native.Nat.{ℕ, _-_}
+use native.Mathlib.Omega.{arith}
+use lib.ListN.{length}
+use Rattle.sets.specs.Sets.{lowest}
+use Rattle.sets.specs.Laws.{lowest-none}
+use Rattle.dispatcher.proofs.Members.{Left, start, turn, falls}
+use Rattle.record.specs.Run.{skips-bytes}
+use Rattle.record.specs.Advance.{Laid}
+use Rattle.record.proofs.Writing.{none, both, skips-none, skips-room, skips-turn}
+use borrow.Author.Needs.{needs}
+use Rattle.record.proofs.moment.skips_at.Statement.{statement}
+use Rattle.record.proofs.moment.skips_at.Tie as tie
+
+abbrev Inv-loop : tie.InvT-loop
+Inv-loop out₀ start set time at₀ left₀ out at left =
+    Left set left × Laid start (skips-bytes (lowest left) set time) out₀ at out × (length out ≡ length out₀)
+
+abbrev μ-loop : tie.MeasureT-loop
+μ-loop out₀ start set time at₀ left₀ out at left = 32 - lowest left
+
+loop-holds : tie.Need-loop-holds Inv-loop μ-loop
+loop-holds c = let a = c .before .args in (start (c .before .fits .set .fits), rw (skips-none (a .set) (a .time)) (none (a .start) (a .out .now)), refl)
+
+lowest-requires : tie.Need-lowest-requires Inv-loop μ-loop
+lowest-requires c κs = search needs
+
+skipped-at-requires : tie.Need-skipped-at-requires Inv-loop μ-loop
+skipped-at-requires c κs =
+    let a = c .before .before .before .before .before .args in let v = c .before .before .before .loop in
+    let x = turn (v .inv .0) (c .before .before .loop-test .taken) (c .before .lowest .ensures) refl in
+    rw (v .inv .2) (skips-room (a .set) (v .left) _ _ (a .time) x (a .start) (v .at) (length (a .out .now)) (v .inv .1 .place-is) (c .before .before .before .before .before .pre))
+
+remove-requires : tie.Need-remove-requires Inv-loop μ-loop
+remove-requires c κs = search needs
+
+loop-less : tie.Need-loop-less Inv-loop μ-loop
+loop-less c = let a = c .before .before .before .before .before .before .before .before .before .args in let v = c .before .before .before .before .before .before .before .loop in falls (v .inv .0) (c .before .before .before .before .before .before .loop-test .taken) (c .before .before .before .before .before .lowest .ensures) (c .remove .ensures)
+
+loop-again : tie.Need-loop-again Inv-loop μ-loop
+loop-again c =
+    let a = c .before .before .before .before .before .before .before .before .before .args in let v = c .before .before .before .before .before .before .before .loop in
+    let x = turn (v .inv .0) (c .before .before .before .before .before .before .loop-test .taken) (c .before .before .before .before .before .lowest .ensures) (c .remove .ensures) in
+    let y = c .before .before .before .skipped-at .ensures in (
+      x .next,
+      rw (skips-turn (a .set) (v .left) _ _ (a .time) x) (both (a .start) _ _ (a .out .now) (v .at) (v .out) _ _ (omega (arith, c .before .before .before .before .before .before .before .before .before .pre)) (v .inv .1) y),
+      search needs,
+    )
+
+same-length : tie.Need-same-length Inv-loop μ-loop
+same-length c = c .before .loop .inv .2
+
+returns : tie.Need-returns Inv-loop μ-loop
+returns c = let v = c .before .loop in rw (c .loop-test .left, lowest-none) at (v .inv .1)
+
+pub skips-at-spec : {M : Type 1} → statement M
+skips-at-spec =
+    tie.close
+    (tie.spec
+    Inv-loop
+    μ-loop
+    loop-holds
+    lowest-requires
+    skipped-at-requires
+    remove-requires
+    loop-less
+    loop-again
+    same-length
+    returns)

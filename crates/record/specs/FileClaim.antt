@@ -1,0 +1,101 @@
+-- Demand 3 for files: the claim about the run of every file that is accepted. What stands between quotation marks is document 01; beside each quotation
+-- stands what it says of a run.
+use mathlib.Core.Path.{_≡_}
+use Prim.Native.Nat.{_<_}
+use lib.ListN.{length, take}
+use Rattle.record.specs.Types.{List, [], _∷_, _++_, ℕ, _+_, Release, Tasks, NoRefusal, Dispatcher, Done, NoJob, Job, Closing, Unclosed, BeforeReleases, AfterReleases, Never, Tick, Outcome}
+use Rattle.sets.specs.Laws.{size}
+use Rattle.table.specs.Tasks.{tasks-of}
+use Rattle.dispatcher.specs.Instant.{due, sooner}
+use Rattle.dispatcher.specs.Calls.{opened, opening, refusal, instant}
+use Rattle.guarantees.specs.History.{Call, Instant, Mark, after-call, after-calls, history}
+use Rattle.guarantees.specs.Reading.{total, is-take}
+use Rattle.guarantees.specs.Claim.{Claim, AllCompleted}
+use Rattle.record.specs.Files.{Releases, releases-of}
+use Rattle.record.specs.Run.{Moment, moment, first-time, released-at, released-after, budget, moments-of, Wrote, file}
+
+-- ---- The calls that feed a file to the dispatcher by instants
+
+-- "Feeding a file's releases and all due times, with no mark call": each call is an instant at the sooner of the next release and the next due
+-- time, with the set released then, until no release is left and nothing is due
+unfoldable pub Feeds : Dispatcher → List Release → List Call → Type 0
+Feeds d rs [] = (rs ≡ []) × (due (d .phase) ≡ Never)
+Feeds d rs (c ∷ cs) =
+    (t : ℕ) × (sooner (first-time rs) (due (d .phase)) ≡ Tick t) × (c ≡ Instant t (released-at t rs)) × Feeds (after-call d c) (released-after t rs) cs
+
+-- what calls answer: the instants that are served, with what occurred
+unfoldable pub answers : Dispatcher → List Call → List Moment
+answers d [] = []
+answers d (Instant t set ∷ cs) = moment t (instant d t set .answer) ++ answers (after-call d (Instant t set)) cs
+answers d (Mark n m ∷ cs) = answers (after-call d (Mark n m)) cs
+
+-- each is an instant that meets no row of the refusals
+unfoldable pub AllServed : Dispatcher → List Call → Type 0
+AllServed d [] = Unit {0}
+AllServed d (Instant t set ∷ cs) = (refusal d t set ≡ 0) × AllServed (after-call d (Instant t set)) cs
+AllServed d (Mark n m ∷ cs) = ⊥
+
+-- ---- How many entries of a kind a record has
+
+abbrev pub is-job : Done → ℕ
+is-job NoJob = 0
+is-job (Job e) = 1
+
+abbrev pub is-interval : Closing → ℕ
+is-interval Unclosed = 0
+is-interval (BeforeReleases e) = 1
+is-interval (AfterReleases e) = 1
+
+-- kind 16
+unfoldable pub jobs-done : List Moment → ℕ
+jobs-done [] = 0
+jobs-done (m ∷ ms) = is-job (m .occurred .done) + jobs-done ms
+
+-- kind 17
+unfoldable pub intervals-ended : List Moment → ℕ
+intervals-ended [] = 0
+intervals-ended (m ∷ ms) = is-interval (m .occurred .closed) + intervals-ended ms
+
+-- kind 18
+unfoldable pub releases-skipped : List Moment → ℕ
+releases-skipped [] = 0
+releases-skipped (m ∷ ms) = size (m .occurred .skipped) + releases-skipped ms
+
+-- ---- The claim
+
+-- of the calls that feed the releases rs to the dispatcher d, where the file's run has the moments ms
+pub record FedClaim (d : Dispatcher) (rs : List Release) (ms : List Moment) (calls : List Call) : Type 0 where
+  -- "A call that meets no row is served": every one of them is
+  pub all-served : AllServed d calls
+  -- "gives its record": what they answer is what the record is made of
+  pub gives-record : answers d calls ≡ ms
+  -- no run is cut off: it has fewer instants than its budget
+  pub within-budget : length calls < budget (length rs)
+  -- demand 3 of this list of calls, "lists of calls and files alike"
+  pub claim : Claim d calls
+  -- "The run goes on until nothing is pending."
+  pub nothing-pending : after-calls d calls .jobs .pending ≡ 0
+  -- the run completes all N, "N is the number of releases taken in the list or the file"
+  pub complete-every-job : AllCompleted (history d calls)
+  -- each release of the file is one of those, or skipped
+  pub taken-or-skipped : total is-take (history d calls) + releases-skipped ms ≡ length rs
+  -- and the record has an entry for each of the N
+  pub an-entry-each : jobs-done ms ≡ total is-take (history d calls)
+
+-- of a file's bytes and its releases
+pub record FileClaim (s : List ℕ) (rs : List Release) (d : Dispatcher) : Type 0 where
+  -- "It opens from the task entries alone."
+  pub opens : opening (take (tasks-of s .end) s) ≡ record { state = d; refusal = NoRefusal }
+  pub come-to-an-end : (calls : List Call) × Feeds d rs calls
+  pub of-the-feed : (calls : List Call) → Feeds d rs calls → FedClaim d rs (moments-of s rs) calls
+
+-- for every input that is accepted
+unfoldable pub Demand3Files : Type 0
+Demand3Files = (s : List ℕ) (rs : List Release) → releases-of s ≡ Releases rs → let k : Tasks = tasks-of s in FileClaim s rs (opened (k .table) (k .marked))
+
+-- ---- The claim on a promise
+
+-- what comes of an input and a lent slice, and the claim for the run of the input where it is accepted
+pub record WroteWithClaim (s before : List ℕ) (outcome : Outcome) (after : List ℕ) : Type 0 where
+  pub wrote : Wrote (file s before) outcome after
+  pub claim : (rs : List Release) → releases-of s ≡ Releases rs → FileClaim s rs (opened (tasks-of s .table) (tasks-of s .marked))

@@ -1,0 +1,167 @@
+-- `tasks-from` by cases, one law for each way that a turn of the reading goes, and the search for a priority given before. Assumes nothing.
+use mathlib.Core.Path.{_≡_, refl, sym, ap, _∙_}
+use mathlib.Core.Bool.{Bool, true, false, cond, _&&_, _||_, false≢true}
+use mathlib.Core.List.{List}
+use Prim.Native.Nat.{ℕ, zero, suc, _+_, _-_, _^_, _≤_, _<_}
+use native.Mathlib.Nat.{not-suc-le-zero}
+use native.Mathlib.Omega.{arith}
+use borrow.Author.Tests.{eqb-true, eq-eqb, ne-eqb, leb-true, le-leb, lt-leb, ltb-false}
+use lib.Dec.{eqb, leb, ltb}
+use lib.ListN.{length, getD}
+use Rattle.sets.specs.Sets.{member, remove}
+use Rattle.sets.specs.Laws.{by-test, clash, none, both, either-left, either-right, remove-in, remove-out, remove-small}
+use Rattle.words.specs.Words.{numberAt}
+use Rattle.entries.specs.Entries.{entry-at, release-at}
+use Rattle.table.specs.Types.{TaskParameters, Release, Entry, Malformed, TaskEntry, ReleaseEntry, Table, Tasks}
+use Rattle.table.specs.Tasks.{behind-tasks, given, number-refused, mark-or-length-refusal, task-refusal, with-task, with-marked, refused-at, read-to, tasks-from, tasks-of}
+
+-- ---- a turn of the reading
+
+module _ (s : List ℕ) (at : ℕ) where
+  pub behind-end : length s ≤ at → behind-tasks s at ≡ true
+  unfolding behind-tasks
+  behind-end h = rw (le-leb (length s) at h)
+
+  pub behind-release : numberAt 1 s at ≡ 2 → behind-tasks s at ≡ true
+  unfolding behind-tasks
+  behind-release h = either-right (leb (length s) at) (eqb (numberAt 1 s at) 2) (eq-eqb (numberAt 1 s at) 2 h)
+
+  pub before-release : at < length s → (numberAt 1 s at ≡ 2 → ⊥) → behind-tasks s at ≡ false
+  unfolding behind-tasks
+  before-release l h = rw (lt-leb (length s) at l, ne-eqb (numberAt 1 s at) 2 h)
+
+  -- a task entry is whole
+  pub task-whole : (p : TaskParameters) → entry-at s at ≡ TaskEntry p → 16 ≤ length s - at
+  unfolding entry-at
+  task-whole p e =
+      by-test (eqb (numberAt 1 s at) 1)
+      (λ a. by-test (leb 16 (length s - at)) (λ b. leb-true 16 (length s - at) b) (λ b. absurd (other 1 (rw (a, b) at e))))
+      (λ a. by-test (eqb (numberAt 1 s at) 2)
+      (λ b. by-test (leb 10 (length s - at)) (λ d. absurd (release (release-at s at) (rw (a, b, d) at e))) (λ d. absurd (other 1 (rw (a, b, d) at e))))
+      (λ b. absurd (other 2 (rw (a, b) at e))))
+    where
+      other : (n : ℕ) → Malformed n ≡ TaskEntry p → ⊥
+      other n h = let z : _≡_ {A = ℕ} 0 1 = cc in omega arith
+
+      release : (r : Release) → ReleaseEntry r ≡ TaskEntry p → ⊥
+      release r h = let z : _≡_ {A = ℕ} 0 1 = cc in omega arith
+
+module _ (s : List ℕ) (at : ℕ) (t : Table) (m : ℕ) where
+  pub at-end : (k : ℕ) → behind-tasks s at ≡ true → tasks-from k s at t m ≡ read-to t m at
+  unfolding tasks-from
+  at-end zero h = refl
+  at-end (suc k) h = rw (h, tasks-from)
+
+  module _ (k : ℕ) (more : behind-tasks s at ≡ false) where
+    pub malformed : (n : ℕ) → entry-at s at ≡ Malformed n → tasks-from (suc k) s at t m ≡ refused-at n at
+    unfolding tasks-from
+    malformed n e = rw (more, tasks-from, e)
+
+    pub released : (r : Release) → entry-at s at ≡ ReleaseEntry r → tasks-from (suc k) s at t m ≡ read-to t m at
+    unfolding tasks-from
+    released r e = rw (more, tasks-from, e)
+
+    pub refuses : (p : TaskParameters) (n : ℕ) → entry-at s at ≡ TaskEntry p → task-refusal t p ≡ n → (n ≡ 0 → ⊥) → tasks-from (suc k) s at t m ≡ refused-at n at
+    unfolding tasks-from
+    refuses p zero e r h = absurd (h refl)
+    refuses p (suc n) e r h = rw (more, tasks-from, e, r)
+
+    pub takes : (p : TaskParameters) → entry-at s at ≡ TaskEntry p → task-refusal t p ≡ 0
+        → tasks-from (suc k) s at t m ≡ tasks-from k s (at + 16) (with-task t p) (with-marked m p)
+    unfolding tasks-from
+    takes p e r = rw (more, tasks-from, e, r)
+
+-- what is left to read, read from here, gives what the whole gives
+pub record Rest (s : List ℕ) (at : ℕ) (t : Table) (m : ℕ) : Type 0 where
+  pub fuel : ℕ
+  pub enough : length s - at ≤ fuel
+  pub same : tasks-from fuel s at t m ≡ tasks-of s
+
+module _ (s : List ℕ) (at : ℕ) (t : Table) (m : ℕ) (rest : Rest s at t m) (l : at < length s) where
+  pub turn : (x : Tasks) → ((k : ℕ) → tasks-from (suc k) s at t m ≡ x) → x ≡ tasks-of s
+  turn x h = go (rest .fuel) (rest .enough) (rest .same)
+    where
+      go : (k : ℕ) → length s - at ≤ k → tasks-from k s at t m ≡ tasks-of s → x ≡ tasks-of s
+      go zero e q = absurd (omega arith)
+      go (suc k) e q = sym (h k) ∙ q
+
+  pub turn-on : (t′ : Table) (m′ : ℕ) → ((k : ℕ) → tasks-from (suc k) s at t m ≡ tasks-from k s (at + 16) t′ m′) → Rest s (at + 16) t′ m′
+  turn-on t′ m′ h = go (rest .fuel) (rest .enough) (rest .same)
+    where
+      go : (k : ℕ) → length s - at ≤ k → tasks-from k s at t m ≡ tasks-of s → Rest s (at + 16) t′ m′
+      go zero e q = absurd (omega arith)
+      go (suc k) e q = record { fuel = k; enough = omega arith; same = sym (h k) ∙ q }
+
+-- ---- the search for a priority given before
+
+given-none : (k : ℕ) (t : Table) (p : ℕ) → ((j : ℕ) → j < k → member j (t .present) ≡ true → getD (t .priority) j 0 ≡ p → ⊥) → given k t p ≡ false
+unfolding given
+given-none zero t p h = refl
+given-none (suc k) t p h =
+    rw (given-none k t p (λ j l. h j (omega arith)))
+    (by-test (member k (t .present))
+    (λ e. rw (e, ne-eqb (getD (t .priority) k 0) p (h k (omega arith) e)))
+    (λ e. rw e))
+
+given-some : (k : ℕ) (t : Table) (p j : ℕ) → j < k → member j (t .present) ≡ true → getD (t .priority) j 0 ≡ p → given k t p ≡ true
+unfolding given
+given-some zero t p j l e h = absurd (not-suc-le-zero l)
+given-some (suc k) t p j l e h =
+    by-test (eqb j k)
+    (λ x. let y : j ≡ k = eqb-true j k x in
+    either-left (member k (t .present) && eqb (getD (t .priority) k 0) p) (given k t p)
+    (both (member k (t .present)) (eqb (getD (t .priority) k 0) p) (rw y at e) (eq-eqb (getD (t .priority) k 0) p (rw y at h))))
+    (λ x. either-right (member k (t .present) && eqb (getD (t .priority) k 0) p) (given k t p)
+    (given-some k t p j (below j k l (λ y. clash (eqb j k) (eq-eqb j k y) x)) e h))
+  where
+    below : (j k : ℕ) → j < suc k → (j ≡ k → ⊥) → j < k
+    below j k l h = omega arith
+
+-- the tasks passed do not have the priority, and those left are in the table
+pub record Searched (t : Table) (p left : ℕ) : Type 0 where
+  pub few : left < 2 ^ 32
+  pub within : (k : ℕ) → k < 32 → member k left ≡ true → member k (t .present) ≡ true
+  pub passed : (k : ℕ) → k < 32 → member k (t .present) ≡ true → member k left ≡ false → getD (t .priority) k 0 ≡ p → ⊥
+
+pub searched-none : (t : Table) (p : ℕ) → t .present < 2 ^ 32 → Searched t p (t .present)
+searched-none t p f = record { few = f; within = λ k l h. h; passed = λ k l h g e. clash (member k (t .present)) h g }
+
+pub searched-more : (t : Table) (p left n : ℕ) → (getD (t .priority) n 0 ≡ p → ⊥) → Searched t p left → Searched t p (remove n left)
+searched-more t p left n h s = record {
+  few = remove-small n left;
+  within = λ k l m. s .within k l (remove-out n left k m);
+  passed = λ k l m g e.
+      by-test (eqb k n)
+      (λ x. h (rw (eqb-true k n x) at e))
+      (λ x. by-test (member k left) (λ y. clash (member k (remove n left)) (remove-in n left k l x y) g) (λ y. s .passed k l m y e));
+}
+
+pub searched-all : (t : Table) (p left : ℕ) → left ≡ 0 → Searched t p left → given 32 t p ≡ false
+searched-all t p left e s = given-none 32 t p (λ k l m. s .passed k l m (ap (member k) e ∙ none k))
+
+pub searched-found : (t : Table) (p left n : ℕ) → n < 32 → member n left ≡ true → getD (t .priority) n 0 ≡ p → Searched t p left → given 32 t p ≡ true
+searched-found t p left n l m e s = given-some 32 t p n l (s .within n l m) e
+
+-- ---- the refusals of a task entry, in their order
+
+module _ (t : Table) (p : TaskParameters) where
+  pub number-first : number-refused (t .present) (p .number) ≡ true → task-refusal t p ≡ 4
+  unfolding task-refusal
+  number-first e = rw e
+
+  module _ (number : number-refused (t .present) (p .number) ≡ false) where
+    pub priority-next : given 32 t (p .priority) ≡ true → task-refusal t p ≡ 5
+    unfolding task-refusal
+    priority-next e = rw (number, e)
+
+    pub others-last : given 32 t (p .priority) ≡ false → task-refusal t p ≡ mark-or-length-refusal p
+    unfolding task-refusal
+    others-last e = rw (number, e)
+
+pub number-small : (present n : ℕ) → number-refused present n ≡ false → n < 32
+unfolding number-refused
+number-small present n h = omega (arith, ltb-false 31 n (first (ltb 31 n) (member n present) h))
+  where
+    first : (a b : Bool) → (a || b) ≡ false → a ≡ false
+    first true b h = h
+    first false b h = refl

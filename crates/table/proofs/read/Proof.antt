@@ -1,0 +1,211 @@
+-- `table::read` meets its contract: what is left to read, read from here, gives what the whole gives; the search for a priority
+-- given before keeps that the tasks passed do not have it. Assumes nothing.
+use Prim.Native.Nat.{ℕ, zero, suc, _≤_, _<_, _+_, _-_, _^_}
+use mathlib.Core.Path.{_≡_, refl, sym, ap, _∙_}
+use native.Mathlib.Omega.{arith}
+use lib.ListN.{length, length-set}
+use borrow.Author.Needs.{needs}
+use Rattle.sets.specs.Sets.{lowest}
+use Rattle.sets.specs.Laws.{size, size-remove, insert-small, lowest-task, lowest-member}
+use Rattle.table.specs.Types.{Table, Tasks}
+use Rattle.table.specs.Tasks.{tasks-of, tasks-from, with-task, refused-at}
+use Rattle.table.proofs.Laws.{Rest, Searched, turn, turn-on, behind-end, behind-release, before-release, task-whole, at-end, malformed, released, refuses, takes, searched-none, searched-more, searched-all, searched-found, number-first, priority-next, others-last, number-small}
+use Rattle.table.proofs.read.Statement.{statement}
+use Rattle.table.proofs.read.Tie as tie
+
+abbrev Inv-loop : tie.InvT-loop
+Inv-loop s t marked at p left₀ left = Searched t (p .priority) left
+
+abbrev μ-loop : tie.MeasureT-loop
+μ-loop s t marked at p left₀ left = size left
+
+abbrev Inv-entries : tie.InvT-entries
+Inv-entries s t₀ marked₀ at₀ t marked at = (at ≤ length s) × (length (t .priority) ≡ 32) × (t .present < 2 ^ 32) × Rest s at t marked
+
+abbrev μ-entries : tie.MeasureT-entries
+μ-entries s t₀ marked₀ at₀ t marked at = length s - at
+
+no-table-requires : tie.Need-no-table-requires Inv-loop μ-loop Inv-entries μ-entries
+no-table-requires c κs = search needs
+
+entries-holds : tie.Need-entries-holds Inv-loop μ-loop Inv-entries μ-entries
+unfolding tasks-of
+entries-holds c =
+    let e = c .no-table .ensures in (
+      search needs,
+      ap (λ (x : Table). length (x .priority)) e,
+      rw e (omega arith),
+      record { fuel = length (c .before .before .args .s .now); enough = omega arith; same = ap (λ (x : Table). tasks-from (length (c .before .before .args .s .now)) (c .before .before .args .s .now) 0 x 0) e },
+    )
+
+read-to-requires : tie.Need-read-to-requires Inv-loop μ-loop Inv-entries μ-entries
+read-to-requires c κs = search needs
+
+get-u8-requires : tie.Need-get-u8-requires Inv-loop μ-loop Inv-entries μ-entries
+get-u8-requires c κs = search needs
+
+read-to-requires-2 : tie.Need-read-to-requires-2 Inv-loop μ-loop Inv-entries μ-entries
+read-to-requires-2 c κs = search needs
+
+entry-at-requires : tie.Need-entry-at-requires Inv-loop μ-loop Inv-entries μ-entries
+entry-at-requires c κs = search needs
+
+enum-known-entry : tie.Need-enum-known-entry Inv-loop μ-loop Inv-entries μ-entries
+enum-known-entry c = search needs
+
+refused-at-requires : tie.Need-refused-at-requires Inv-loop μ-loop Inv-entries μ-entries
+refused-at-requires c κs = search needs
+
+enum-told : tie.Need-enum-told Inv-loop μ-loop Inv-entries μ-entries
+enum-told c = search needs
+
+read-to-requires-3 : tie.Need-read-to-requires-3 Inv-loop μ-loop Inv-entries μ-entries
+read-to-requires-3 c κs = search needs
+
+enum-known-entry-2 : tie.Need-enum-known-entry-2 Inv-loop μ-loop Inv-entries μ-entries
+enum-known-entry-2 c = search needs
+
+number-refused-requires : tie.Need-number-refused-requires Inv-loop μ-loop Inv-entries μ-entries
+number-refused-requires c κs = search needs
+
+refused-at-requires-2 : tie.Need-refused-at-requires-2 Inv-loop μ-loop Inv-entries μ-entries
+refused-at-requires-2 c κs = search needs
+
+loop-holds : tie.Need-loop-holds Inv-loop μ-loop Inv-entries μ-entries
+loop-holds c = searched-none _ _ (c .before .before .before .before .before .before .before .before .before .entries .inv .2)
+
+lowest-requires : tie.Need-lowest-requires Inv-loop μ-loop Inv-entries μ-entries
+lowest-requires c κs = search needs
+
+cast-if4 : tie.Need-cast-if4 Inv-loop μ-loop Inv-entries μ-entries
+cast-if4 c = search needs
+
+element-copy-out-if4 : tie.Need-element-copy-out-if4 Inv-loop μ-loop Inv-entries μ-entries
+element-copy-out-if4 c = let low : c .lowest .result < 32 = rw (c .lowest .ensures) (lowest-task (c .before .before .loop .left) (c .before .before .loop .inv .few) (c .before .loop-test .taken)) in search needs
+
+refused-at-requires-3 : tie.Need-refused-at-requires-3 Inv-loop μ-loop Inv-entries μ-entries
+refused-at-requires-3 c κs = search needs
+
+remove-requires : tie.Need-remove-requires Inv-loop μ-loop Inv-entries μ-entries
+remove-requires c κs = search needs
+
+loop-less : tie.Need-loop-less Inv-loop μ-loop Inv-entries μ-entries
+loop-less c =
+    let low : lowest (c .before .before .before .before .before .before .loop .left) < 32 = lowest-task (c .before .before .before .before .before .before .loop .left) (c .before .before .before .before .before .before .loop .inv .few) (c .before .before .before .before .before .loop-test .taken) in
+    rw (c .remove .ensures, c .before .before .before .before .lowest .ensures) (omega (arith, size-remove (lowest (c .before .before .before .before .before .before .loop .left)) (c .before .before .before .before .before .before .loop .left) low (lowest-member (c .before .before .before .before .before .before .loop .left) low)))
+
+loop-again : tie.Need-loop-again Inv-loop μ-loop Inv-entries μ-entries
+loop-again c = rw (c .remove .ensures) (searched-more _ _ _ _ (c .before .if4 .left) (c .before .before .before .before .before .before .loop .inv))
+
+mark-or-length-refusal-requires :
+    tie.Need-mark-or-length-refusal-requires Inv-loop μ-loop Inv-entries μ-entries
+mark-or-length-refusal-requires c κs = search needs
+
+refused-at-requires-4 : tie.Need-refused-at-requires-4 Inv-loop μ-loop Inv-entries μ-entries
+refused-at-requires-4 c κs = search needs
+
+with-task-requires : tie.Need-with-task-requires Inv-loop μ-loop Inv-entries μ-entries
+with-task-requires c κs = number-small _ _ (sym (c .before .before .before .before .before .number-refused .ensures) ∙ c .before .before .before .before .if3 .left)
+
+with-marked-requires : tie.Need-with-marked-requires Inv-loop μ-loop Inv-entries μ-entries
+with-marked-requires c κs = search needs
+
+add-at : tie.Need-add-at Inv-loop μ-loop Inv-entries μ-entries
+add-at c = search needs
+
+entries-less : tie.Need-entries-less Inv-loop μ-loop Inv-entries μ-entries
+entries-less c = search needs
+
+entries-again : tie.Need-entries-again Inv-loop μ-loop Inv-entries μ-entries
+unfolding with-task
+entries-again c =
+    let v = c .before .before .before .before .before .before .before .before .before .before .before .before .before .before .before .entries in let s = c .before .before .before .before .before .before .before .before .before .before .before .before .before .before .before .before .before .before .args .s .now in
+    let w = c .before .before .before .before .before .loop in
+    let e = c .before .with-task .ensures in
+    let whole = task-whole s (v .at) _ (sym (c .before .before .before .before .before .before .before .before .before .before .before .entry-at .ensures) ∙ c .before .before .before .before .before .before .before .before .before .entry2 .given .1) in (
+      omega (arith, whole),
+      rw e (simp length-set (v .inv .1)),
+      rw e (insert-small _ _),
+      rw (e, c .with-marked .ensures)
+          (turn-on s (v .at) (v .t) (v .marked) (v .inv .3) (c .before .before .before .before .before .before .before .before .before .before .before .before .before .before .if1 .left) _ _
+          (λ k. takes s (v .at) (v .t) (v .marked) k (before-release s (v .at) (c .before .before .before .before .before .before .before .before .before .before .before .before .before .before .if1 .left) (λ x. c .before .before .before .before .before .before .before .before .before .before .before .before .if2 .left (c .before .before .before .before .before .before .before .before .before .before .before .before .before .get-u8 .ensures ∙ x))) _ (sym (c .before .before .before .before .before .before .before .before .before .before .before .entry-at .ensures) ∙ c .before .before .before .before .before .before .before .before .before .entry2 .given .1) ((others-last (v .t) _ (sym (c .before .before .before .before .before .before .before .number-refused .ensures) ∙ c .before .before .before .before .before .before .if3 .left) (searched-all (v .t) _ (w .left) (c .before .before .before .before .loop-test .left) (w .inv))) ∙ sym (c .before .before .before .mark-or-length-refusal .ensures) ∙ c .before .before .if5 .left))),
+    )
+
+returns : tie.Need-returns Inv-loop μ-loop Inv-entries μ-entries
+returns c = let v = c .before .before .entries in let s = c .before .before .before .before .before .args .s .now in c .read-to .ensures ∙ sym (at-end s (v .at) (v .t) (v .marked) (v .inv .3 .fuel) (behind-end s (v .at) (c .before .if1 .taken))) ∙ v .inv .3 .same
+
+returns-2 : tie.Need-returns-2 Inv-loop μ-loop Inv-entries μ-entries
+returns-2 c = let v = c .before .before .before .before .entries in let s = c .before .before .before .before .before .before .before .args .s .now in c .read-to2 .ensures ∙ sym (at-end s (v .at) (v .t) (v .marked) (v .inv .3 .fuel) (behind-release s (v .at) (sym (c .before .before .get-u8 .ensures) ∙ c .before .if2 .taken))) ∙ v .inv .3 .same
+
+returns-3 : tie.Need-returns-3 Inv-loop μ-loop Inv-entries μ-entries
+returns-3 c =
+    let v = c .before .before .before .before .before .before .before .before .entries in let s = c .before .before .before .before .before .before .before .before .before .before .before .args .s .now in
+    c .refused-at .ensures ∙ turn s (v .at) (v .t) (v .marked) (v .inv .3) (c .before .before .before .before .before .before .before .if1 .left) _ (λ k. malformed s (v .at) (v .t) (v .marked) k (before-release s (v .at) (c .before .before .before .before .before .before .before .if1 .left) (λ x. c .before .before .before .before .before .if2 .left (c .before .before .before .before .before .before .get-u8 .ensures ∙ x))) _ (sym (c .before .before .before .before .entry-at .ensures) ∙ c .before .before .entry .given .1))
+
+returns-4 : tie.Need-returns-4 Inv-loop μ-loop Inv-entries μ-entries
+returns-4 c =
+    let v = c .before .before .before .before .before .before .before .entries in let s = c .before .before .before .before .before .before .before .before .before .before .args .s .now in
+    c .read-to3 .ensures ∙ turn s (v .at) (v .t) (v .marked) (v .inv .3) (c .before .before .before .before .before .before .if1 .left) _ (λ k. released s (v .at) (v .t) (v .marked) k (before-release s (v .at) (c .before .before .before .before .before .before .if1 .left) (λ x. c .before .before .before .before .if2 .left (c .before .before .before .before .before .get-u8 .ensures ∙ x))) _ (sym (c .before .before .before .entry-at .ensures) ∙ c .before .enum-told .given .1))
+
+returns-5 : tie.Need-returns-5 Inv-loop μ-loop Inv-entries μ-entries
+returns-5 c =
+    let v = c .before .before .before .before .before .before .before .before .before .before .entries in let s = c .before .before .before .before .before .before .before .before .before .before .before .before .before .args .s .now in
+    c .refused-at2 .ensures ∙ turn s (v .at) (v .t) (v .marked) (v .inv .3) (c .before .before .before .before .before .before .before .before .before .if1 .left) _ (λ k. refuses s (v .at) (v .t) (v .marked) k (before-release s (v .at) (c .before .before .before .before .before .before .before .before .before .if1 .left) (λ x. c .before .before .before .before .before .before .before .if2 .left (c .before .before .before .before .before .before .before .before .get-u8 .ensures ∙ x))) _ 4 (sym (c .before .before .before .before .before .before .entry-at .ensures) ∙ c .before .before .before .before .entry2 .given .1) (number-first (v .t) _ (sym (c .before .before .number-refused .ensures) ∙ c .before .if3 .taken)) (λ h. omega arith))
+
+returns-6 : tie.Need-returns-6 Inv-loop μ-loop Inv-entries μ-entries
+returns-6 c =
+    let v = c .before .before .before .before .before .before .before .before .before .before .before .before .before .before .before .before .entries in let s = c .before .before .before .before .before .before .before .before .before .before .before .before .before .before .before .before .before .before .before .args .s .now in
+    let w = c .before .before .before .before .before .before .loop in
+    let low : lowest (w .left) < 32 = lowest-task (w .left) (w .inv .few) (c .before .before .before .before .before .loop-test .taken) in
+    let e = c .before .before .before .before .lowest .ensures in
+    c .refused-at3 .ensures ∙ turn s (v .at) (v .t) (v .marked) (v .inv .3) (c .before .before .before .before .before .before .before .before .before .before .before .before .before .before .before .if1 .left) _ (λ k. refuses s (v .at) (v .t) (v .marked) k (before-release s (v .at) (c .before .before .before .before .before .before .before .before .before .before .before .before .before .before .before .if1 .left) (λ x. c .before .before .before .before .before .before .before .before .before .before .before .before .before .if2 .left (c .before .before .before .before .before .before .before .before .before .before .before .before .before .before .get-u8 .ensures ∙ x))) _ 5 (sym (c .before .before .before .before .before .before .before .before .before .before .before .before .entry-at .ensures) ∙ c .before .before .before .before .before .before .before .before .before .before .entry2 .given .1) (priority-next (v .t) _ (sym (c .before .before .before .before .before .before .before .before .number-refused .ensures) ∙ c .before .before .before .before .before .before .before .if3 .left) (searched-found (v .t) _ (w .left) (lowest (w .left)) low (lowest-member (w .left) low) (rw e at (c .before .if4 .taken)) (w .inv))) (λ h. omega arith))
+
+returns-7 : tie.Need-returns-7 Inv-loop μ-loop Inv-entries μ-entries
+returns-7 c =
+    let v = c .before .before .before .before .before .before .before .before .before .before .before .before .before .before .entries in let s = c .before .before .before .before .before .before .before .before .before .before .before .before .before .before .before .before .before .args .s .now in
+    let w = c .before .before .before .before .loop in
+    c .refused-at4 .ensures ∙ turn s (v .at) (v .t) (v .marked) (v .inv .3) (c .before .before .before .before .before .before .before .before .before .before .before .before .before .if1 .left) _ (λ k. refuses s (v .at) (v .t) (v .marked) k (before-release s (v .at) (c .before .before .before .before .before .before .before .before .before .before .before .before .before .if1 .left) (λ x. c .before .before .before .before .before .before .before .before .before .before .before .if2 .left (c .before .before .before .before .before .before .before .before .before .before .before .before .get-u8 .ensures ∙ x))) _ _ (sym (c .before .before .before .before .before .before .before .before .before .before .entry-at .ensures) ∙ c .before .before .before .before .before .before .before .before .entry2 .given .1) ((others-last (v .t) _ (sym (c .before .before .before .before .before .before .number-refused .ensures) ∙ c .before .before .before .before .before .if3 .left) (searched-all (v .t) _ (w .left) (c .before .before .before .loop-test .left) (w .inv))) ∙ sym (c .before .before .mark-or-length-refusal .ensures)) (c .before .if5 .taken))
+
+pub read-spec : {M : Type 1} → statement M
+read-spec =
+    tie.close
+    (tie.spec
+    Inv-loop
+    μ-loop
+    Inv-entries
+    μ-entries
+    no-table-requires
+    entries-holds
+    read-to-requires
+    get-u8-requires
+    read-to-requires-2
+    entry-at-requires
+    enum-known-entry
+    refused-at-requires
+    enum-told
+    read-to-requires-3
+    enum-known-entry-2
+    number-refused-requires
+    refused-at-requires-2
+    loop-holds
+    lowest-requires
+    cast-if4
+    element-copy-out-if4
+    refused-at-requires-3
+    remove-requires
+    loop-less
+    loop-again
+    mark-or-length-refusal-requires
+    refused-at-requires-4
+    with-task-requires
+    with-marked-requires
+    add-at
+    entries-less
+    entries-again
+    returns
+    returns-2
+    returns-3
+    returns-4
+    returns-5
+    returns-6
+    returns-7)
