@@ -16,6 +16,8 @@ TASK = (1, (("number", 1), ("priority", 1), ("mark", 1), ("L", 4), ("C", 4), ("U
 RELEASE = (2, (("time", 8), ("task", 1)))
 ENTRIES = {"task": TASK, "release": RELEASE}
 
+MOST_DIGITS = len(str(2**64 - 1))  # of the widest field
+
 
 class BadLine(Exception):
     """A line that cannot be turned into an entry, with the reason."""
@@ -25,6 +27,8 @@ def field(name, width, word):
     """One field's bytes, lowest first."""
     if not (word.isascii() and word.isdigit()):
         raise BadLine(f"{name} is '{word}', not a whole number")
+    if len(word) > MOST_DIGITS:  # Python itself takes no number of some thousand digits
+        raise BadLine(f"{name} has {len(word)} digits, over {MOST_DIGITS}")
     value = int(word)
     if value >= 256**width:
         raise BadLine(f"{name} is {value}, over {256**width - 1}")

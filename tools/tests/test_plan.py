@@ -37,6 +37,9 @@ class BadLines(unittest.TestCase):
     def test_a_number_that_does_not_fit(self):
         self.assertEqual(self.refused(["release 1 256"]), "line 1: task is 256, over 255")
 
+    def test_a_number_that_is_far_too_long(self):
+        self.assertEqual(self.refused(["", f"release {'9' * 5000} 1"]), "line 2: time has 5000 digits, over 20")
+
     def test_a_word_for_a_number(self):
         self.assertEqual(self.refused(["release -1 2"]), "line 1: time is '-1', not a whole number")
 

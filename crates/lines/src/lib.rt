@@ -191,6 +191,13 @@ fn letter_line(letter: u8) -> Text
     empty().byte(letter).byte(b'\n')
 }
 
+// No line.
+pub fn no_line() -> Text
+    ensures { λ r. ⌜ Prints r [] ⌝ }
+{
+    empty()
+}
+
 // J: a job done.
 pub fn job_line(e: JobEntry) -> Text
     ensures { λ r. ⌜ Prints r (job-line e) ⌝ }

@@ -1,0 +1,69 @@
+-- The lines of a run's record: for each moment the job done, the interval closed and the releases skipped, in the order of the record.
+use mathlib.Core.Path.{_≡_}
+use mathlib.Core.Bool.{cond}
+use mathlib.Core.List.{List, [], _∷_, _++_}
+use Prim.Native.Nat.{ℕ, zero, suc, _^_, _<_}
+use Rattle.sets.specs.Sets.{member}
+use Rattle.dispatcher.specs.declared.Occurred.{Occurred}
+use Rattle.dispatcher.specs.declared.Done.{Done}
+use Rattle.dispatcher.specs.declared.Done.the-variants.{NoJob, Job}
+use Rattle.dispatcher.specs.declared.Closing.{Closing}
+use Rattle.dispatcher.specs.declared.Closing.the-variants.{Unclosed, BeforeReleases, AfterReleases}
+use Rattle.lines.specs.Lines.{interval-line, skipped-line, done-lines}
+use Rattle.record.specs.Run.{Moment}
+use Rattle.printing.specs.Types.{MaybeTask, NoTask, Task, JobEntry, IntervalEntry}
+
+-- ---- The lines
+
+unfoldable pub skips-lines : ℕ → ℕ → ℕ → List ℕ
+skips-lines zero set t = []
+skips-lines (suc k) set t = skips-lines k set t ++ cond (member k set) (skipped-line k t) []
+
+unfoldable pub closed-lines : Closing → List ℕ → List ℕ
+closed-lines Unclosed skips = skips
+closed-lines (BeforeReleases e) skips = interval-line e ++ skips
+closed-lines (AfterReleases e) skips = skips ++ interval-line e
+
+unfoldable pub moment-lines : Moment → List ℕ
+moment-lines m = let o : Occurred = m .occurred in done-lines (o .done) ++ closed-lines (o .closed) (skips-lines 32 (o .skipped) (m .time))
+
+unfoldable pub moments-lines : List Moment → List ℕ
+moments-lines [] = []
+moments-lines (m ∷ ms) = moment-lines m ++ moments-lines ms
+
+-- ---- Numbers that fit their fields: a time has 8 bytes, and no task has the number that stands for none
+
+unfoldable pub TaskFits : MaybeTask → Type 0
+TaskFits NoTask = Unit {0}
+TaskFits (Task n) = n ≡ 255 → ⊥
+
+pub record JobFits (e : JobEntry) : Type 0 where
+  pub release-fits : e .release < 256 ^ 8
+  pub start-fits : e .start < 256 ^ 8
+  pub completion-fits : e .completion < 256 ^ 8
+
+pub record IntervalFits (e : IntervalEntry) : Type 0 where
+  pub begin-fits : e .begin < 256 ^ 8
+  pub end-fits : e .end < 256 ^ 8
+  pub task-fits : TaskFits (e .task)
+  pub copiedout-fits : TaskFits (e .copiedout)
+  pub chosen-fits : TaskFits (e .chosen)
+  pub promoted-fits : TaskFits (e .promoted)
+
+unfoldable pub DoneFits : Done → Type 0
+DoneFits NoJob = Unit {0}
+DoneFits (Job e) = JobFits e
+
+unfoldable pub ClosedFits : Closing → Type 0
+ClosedFits Unclosed = Unit {0}
+ClosedFits (BeforeReleases e) = IntervalFits e
+ClosedFits (AfterReleases e) = IntervalFits e
+
+pub record MomentFits (m : Moment) : Type 0 where
+  pub time-fits : m .time < 256 ^ 8
+  pub done-fits : DoneFits (m .occurred .done)
+  pub closed-fits : ClosedFits (m .occurred .closed)
+
+unfoldable pub MomentsFit : List Moment → Type 0
+MomentsFit [] = Unit {0}
+MomentsFit (m ∷ ms) = MomentFits m × MomentsFit ms

@@ -1,0 +1,258 @@
+"""A run's timeline as SVG.
+
+From the top: title, legend, the releases, a head for each interval, the processor's row, the promotions, the engine's row, the jobs
+done, the axis. Each thing drawn says in data attributes what it is and when, and has a title, which viewers show on pointing at it:
+where there is no room for a label, nothing is lost.
+"""
+
+from collections import defaultdict
+from xml.etree import ElementTree
+
+from tools import legend, shapes
+from tools.shapes import add, longest_fitting, width_of, words
+from tools.timeline import ENGINE, PROCESSOR
+
+# Widths in pixels.
+LEFT, RIGHT = 84, 30
+LEAST_WIDTH, MOST_WIDTH = 862, 20_000
+MOST_LEGEND = 1_600
+SHORTEST_PHASE = 44    # what the shortest phase gets, where the limits below allow it
+AVERAGE_INTERVAL = 160  # intervals get no more than this on average, so that one short phase does not stretch a whole run
+
+# Heights in pixels.
+HEAD, ROW, BETWEEN, DONE, AXIS = 32, 54, 22, 30, 34
+BAR_TOP = 17   # below a row's top, where its half is written
+STACKED = 14   # each number of several releases on one tick
+MOST_STACKED = 8
+
+SHORT_NAMES = {"copy-in": "in", "execution": "run", "copy-out": "out"}
+
+
+class Layout:
+    """Where things stand: x by time, y by row."""
+
+    def __init__(self, run, top):
+        times = [release.time for release in run.releases] + [job.completion for job in run.completions]
+        times += [time for band in run.bands for time in (band.begin, band.end)]
+        self.start, self.end = min(times, default=0), max(times, default=1)
+        self.scale = scale(run, max(1, self.end - self.start))
+        self.right = self.x(self.end)
+        highest = max((len(at_once) for at_once in by_time(run.releases).values()), default=1)
+        self.heads = top + STACKED * min(MOST_STACKED, highest) + 22
+        self.processor = self.heads + HEAD
+        self.promotions = self.processor + ROW
+        self.engine = self.promotions + BETWEEN
+        self.done = self.engine + ROW
+        self.axis = self.done + DONE
+        self.bottom = self.axis + AXIS
+
+    def x(self, time):
+        return LEFT + (time - self.start) * self.scale
+
+    def width(self, begin, end):
+        return (end - begin) * self.scale
+
+
+def scale(run, ticks):
+    """Pixels for each tick."""
+    shortest = min((bar.end - bar.begin for bar in run.bars), default=1)
+    busy = sum(band.end - band.begin for band in run.bands) or 1
+    return min(SHORTEST_PHASE / shortest, AVERAGE_INTERVAL * max(1, len(run.bands)) / busy,
+               (MOST_WIDTH - LEFT - RIGHT) / ticks)
+
+
+def by_time(releases):
+    """The releases of each tick, those taken first."""
+    groups = defaultdict(list)
+    for release in sorted(releases, key=lambda release: (release.time, release.skipped, release.task)):
+        groups[release.time].append(release)
+    return groups
+
+
+def group(parent, title, **data):
+    """A group for one thing drawn, with its data attributes and title."""
+    element = add(parent, "g", **{f"data_{name}": str(value) for name, value in data.items()})
+    add(element, "title", title)
+    return element
+
+
+# Intervals.
+
+def draw_band(parent, layout, band):
+    """A box over both rows: the interval's number and ticks in its head, each row in the colour of the unit's half."""
+    x, width = layout.x(band.begin), layout.width(band.begin, band.end)
+    title = f"interval {band.number}, {band.begin} to {band.end}: processor half {band.half}, engine half {1 - band.half}"
+    box = group(parent, title, kind="interval", number=band.number, begin=band.begin, end=band.end, half=band.half)
+    for y, half in ((layout.processor, band.half), (layout.engine, 1 - band.half)):
+        add(box, "rect", x=x, y=y, width=width, height=ROW, fill=shapes.HALF_COLOURS[half])
+        text = longest_fitting((f"half {half}", str(half)), width - 6, 9)
+        if text:
+            words(box, x + 4, y + 11, text, "small")
+    add(box, "rect", class_="thin", x=x, y=layout.heads, width=width, height=layout.done - layout.heads)
+    for y, texts, style in ((13, (f"interval {band.number}", str(band.number)), "middle strong"),
+                            (27, (f"{band.begin}–{band.end}",), "middle")):
+        text = longest_fitting(texts, width - 6)
+        if text:
+            words(box, x + width / 2, layout.heads + y, text, style)
+
+
+def draw_bar(parent, layout, bar, colours):
+    """A phase of a job on its unit's row."""
+    x, width = layout.x(bar.begin), layout.width(bar.begin, bar.end)
+    y = {PROCESSOR: layout.processor, ENGINE: layout.engine}[bar.unit] + BAR_TOP
+    cancelled = bar.cancelled_by is not None
+    fate = "cancelled" if cancelled else "done"
+    box = group(parent, f"task {bar.task}, {bar.kind} on the {bar.unit}, {bar.begin} to {bar.end}, {fate}", unit=bar.unit,
+                kind=bar.kind, task=bar.task, begin=bar.begin, end=bar.end, interval=bar.interval, fate=fate)
+    shapes.bar(box, x, y, width, bar.kind, colours[bar.task], cancelled)
+    room = width - (12 if cancelled else 4)  # the cross stands over a cancelled bar's end
+    text = longest_fitting((f"{SHORT_NAMES[bar.kind]} {bar.task}", str(bar.task)), room)
+    if text:
+        words(box, x + room / 2 + 2, y + 19, text, "middle strong")
+
+
+# Marks.
+
+def draw_cancellation(parent, layout, bar):
+    """A cross at the end of the copy-in that was cancelled."""
+    mark = group(parent, f"the release of task {bar.cancelled_by} at {bar.end} cancels the copy-in of task {bar.task}",
+                 kind="cancellation", task=bar.task, time=bar.end, by=bar.cancelled_by)
+    shapes.cross(mark, layout.x(bar.end), layout.engine + BAR_TOP + shapes.BAR_HEIGHT / 2)
+
+
+def draw_promotion(parent, layout, promotion, band):
+    """At the end of the interval, on the way from the engine's row to the processor's."""
+    x, y = layout.x(promotion.time), layout.promotions + BETWEEN / 2
+    mark = group(parent, f"task {promotion.task} is promoted at {promotion.time}, the end of interval {promotion.interval}",
+                 kind="promotion", task=promotion.task, time=promotion.time, interval=promotion.interval)
+    shapes.promotion_mark(mark, x, y)
+    room = layout.width(band.begin, band.end) - 14
+    text = longest_fitting((f"{promotion.task} promoted", str(promotion.task)), room)
+    if text:
+        words(mark, x - 9, y + 4, text, "end mark")
+
+
+def draw_completions(parent, layout, completions):
+    free = LEFT - 20  # where the next label may begin
+    for job in completions:
+        x = layout.x(job.completion)
+        mark = group(parent, f"task {job.task}, released at {job.release}, is done at {job.completion}, blocked {job.blocked}",
+                     kind="completion", task=job.task, time=job.completion, release=job.release, blocked=job.blocked)
+        shapes.completion_mark(mark, x, layout.done + 8)
+        half = width_of(str(job.task)) / 2
+        if x - half >= free:
+            words(mark, x, layout.done + 23, str(job.task), "middle strong")
+            free = x + half + 5
+
+
+def draw_releases(parent, layout, releases):
+    """The numbers of releases on one tick are stacked; a stack that would run into the one to its left is left out."""
+    free = LEFT - 20
+    for at_once in by_time(releases).values():
+        texts = stack([release.task for release in at_once])
+        half = max(width_of(text) for text in texts) / 2
+        x = layout.x(at_once[0].time)
+        fits = x - half >= free
+        free = x + half + 5 if fits else free
+        for place, release in reversed(list(enumerate(at_once))):  # arrows of those taken over those of the skipped
+            text = texts[place] if fits and place < len(texts) else None
+            draw_release(parent, layout, release, text, layout.heads - 20 - STACKED * place)
+
+
+def stack(numbers):
+    """The texts of a stack from below; the top says how many more there are if it would be too high."""
+    texts = [str(number) for number in numbers]
+    if len(texts) > MOST_STACKED:
+        texts[MOST_STACKED - 1:] = [f"+{len(texts) - MOST_STACKED + 1}"]
+    return texts
+
+
+def draw_release(parent, layout, release, text, y):
+    x = layout.x(release.time)
+    mark = group(parent, f"release of task {release.task} at {release.time}{', skipped' if release.skipped else ''}",
+                 kind="skipped" if release.skipped else "release", task=release.task, time=release.time)
+    shapes.release_arrow(mark, x, layout.heads - 2, release.skipped)
+    if text:
+        shapes.release_number(mark, x, y, text, release.skipped and not text.startswith("+"))
+
+
+# The frame.
+
+def tick_step(per_tick, last):
+    """Ticks between numbers on the axis: 1, 2 or 5 times a power of ten, so that the numbers do not touch."""
+    room = width_of(str(last)) + 12
+    step = 1
+    while True:
+        for factor in (1, 2, 5):
+            if factor * step * per_tick >= room:
+                return factor * step
+        step *= 10
+
+
+def draw_axis(parent, layout):
+    y, step = layout.axis, tick_step(layout.scale, layout.end)
+    axis = add(parent, "g", data_kind="axis", data_begin=str(layout.start), data_end=str(layout.end))
+    add(axis, "path", class_="line", d=f"M{LEFT} {shapes.places(y)}H{shapes.places(layout.right)}")
+    words(axis, LEFT - 12, y + 4, "ticks", "end")
+    fine = next(step // parts for parts in (10, 5, 2, 1) if step % parts == 0 and step // parts * layout.scale >= 6)
+    for time in range(-(-layout.start // fine) * fine, layout.end + 1, fine):
+        whole = time % step == 0
+        add(axis, "path", class_="line", d=f"M{shapes.places(layout.x(time))} {shapes.places(y)}v{6 if whole else 3}")
+        if whole:
+            add(axis, "text", str(time), x=layout.x(time), y=y + 19, class_="middle", data_kind="tick", data_time=str(time))
+
+
+def draw_row_names(parent, layout):
+    for y, name in ((layout.heads - 6, "releases"), (layout.processor + 36, PROCESSOR), (layout.promotions + 15, "promoted"),
+                    (layout.engine + 36, ENGINE), (layout.done + 12, "jobs done")):
+        words(parent, LEFT - 12, y, name, "end strong" if name in (PROCESSOR, ENGINE) else "end")
+
+
+def count(number, one, several=None):
+    return f"{number} {one if number == 1 else several or one + 's'}"
+
+
+def summary(run, layout):
+    skipped = sum(release.skipped for release in run.releases)
+    cancelled = sum(bar.cancelled_by is not None for bar in run.bars)
+    return ", ".join((
+        f"ticks {layout.start} to {layout.end}", count(len(run.table), "task"),
+        f"{count(len(run.releases), 'release')} ({skipped} skipped)", count(len(run.bands), "interval"),
+        count(cancelled, "copy-in cancelled", "copy-ins cancelled"), count(len(run.promotions), "job promoted", "jobs promoted"),
+        count(len(run.completions), "job done", "jobs done")))
+
+
+def draw(run, title):
+    """The whole picture as text."""
+    root = ElementTree.Element("svg", {"xmlns": "http://www.w3.org/2000/svg", "role": "img", "aria-labelledby": "title desc"})
+    add(root, "title", title, id="title")
+    description = add(root, "desc", id="desc")
+    shapes.definitions(root)
+    paper = add(root, "rect", x=0, y=0, fill="#ffffff")
+    colours = shapes.task_colours(run.table)
+    width = max(LEAST_WIDTH, Layout(run, 0).right + RIGHT)
+    key = add(root, "g")
+    top = 66 + legend.draw(key, 20, 60, min(width, MOST_LEGEND) - 40, legend.items(run.table, colours))
+    layout = Layout(run, top)
+    description.text = f"Timeline of the processor and the copy engine: {summary(run, layout)}."
+    words(root, 20, 28, title, "heading")
+    words(root, 20, 48, summary(run, layout))
+    draw_row_names(root, layout)
+    for band in run.bands:
+        draw_band(root, layout, band)
+    for bar in run.bars:
+        draw_bar(root, layout, bar, colours)
+    for bar in run.bars:  # after all bars, since the next interval's may begin where a copy-in was cancelled
+        if bar.cancelled_by is not None:
+            draw_cancellation(root, layout, bar)
+    for promotion in run.promotions:
+        draw_promotion(root, layout, promotion, run.bands[promotion.interval - 1])
+    draw_releases(root, layout, run.releases)
+    draw_completions(root, layout, run.completions)
+    draw_axis(root, layout)
+    for element in (root, paper):
+        element.set("width", shapes.places(width))
+        element.set("height", shapes.places(layout.bottom))
+    root.set("viewBox", f"0 0 {root.get('width')} {root.get('height')}")
+    ElementTree.indent(root, " ")
+    return ElementTree.tostring(root, encoding="unicode") + "\n"

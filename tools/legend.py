@@ -1,0 +1,75 @@
+"""The legend of a run's picture: what each shape means, and the task table."""
+
+from tools import shapes
+from tools.shapes import add, words
+
+SWATCH = 36
+GREY = ("#b9b9b9", "#ececec", "#444444")
+
+
+def bar_sample(kind, cancelled=False):
+    def draw(parent, x, y):
+        scaled = add(parent, "g", transform=f"translate({shapes.places(x)} {shapes.places(y - 9)}) scale(1 0.6)")
+        shapes.bar(scaled, 0, 0, 26, kind, GREY, cancelled)
+        if cancelled:
+            shapes.cross(parent, x + 26, y)
+    return draw
+
+
+def half_sample(half):
+    def draw(parent, x, y):
+        add(parent, "rect", x=x, y=y - 9, width=26, height=18, fill=shapes.HALF_COLOURS[half], stroke="#8a8a8a",
+            stroke_width=0.5)
+    return draw
+
+
+def release_sample(skipped):
+    def draw(parent, x, y):
+        shapes.release_arrow(parent, x + 8, y + 9, skipped)
+        shapes.release_number(parent, x + 20, y + 4, "n", skipped)
+    return draw
+
+
+def task_sample(colours):
+    def draw(parent, x, y):
+        add(parent, "rect", x=x, y=y - 7, width=26, height=14, fill=colours[0], stroke=colours[2])
+    return draw
+
+
+SHAPES = (
+    (bar_sample("copy-in"), "copy-in (in)"),
+    (bar_sample("execution"), "execution (run)"),
+    (bar_sample("copy-out"), "copy-out (out)"),
+    (bar_sample("copy-in", cancelled=True), "copy-in cancelled"),
+    (lambda parent, x, y: shapes.promotion_mark(parent, x + 13, y), "job promoted"),
+    (release_sample(False), "release of task n"),
+    (release_sample(True), "release skipped"),
+    (lambda parent, x, y: shapes.completion_mark(parent, x + 13, y), "job done"),
+    (half_sample(0), "unit has half 0"),
+    (half_sample(1), "unit has half 1"),
+)
+
+
+def task_text(task):
+    mark = ", latency-sensitive" if task.mark else ""
+    return f"task {task.number}: priority {task.priority}{mark}, L {task.copy_in}, C {task.execution}, U {task.copy_out}"
+
+
+def items(table, colours):
+    """Two groups, each to begin on a row of its own: the shapes, and the tasks by number."""
+    return SHAPES, tuple((task_sample(colours[number]), task_text(table[number])) for number in sorted(table))
+
+
+def draw(parent, left, top, width, groups, row=24):
+    """Draw the groups in columns as wide as each group's longest text; the height that they take comes back."""
+    y = top
+    for group in groups:
+        column = SWATCH + max(shapes.width_of(text) for _, text in group) + 10
+        rows = -(-len(group) // max(1, int(width // column)))
+        across = -(-len(group) // rows)  # no more than needed, so that the last row is not left nearly empty
+        for index, (sample, text) in enumerate(group):
+            x, middle = left + index % across * column, y + index // across * row + row / 2
+            sample(parent, x, middle)
+            words(parent, x + SWATCH, middle + 4, text)
+        y += row * rows
+    return y - top

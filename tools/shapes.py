@@ -1,0 +1,120 @@
+"""The shapes of a run's picture, as SVG elements: one function for each, used by the timeline and by its legend."""
+
+import colorsys
+from xml.etree import ElementTree
+
+BAR_HEIGHT = 30
+HALF_COLOURS = ("#e6effb", "#fbf0dc")
+MARK_COLOUR = "#b00020"  # cancelled and promoted: what a latency-sensitive release brought about
+
+STYLE = """
+text { font-family: sans-serif; font-size: 11px; fill: #1a1a1a; }
+.heading { font-size: 16px; font-weight: bold; }
+.middle { text-anchor: middle; }
+.end { text-anchor: end; }
+.small { font-size: 9px; fill: #555; }
+.strong { font-weight: bold; }
+.skipped { fill: #666; }
+.mark { fill: #b00020; }
+.line { stroke: #1a1a1a; stroke-width: 1; fill: none; }
+.thin { stroke: #8a8a8a; stroke-width: 0.5; fill: none; }
+.dashed { stroke: #777; stroke-width: 1; stroke-dasharray: 2 2; fill: none; }
+.stop { stroke: #777; stroke-width: 2; fill: none; }
+.strike { stroke: #777; stroke-width: 1; fill: none; }
+.cross { stroke: #b00020; stroke-width: 2; fill: none; }
+"""
+
+
+def add(parent, tag, text=None, **attributes):
+    """A new element; attribute names have _ for - here, and a trailing _ where Python reserves the word."""
+    named = {name.rstrip("_").replace("_", "-"): value if isinstance(value, str) else places(value)
+             for name, value in attributes.items()}
+    element = ElementTree.SubElement(parent, tag, named)
+    element.text = text
+    return element
+
+
+def places(value):
+    """A number with at most two places, without needless zeros."""
+    return f"{value:.2f}".rstrip("0").rstrip(".")
+
+
+def words(parent, x, y, text, style=""):
+    return add(parent, "text", text, x=x, y=y, **({"class_": style} if style else {}))
+
+
+def width_of(text, size=11):
+    """About the width of a text: fonts differ, so this is on the wide side."""
+    return 0.62 * size * len(text)
+
+
+def longest_fitting(texts, width, size=11):
+    """The first of some texts, longest first, that fits a width; None if none does."""
+    return next((text for text in texts if width_of(text, size) <= width), None)
+
+
+# Colours.
+
+def hex_colour(hue, lightness, saturation):
+    return "#" + "".join(f"{round(255 * part):02x}" for part in colorsys.hls_to_rgb(hue, lightness, saturation))
+
+
+def task_colours(table):
+    """Each task's full, pale and edge colours. Steps of the golden angle keep the hues of few tasks far apart."""
+    colours = {}
+    for rank, number in enumerate(sorted(table)):
+        hue = (0.56 + 0.381966 * rank) % 1
+        colours[number] = (hex_colour(hue, 0.66, 0.62), hex_colour(hue, 0.88, 0.60), hex_colour(hue, 0.30, 0.60))
+    return colours
+
+
+# Shapes.
+
+def definitions(root):
+    """What the shapes refer to: the style and the hatching."""
+    add(root, "style", STYLE)
+    pattern = add(add(root, "defs"), "pattern", id="hatch", width=6, height=6, patternUnits="userSpaceOnUse",
+                  patternTransform="rotate(45)")
+    add(pattern, "line", x1=0, y1=0, x2=0, y2=6, stroke=MARK_COLOUR, stroke_width=1.6, stroke_opacity=0.55)
+
+
+def bar(parent, x, y, width, kind, colours, cancelled=False):
+    """A phase: execution in full colour, copies pale, copy-out with a dashed edge; hatched if cancelled."""
+    full, pale, edge = colours
+    dashes = {"stroke_dasharray": "4 2"} if kind == "copy-out" else {}
+    box = {"x": x, "y": y, "width": width, "height": BAR_HEIGHT}
+    add(parent, "rect", **box, fill=full if kind == "execution" else pale, stroke=edge,
+        stroke_width=min(1, width / 4), **dashes)
+    if cancelled:
+        add(parent, "rect", **box, fill="url(#hatch)")
+
+
+def cross(parent, x, y):
+    add(parent, "path", class_="cross", d=f"M{places(x - 5)} {places(y - 5)}l10 10m0 -10l-10 10")
+
+
+def release_arrow(parent, x, y, skipped):
+    """An arrow of 14 px down to y. A skipped release has a dashed line and a stop at its tail: both show on one tick."""
+    if skipped:
+        add(parent, "path", class_="dashed", d=f"M{places(x)} {places(y - 14)}v14")
+        add(parent, "path", class_="stop", d=f"M{places(x - 4)} {places(y - 14)}h8")
+    else:
+        add(parent, "path", class_="line", d=f"M{places(x)} {places(y - 14)}v14")
+        add(parent, "path", d=f"M{places(x - 3.5)} {places(y - 6)}h7l-3.5 6z", fill="#1a1a1a")
+
+
+def release_number(parent, x, y, text, skipped):
+    """A released task's number; struck out if the release was skipped."""
+    words(parent, x, y, text, "middle skipped" if skipped else "middle strong")
+    if skipped:
+        half = width_of(text) / 2 + 1
+        add(parent, "path", class_="strike", d=f"M{places(x - half)} {places(y - 1)}l{places(2 * half)} -6")
+
+
+def promotion_mark(parent, x, y):
+    """A triangle that points up: the job goes to the processor."""
+    add(parent, "path", d=f"M{places(x - 5)} {places(y + 5)}h10l-5 -10z", fill=MARK_COLOUR)
+
+
+def completion_mark(parent, x, y):
+    add(parent, "circle", cx=x, cy=y, r=3.5, fill="#1b6e3c")

@@ -1,0 +1,521 @@
+"""The picture of a run: what is drawn and where, for document 01's plans A and B and for random runs."""
+
+import contextlib
+import io
+import os
+import pathlib
+import random
+import re
+import subprocess
+import sys
+import tempfile
+import unittest
+from xml.etree import ElementTree
+
+from sim import generate
+from sim.dispatcher import Dispatcher
+from sim.entries import release_entry
+from sim.files import read_file, record, released_sets
+from sim.lines import record_lines, text
+from tools import picture
+from tools.drawing import MOST_WIDTH, draw, stack, tick_step
+from tools.timeline import timeline
+
+ROOT = pathlib.Path(__file__).resolve().parents[2]
+SVG = "{http://www.w3.org/2000/svg}"
+
+# The tasks of document 01's plans.
+TASKS = "task 1 1 1 2 3 1\ntask 2 2 0 2 4 1\ntask 3 3 0 2 5 2\n"
+A = TASKS + "release 0 3\nrelease 2 2\nrelease 3 1\n"
+LINES_A = """\
+I 0 2 0 - 0 - 3 1 -
+I 2 7 1 3 1 - 2 2 1
+J 3 0 2 9 0
+I 7 12 0 1 2 3 2 1 -
+J 1 3 9 13 1
+I 12 16 1 2 1 1 - 0 -
+J 2 2 12 17 1
+I 16 17 0 - 0 2 - 0 -
+"""
+
+# (unit, kind, task, begin, end, interval, fate), by hand from the lines of document 01 and the lengths L, C and U.
+BARS_A = {
+    ("engine", "copy-in", 3, 0, 2, 1, "done"),
+    ("processor", "execution", 3, 2, 7, 2, "done"),
+    ("engine", "copy-in", 2, 2, 3, 2, "cancelled"),
+    ("processor", "copy-in", 1, 7, 9, 3, "done"),
+    ("processor", "execution", 1, 9, 12, 3, "done"),
+    ("engine", "copy-out", 3, 7, 9, 3, "done"),
+    ("engine", "copy-in", 2, 9, 11, 3, "done"),
+    ("processor", "execution", 2, 12, 16, 4, "done"),
+    ("engine", "copy-out", 1, 12, 13, 4, "done"),
+    ("engine", "copy-out", 2, 16, 17, 5, "done"),
+}
+BARS_B = {
+    ("engine", "copy-in", 3, 0, 2, 1, "done"),
+    ("processor", "execution", 3, 2, 7, 2, "done"),
+    ("engine", "copy-in", 2, 2, 4, 2, "done"),
+    ("processor", "execution", 2, 7, 11, 3, "done"),
+    ("engine", "copy-out", 3, 7, 9, 3, "done"),
+    ("engine", "copy-in", 1, 9, 11, 3, "done"),
+    ("processor", "execution", 1, 11, 14, 4, "done"),
+    ("engine", "copy-out", 2, 11, 12, 4, "done"),
+    ("engine", "copy-out", 1, 14, 15, 5, "done"),
+}
+
+
+class Drawn:
+    """A picture taken apart again."""
+
+    def __init__(self, svg):
+        self.root = ElementTree.fromstring(svg)
+        self.width, self.height = float(self.root.get("width")), float(self.root.get("height"))
+
+    @classmethod
+    def of_plan(cls, plan, lines=None):
+        with tempfile.TemporaryDirectory() as folder:
+            return cls(picture.picture(*written(folder, plan, lines)))
+
+    def having(self, name):
+        return [element for element in self.root.iter() if element.get(name) is not None]
+
+    def of_kind(self, kind, *names):
+        """The data attributes of all elements of a kind, numbers as numbers."""
+        return [tuple(int(element.get(f"data-{name}")) for name in names)
+                for element in self.having("data-kind") if element.get("data-kind") == kind]
+
+    def elements(self, kind):
+        return [element for element in self.having("data-kind") if element.get("data-kind") == kind]
+
+    def bars(self):
+        return [(bar.get("data-unit"), bar.get("data-kind"), *(int(bar.get(f"data-{name}")) for name in
+                 ("task", "begin", "end", "interval")), bar.get("data-fate")) for bar in self.having("data-unit")]
+
+    def intervals(self):
+        return self.of_kind("interval", "number", "begin", "end", "half")
+
+    def x_by_time(self):
+        """The axis as a function, from its first and last number."""
+        numbers = [(int(tick.get("data-time")), float(tick.get("x"))) for tick in self.elements("tick")]
+        (first, x_first), (last, x_last) = numbers[0], numbers[-1]
+        return lambda time: x_first + (time - first) * (x_last - x_first) / (last - first)
+
+    def texts(self):
+        """Each text with the box that it takes, about: left, top, right, bottom."""
+        for element in self.root.iter(f"{SVG}text"):
+            style = element.get("class", "").split()
+            size = 9 if "small" in style else 16 if "heading" in style else 11
+            width = 0.6 * size * len(element.text)
+            left = float(element.get("x")) - (width / 2 if "middle" in style else width if "end" in style else 0)
+            base = float(element.get("y"))
+            yield element.text, (left, base - 0.75 * size, left + width, base)
+
+
+def written(folder, plan, lines=None):
+    """The paths of a plan and of lines, written into a folder."""
+    paths = []
+    for name, content in (("x.plan", plan), ("lines", lines)):
+        if content is not None:
+            path = pathlib.Path(folder, name)
+            path.write_text(content, encoding="utf-8")
+            paths.append(str(path))
+    return paths
+
+
+def random_run(seed, tasks=6, releases=330, gap=6):
+    """The input of a run of some hundred intervals."""
+    rng = random.Random(seed)
+    table = generate.some_tasks(rng, tasks, generate.small_length)
+    numbers = [task[1] for task in table]
+    found = {(rng.randrange(releases * gap), rng.choice(numbers)) for _ in range(releases)}
+    return b"".join(table + [release_entry(*release) for release in sorted(found)])
+
+
+def drawn_input(data):
+    return Drawn(draw(timeline(*read_file(data), record_lines(record(data))), "a run"))
+
+
+def first_rect(element):
+    rect = element.find(f"{SVG}rect")
+    return tuple(float(rect.get(name)) for name in ("x", "y", "width", "height"))
+
+
+def first_path_x(element):
+    return float(re.match(r"M(-?[\d.]+) ", element.find(f"{SVG}path").get("d")).group(1))
+
+
+class PlanA(unittest.TestCase):
+    @classmethod
+    def setUpClass(cls):
+        cls.drawn = Drawn(picture.picture(str(ROOT / "plans/a.plan")))
+
+    def test_bars(self):
+        self.assertEqual(len(self.drawn.bars()), len(BARS_A))
+        self.assertEqual(set(self.drawn.bars()), BARS_A)
+
+    def test_intervals(self):
+        self.assertEqual(self.drawn.intervals(), [(1, 0, 2, 0), (2, 2, 7, 1), (3, 7, 12, 0), (4, 12, 16, 1), (5, 16, 17, 0)])
+
+    def test_the_copy_in_of_2_is_cancelled_at_3_by_1(self):
+        self.assertEqual(self.drawn.of_kind("cancellation", "task", "time", "by"), [(2, 3, 1)])
+        hatched = [bar for bar in self.drawn.having("data-unit") if any(rect.get("fill") == "url(#hatch)" for rect in bar)]
+        self.assertEqual([bar.get("data-fate") for bar in hatched], ["cancelled"])
+
+    def test_1_is_promoted_at_the_end_of_interval_2(self):
+        self.assertEqual(self.drawn.of_kind("promotion", "task", "time", "interval"), [(1, 7, 2)])
+
+    def test_releases_and_jobs_done(self):
+        self.assertEqual(self.drawn.of_kind("release", "time", "task"), [(0, 3), (2, 2), (3, 1)])
+        self.assertEqual(self.drawn.of_kind("skipped", "time", "task"), [])
+        self.assertEqual(self.drawn.of_kind("completion", "task", "release", "time", "blocked"),
+                         [(3, 0, 9, 0), (1, 3, 13, 1), (2, 2, 17, 1)])
+
+    def test_bars_are_as_long_as_their_phases(self):
+        x = self.drawn.x_by_time()
+        for bar in self.drawn.having("data-unit"):
+            begin, end = int(bar.get("data-begin")), int(bar.get("data-end"))
+            left, _, width, _ = first_rect(bar)
+            self.assertAlmostEqual(left, x(begin), places=1)
+            self.assertAlmostEqual(left + width, x(end), places=1)
+        self.assertGreater(x(17) - x(0), 17 * 30)
+
+    def test_marks_stand_at_their_ticks(self):
+        x = self.drawn.x_by_time()
+        for kind, offset in (("release", 0), ("cancellation", 5), ("promotion", 5)):
+            for element in self.drawn.elements(kind):
+                self.assertAlmostEqual(first_path_x(element) + offset, x(int(element.get("data-time"))), places=1)
+        for element in self.drawn.elements("completion"):
+            self.assertAlmostEqual(float(element.find(f"{SVG}circle").get("cx")), x(int(element.get("data-time"))), places=1)
+
+    def test_rows(self):
+        """Each unit's bars lie in its row; an interval's box goes over both and has each row in its half's colour."""
+        rows = {"processor": set(), "engine": set()}
+        for bar in self.drawn.having("data-unit"):
+            rows[bar.get("data-unit")].add(first_rect(bar)[1::2])
+        self.assertEqual([len(row) for row in rows.values()], [1, 1])
+        ((processor, height),), ((engine, _),) = rows["processor"], rows["engine"]
+        self.assertLess(processor + height, engine)
+        colours = {}
+        for band in self.drawn.elements("interval"):
+            upper, lower, box = band.findall(f"{SVG}rect")
+            for row, bar_top in ((upper, processor), (lower, engine)):
+                self.assertLess(float(row.get("y")), bar_top)
+                self.assertGreater(float(row.get("y")) + float(row.get("height")), bar_top + height)
+            self.assertLess(float(box.get("y")), processor)
+            self.assertGreater(float(box.get("y")) + float(box.get("height")), engine + height)
+            colours.setdefault(band.get("data-half"), set()).add((upper.get("fill"), lower.get("fill")))
+        ((one, other),), ((other_too, one_too),) = colours["0"], colours["1"]
+        self.assertEqual((one, other), (one_too, other_too))
+        self.assertNotEqual(one, other)
+
+    def test_each_task_has_its_colour(self):
+        fills = {}
+        for bar in self.drawn.having("data-unit"):
+            if bar.get("data-kind") == "execution":
+                fills[bar.get("data-task")] = bar.find(f"{SVG}rect").get("fill")
+        self.assertEqual(len(set(fills.values())), 3)
+
+    def test_labels(self):
+        """Everything has its label here: intervals, ticks, halves, bars, marks."""
+        labels = [label for label, _ in self.drawn.texts()]
+        for label in ("interval 1", "0–2", "interval 4", "12–16", "16–17", "run 3", "in 1", "run 1", "out 3", "run 2",
+                      "out 1", "out 2", "1 promoted", "processor", "engine", "releases", "jobs done", "Run of a.plan"):
+            self.assertEqual(labels.count(label), 1, label)
+        self.assertEqual((labels.count("in 2"), labels.count("half 0"), labels.count("half 1")), (2, 5, 5))
+        self.assertEqual([int(tick.text) for tick in self.drawn.elements("tick")], list(range(18)))
+
+    def test_size(self):
+        self.assertLess(self.drawn.height, 500)
+        self.assertLess(self.drawn.width, 1000)
+
+    def test_title_and_description(self):
+        self.assertEqual(self.drawn.root.find(f"{SVG}title").text, "Run of a.plan")
+        self.assertIn("ticks 0 to 17, 3 tasks, 3 releases (0 skipped), 5 intervals, 1 copy-in cancelled, 1 job promoted, "
+                      "3 jobs done", self.drawn.root.find(f"{SVG}desc").text)
+        for element in self.drawn.having("data-kind"):
+            if element.tag == f"{SVG}g" and element.get("data-kind") != "axis":
+                self.assertTrue(element.find(f"{SVG}title").text)
+
+    def test_from_printed_lines(self):
+        self.assertEqual(set(Drawn.of_plan(A, LINES_A).bars()), BARS_A)
+
+    def test_nothing_comes_from_outside(self):
+        self.assertEqual(self.drawn.root.tag, f"{SVG}svg")
+        for element in self.drawn.root.iter():
+            self.assertNotIn(element.tag.removeprefix(SVG), ("script", "image", "use", "foreignObject"))
+            self.assertFalse([name for name in element.keys() if name.startswith("on") or name.endswith("href")])
+        self.assertNotRegex(self.drawn.root.find(f"{SVG}style").text, "@import|url")
+
+
+class PlanB(unittest.TestCase):
+    @classmethod
+    def setUpClass(cls):
+        cls.drawn = Drawn(picture.picture(str(ROOT / "plans/b.plan")))
+
+    def test_bars(self):
+        self.assertEqual(len(self.drawn.bars()), len(BARS_B))
+        self.assertEqual(set(self.drawn.bars()), BARS_B)
+
+    def test_intervals(self):
+        self.assertEqual(self.drawn.intervals(), [(1, 0, 2, 0), (2, 2, 7, 1), (3, 7, 11, 0), (4, 11, 14, 1), (5, 14, 15, 0)])
+
+    def test_marks(self):
+        self.assertEqual(self.drawn.of_kind("release", "time", "task"), [(0, 3), (2, 2), (4, 1)])
+        self.assertEqual(self.drawn.of_kind("completion", "task", "time", "blocked"), [(3, 9, 0), (2, 12, 1), (1, 15, 2)])
+        self.assertEqual(self.drawn.elements("cancellation") + self.drawn.elements("promotion"), [])
+
+
+class OtherPlans(unittest.TestCase):
+    def test_a_skipped_release(self):
+        """Plan F: the release at 5 is skipped. Its line is dashed and its number struck out."""
+        drawn = Drawn.of_plan(TASKS + "release 0 1\nrelease 5 1\n")
+        self.assertEqual(drawn.of_kind("release", "time", "task"), [(0, 1)])
+        self.assertEqual(drawn.of_kind("skipped", "time", "task"), [(5, 1)])
+        styles = [[path.get("class") for path in drawn.elements(kind)[0].iter(f"{SVG}path")] for kind in ("release", "skipped")]
+        self.assertEqual(styles, [["line", None], ["dashed", "stop", "strike"]])
+
+    def test_a_copy_in_cancelled_at_the_end_of_its_interval(self):
+        """Plan D: interval 0 to 1, and the job that cancelled is promoted."""
+        drawn = Drawn.of_plan(TASKS + "release 0 2\nrelease 1 1\n")
+        self.assertIn(("engine", "copy-in", 2, 0, 1, 1, "cancelled"), drawn.bars())
+        self.assertEqual(drawn.of_kind("promotion", "task", "time", "interval"), [(1, 1, 1)])
+
+    def test_a_copy_in_cancelled_behind_a_copy_out(self):
+        """The releases of 3, which is unmarked, and of 4, which is lower, do not cancel."""
+        tasks = "task 0 9 0 1 20 4\ntask 1 5 0 6 1 1\ntask 2 3 1 1 1 1\ntask 3 4 0 1 1 1\ntask 4 6 1 1 1 1\n"
+        drawn = Drawn.of_plan(tasks + "release 0 0\nrelease 21 1\nrelease 26 3\nrelease 27 4\nrelease 28 2\n")
+        self.assertIn(("engine", "copy-out", 0, 21, 25, 3, "done"), drawn.bars())
+        self.assertIn(("engine", "copy-in", 1, 25, 28, 3, "cancelled"), drawn.bars())
+        self.assertEqual(drawn.of_kind("cancellation", "task", "time", "by"), [(1, 28, 2)])
+
+    def test_a_skipped_release_does_not_cancel(self):
+        tasks = "task 0 0 1 1 1 1\ntask 1 1 1 2 10 1\ntask 2 2 0 6 1 1\n"
+        drawn = Drawn.of_plan(tasks + "release 0 1\nrelease 1 2\nrelease 4 1\nrelease 6 0\n")
+        self.assertEqual(drawn.of_kind("skipped", "time", "task"), [(4, 1)])
+        self.assertIn(("engine", "copy-in", 2, 2, 6, 2, "cancelled"), drawn.bars())
+        self.assertEqual(drawn.of_kind("cancellation", "task", "time", "by"), [(2, 6, 0)])
+
+    def test_a_release_on_the_tick_of_the_choice_does_not_cancel(self):
+        """The release of 1 cuts interval 1 short and is promoted; 2 is chosen again on that tick, and cancelled by 0."""
+        tasks = "task 0 0 1 1 1 1\ntask 1 1 1 2 3 1\ntask 2 2 0 4 1 1\n"
+        drawn = Drawn.of_plan(tasks + "release 0 2\nrelease 1 1\nrelease 3 0\n")
+        self.assertEqual(drawn.of_kind("cancellation", "task", "time", "by"), [(2, 1, 1), (2, 3, 0)])
+        self.assertIn(("engine", "copy-in", 2, 1, 3, 2, "cancelled"), drawn.bars())
+
+    def test_no_release(self):
+        """Plan G: an empty record, and still a picture."""
+        drawn = Drawn.of_plan(TASKS)
+        self.assertEqual((drawn.bars(), drawn.intervals()), ([], []))
+
+    def test_time_far_from_zero(self):
+        drawn = Drawn.of_plan(TASKS + "release 1000000000 1\n")
+        self.assertEqual(drawn.intervals()[0][1:3], (1_000_000_000, 1_000_000_002))
+        self.assertLess(drawn.width, 1000)
+
+    def test_one_short_phase_does_not_stretch_a_run(self):
+        self.assertLess(Drawn.of_plan("task 1 1 1 1 1000000 1000000\nrelease 0 1\n").width, 1000)
+
+
+def observed_phases(data):
+    """The phases of a run as (unit, name, task, begin, end), by looking at the simulator's units at each instant."""
+    table, releases = read_file(data)
+    dispatcher, sets = Dispatcher(dict(table)), dict(released_sets(releases))
+    phases, current = [], {"processor": (None, 0), "engine": (None, 0)}
+    while sets or dispatcher.due() is not None:
+        now = min([*list(sets)[:1], *([] if dispatcher.due() is None else [dispatcher.due()])])
+        dispatcher.instant(now, sets.pop(now, 0))
+        for unit, (phase, begin) in current.items():
+            seen = getattr(dispatcher.interval, unit, None)
+            if seen is not phase:
+                current[unit] = seen, now
+                if phase is not None:
+                    phases.append((unit, phase.name, phase.job.task.number, begin, now))
+    return sorted(phases)
+
+
+class RandomRuns(unittest.TestCase):
+    def assert_sound(self, data):
+        """As many boxes as intervals, the phases that the simulator went through, none outside its interval."""
+        lines, drawn = record_lines(record(data)), drawn_input(data)
+        self.assertEqual(len(drawn.intervals()), sum(line.startswith("I") for line in lines))
+        self.assertEqual(len(drawn.elements("skipped")), sum(line.startswith("S") for line in lines))
+        self.assertEqual(len(drawn.elements("completion")), sum(line.startswith("J") for line in lines))
+        self.assertEqual(len(drawn.elements("release") + drawn.elements("skipped")), len(read_file(data)[1]))
+        self.assertEqual(sorted(bar[:5] for bar in drawn.bars()), observed_phases(data))
+        boxes = {band.get("data-number"): first_rect(band) for band in drawn.elements("interval")}
+        for bar in drawn.having("data-unit"):
+            (left, _, width, _), (box_left, _, box_width, _) = first_rect(bar), boxes[bar.get("data-interval")]
+            self.assertGreaterEqual(left, box_left - 0.02)
+            self.assertLessEqual(left + width, box_left + box_width + 0.04)
+        self.assertLessEqual(drawn.width, MOST_WIDTH)
+        return drawn
+
+    def test_a_run_of_some_hundred_intervals(self):
+        for seed in (2, 9, 12):
+            drawn = self.assert_sound(random_run(seed))
+            self.assertGreater(len(drawn.intervals()), 200)
+            self.assertGreater(len(drawn.elements("cancellation")), 0)
+            self.assertGreater(len(drawn.elements("promotion")), 0)
+            self.assertGreater(drawn.width, 10_000)
+
+    def test_random_files(self):
+        rng = random.Random(6)
+        for _ in range(60):
+            self.assert_sound(generate.random_file(rng))
+
+
+class Labels(unittest.TestCase):
+    def assert_apart(self, drawn):
+        """No text runs into another or out of the picture."""
+        active = []
+        for label, (left, top, right, bottom) in sorted(drawn.texts(), key=lambda each: each[1]):
+            active = [other for other in active if other[1][2] > left]
+            for other, (_, other_top, _, other_bottom) in active:
+                self.assertFalse(top < other_bottom and other_top < bottom, f"'{label}' and '{other}' near x {left}")
+            active.append((label, (left, top, right, bottom)))
+            self.assertTrue(left >= 0 and top >= 0 and right <= drawn.width and bottom <= drawn.height, label)
+
+    def test_plans(self):
+        for name in ("a", "b"):
+            self.assert_apart(Drawn(picture.picture(str(ROOT / f"plans/{name}.plan"))))
+
+    def test_long_and_crowded_runs(self):
+        for data in (random_run(9), random_run(2, tasks=32, gap=2), random_run(3, tasks=32, releases=2000, gap=1),
+                     random_run(4, releases=40), random_run(5, releases=30, gap=100_000)):
+            self.assert_apart(drawn_input(data))
+
+    def test_numbers_are_left_out_where_they_do_not_fit(self):
+        drawn = drawn_input(random_run(3, tasks=32, releases=2000, gap=1))
+        shown = [mark for mark in drawn.elements("release") + drawn.elements("skipped") if mark.find(f"{SVG}text") is not None]
+        self.assertTrue(0 < len(shown) < 2000)
+
+    def test_a_high_stack_ends_with_the_number_of_the_rest(self):
+        self.assertEqual(stack(range(8)), ["0", "1", "2", "3", "4", "5", "6", "7"])
+        self.assertEqual(stack(range(32)), ["0", "1", "2", "3", "4", "5", "6", "+25"])
+
+    def test_marks_on_the_axis_are_apart(self):
+        """Also where a tenth of the step between numbers, or one tick, is too little."""
+        eights, twenties = (Drawn.of_plan(f"task 1 1 1 {ticks} {ticks} {ticks}\nrelease 0 1\n") for ticks in (8, 20))
+        for drawn in (drawn_input(random_run(9)), drawn_input(random_run(5, releases=30, gap=100_000)), eights, twenties):
+            (axis,) = drawn.elements("axis")
+            marks = [float(re.match(r"M([\d.]+) ", path.get("d")).group(1)) for path in axis.findall(f"{SVG}path")[1:]]
+            gaps = [right - left for left, right in zip(marks, marks[1:])]
+            self.assertGreaterEqual(min(gaps), 5.98)
+            self.assertLessEqual(max(gaps) - min(gaps), 0.02)
+            self.assertLessEqual({float(number.get("x")) for number in drawn.elements("tick")}, set(marks))
+        self.assertEqual(eights.of_kind("tick", "time"), [(0,), (5,), (10,), (15,), (20,)])
+        self.assertEqual(twenties.of_kind("tick", "time"), [(0,), (20,), (40,), (60,)])
+
+    def test_the_axis_is_thinned(self):
+        self.assertEqual([tick_step(pixels, 1000) for pixels in (44, 30, 12, 4.5, 0.3)], [1, 2, 5, 10, 200])
+
+
+class Command(unittest.TestCase):
+    def run_main(self, *arguments):
+        """The status, the bytes written and the message."""
+        class Output(io.StringIO):
+            buffer = io.BytesIO()
+        output, message = Output(), io.StringIO()
+        with contextlib.redirect_stdout(output), contextlib.redirect_stderr(message):
+            status = picture.main(list(arguments))
+        return status, output.buffer.getvalue(), message.getvalue()
+
+    def refused(self, plan, lines=None):
+        """The message about a bad plan or bad lines, behind the file's name."""
+        with tempfile.TemporaryDirectory() as folder:
+            paths = written(folder, plan, lines)
+            status, drawn, message = self.run_main(*(["--lines"] if lines is not None else []), *paths)
+        self.assertEqual((status, drawn), (1, b""))
+        self.assertTrue(message.startswith(paths[-1] + ": "), message)
+        return message.removeprefix(paths[-1] + ": ").rstrip("\n")
+
+    def test_plans_that_are_refused(self):
+        task = "# a table\n\ntask 1 1 1 2 3 1\n"
+        for plan, expected in (
+                (task + "tusk\n", "line 4: 'tusk' is neither 'task' nor 'release'"),
+                (task + f"release {'9' * 5000} 1\n", "line 4: time has 5000 digits, over 20"),
+                (task + "release 0 1\n# late\ntask 2 2 0 1 1 1\n", "line 6: a task after a release (refusal 3)"),
+                (task + "task 32 2 0 1 1 1\n", "line 4: a task number over 31 or given before (refusal 4)"),
+                (task + "task 2 1 0 1 1 1\n", "line 4: a priority given before (refusal 5)"),
+                (task + "task 2 2 2 1 1 1\n", "line 4: a mark over 1 (refusal 6)"),
+                (task + "task 2 2 0 0 1 1\n", "line 4: L, C or U outside 1 to 1000000 (refusal 7)"),
+                ("release 0 1\n", "line 1: a release of a task that is not in the table (refusal 8)"),
+                (task + "release 5 1\nrelease 5 1\n", "line 5: a release that is not after the one before (refusal 9)"),
+                (task + "release 1000000001 1\n", "line 4: a release time over 1000000000 (refusal 10)"),
+                (task + "".join(f"release {time} 1\n" for time in range(4097)), "line 4100: a 4097th release (refusal 11)"),
+                ("# nothing\n", "the plan has no entry (refusal 12)")):
+            self.assertEqual(self.refused(plan), expected)
+
+    def test_lines_that_do_not_parse(self):
+        first = "I 0 2 0 - 0 - 3 1 -\n"
+        for lines, expected in (
+                (first + "X 1\n", "line 2: 'X 1' is no J, I or S line"),
+                (first + "\n", "line 2: '' is no J, I or S line"),
+                ("S 1\n", "line 1: S takes 2 fields, and here are 1"),
+                ("S one 2\n", "line 1: task is 'one', not a number of the record"),
+                ("S - 2\n", "line 1: task is '-', not a number of the record"),
+                (f"S 1 {'9' * 5000}\n", f"line 1: time is '{'9' * 5000}', not a number of the record"),
+                ("I 0 2 2 - 0 - 3 1 -\n", "line 1: half is 2, over 1"),
+                ("I 0 2 0 - 0 - 9 1 -\n", "line 1: chosen is 9, and the plan has no such task"),
+                ("R 9 58\n", "line 1: the input was refused (R 9 58), there is no run to draw")):
+            self.assertEqual(self.refused(A, lines), expected)
+
+    def test_lines_that_do_not_fit_the_plan(self):
+        for old, new, expected in (
+                ("I 2 7 1 3 1 - 2 2 1", "I 2 7 1 - 1 - 2 2 1", "line 2: the processor's task and its work do not fit"),
+                ("I 2 7 1 3 1 - 2 2 1", "I 2 7 1 3 1 - 2 0 1", "line 2: the chosen task and its fate do not fit"),
+                ("I 2 7 1 3 1 - 2 2 1", "I 2 7 1 3 1 - 1 2 1", "line 2: no release cancels the copy-in of task 1 from 2 to 4"),
+                ("I 7 12", "I 7 13", "line 4: the interval from 7 ends at 13, its phases at 12"),
+                ("I 12 16", "I 11 15", "line 6: the interval begins at 11, before the end of the one before"),
+                ("J 1 3 9", "S 1 4\nJ 1 3 9", "line 5: the plan has no release of task 1 at 4"),
+                ("J 1 3 9", "J 1 4 9", "line 5: the plan has no release of task 1 at 4"),
+                ("J 1 3 9", "J 1 3 14", "line 5: a job's release, execution start and completion do not rise")):
+            self.assertEqual(self.refused(A, LINES_A.replace(old, new)), expected)
+
+    def test_a_release_on_the_tick_on_which_a_copy_in_ends_cancels_nothing(self):
+        """Plan B with lines that say it did."""
+        self.assertEqual(self.refused(A.replace("release 3 1", "release 4 1"), "I 0 2 0 - 0 - 3 1 -\nI 2 7 1 3 1 - 2 2 1\n"),
+                         "line 2: no release cancels the copy-in of task 2 from 2 to 4")
+
+    def test_no_such_file(self):
+        self.assertEqual(self.run_main("no.plan"), (1, b"", "no.plan: No such file or directory\n"))
+
+    def test_usage(self):
+        for arguments in ((), ("--lines",), ("--lines", "a.plan"), ("a.plan", "b.plan")):
+            self.assertEqual(self.run_main(*arguments)[0], 2)
+
+    def test_a_file_name_that_xml_cannot_hold(self):
+        with tempfile.TemporaryDirectory() as folder:
+            path = pathlib.Path(folder, "a\x01<&.plan")
+            path.write_text(A, encoding="utf-8")
+            self.assertEqual(Drawn(picture.picture(str(path))).root.find(f"{SVG}title").text, "Run of a?<&.plan")
+
+    def test_as_a_program(self):
+        """From another folder, with lines from a pipe, and the same bytes each time."""
+        def run(seed, *arguments, lines=b""):
+            return subprocess.run([sys.executable, str(ROOT / "tools/picture.py"), *arguments], input=lines, capture_output=True,
+                                  cwd=tempfile.gettempdir(), env={**os.environ, "PYTHONHASHSEED": seed}, check=False)
+        plan = str(ROOT / "plans/a.plan")
+        one, other, piped = run("1", plan), run("2", plan), run("3", "--lines", plan, "-", lines=LINES_A.encode())
+        self.assertEqual((one.returncode, one.stderr), (0, b""))
+        self.assertEqual(one.stdout, other.stdout)
+        self.assertEqual(one.stdout, piped.stdout)
+        bad = run("4", "--lines", plan, "-", lines=b"I \xff\n")
+        self.assertEqual((bad.returncode, bad.stdout), (1, b""))
+        self.assertEqual(bad.stderr, b"-: line 1: I takes 9 fields, and here are 1\n")
+
+
+class Documents(unittest.TestCase):
+    def test_pictures_are_up_to_date(self):
+        for name in ("a", "b"):
+            kept = (ROOT / f"docs/plan-{name}.svg").read_text(encoding="utf-8")
+            self.assertEqual(kept, picture.picture(str(ROOT / f"plans/{name}.plan")),
+                             f"python3 tools/picture.py plans/{name}.plan > docs/plan-{name}.svg makes it anew")
+
+    def test_lines_of_document_01(self):
+        data = picture.input_bytes((ROOT / "plans/a.plan").read_text(encoding="utf-8").splitlines())
+        self.assertEqual(text(record_lines(record(data))), LINES_A)
+
+
+if __name__ == "__main__":
+    unittest.main()
