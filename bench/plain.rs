@@ -1,0 +1,451 @@
+//! The same work in plain Rust, written to be fast: the state is updated in place, a set's members are found by counting trailing
+//! zeros, and nothing is proved. It answers the same numbers and writes the same bytes as the proved function.
+
+const NONE: u8 = 255;
+const LAST_TIME: u64 = 1_000_000_000;
+const MOST_RELEASES: usize = 4096;
+const LONGEST: u32 = 1_000_000;
+
+#[derive(Clone, Copy, PartialEq)]
+enum Unit {
+    Free,
+    CopyingIn,
+    Executing,
+    CopyingOut,
+}
+
+struct State {
+    priority: [u8; 32],
+    copy_in: [u32; 32],
+    execution: [u32; 32],
+    copy_out: [u32; 32],
+    present: u32,
+    marked: u32,
+    pending: u32,
+    ready: u32,
+    candidates: u32,
+    release: [u64; 32],
+    start: [u64; 32],
+    blocked: [u8; 32],
+    open: bool,
+    begin: u64,
+    half: u8,
+    executed: u8,
+    work: u8,
+    copied_out: u8,
+    choice_made: bool,
+    chosen: u8,
+    fate: u8,
+    processor: Unit,
+    processor_end: u64,
+    engine: Unit,
+    engine_end: u64,
+    loaded: u8,
+    promoted: u8,
+    outgoing: u8,
+    instants: u64,
+}
+
+struct Writer<'a> {
+    out: &'a mut [u8],
+    at: usize,
+    keep: bool,
+}
+
+impl Writer<'_> {
+    #[inline]
+    fn put<const N: usize>(&mut self, bytes: [u8; N]) {
+        if self.keep {
+            self.out[self.at..self.at + N].copy_from_slice(&bytes);
+        }
+        self.at += N;
+    }
+
+    #[inline]
+    fn job(&mut self, task: u8, release: u64, start: u64, completion: u64, blocked: u8) {
+        let mut e = [16; 27];
+        e[1] = task;
+        e[2..10].copy_from_slice(&release.to_le_bytes());
+        e[10..18].copy_from_slice(&start.to_le_bytes());
+        e[18..26].copy_from_slice(&completion.to_le_bytes());
+        e[26] = blocked;
+        self.put(e);
+    }
+
+    #[inline]
+    fn interval(&mut self, s: &State, end: u64, promoted: u8) {
+        let mut e = [17; 24];
+        e[1..9].copy_from_slice(&s.begin.to_le_bytes());
+        e[9..17].copy_from_slice(&end.to_le_bytes());
+        e[17] = s.half;
+        e[18] = s.executed;
+        e[19] = s.work;
+        e[20] = s.copied_out;
+        e[21] = s.chosen;
+        e[22] = s.fate;
+        e[23] = promoted;
+        self.put(e);
+    }
+
+    #[inline]
+    fn skipped(&mut self, task: u8, time: u64) {
+        let mut e = [18; 10];
+        e[1] = task;
+        e[2..10].copy_from_slice(&time.to_le_bytes());
+        self.put(e);
+    }
+}
+
+impl State {
+    #[inline]
+    fn highest(&self, set: u32) -> u8 {
+        let mut left = set;
+        let mut best = NONE;
+        let mut least = 256;
+        while left != 0 {
+            let n = left.trailing_zeros() as usize;
+            let p = self.priority[n] as u32;
+            if p < least {
+                least = p;
+                best = n as u8;
+            }
+            left &= left - 1;
+        }
+        best
+    }
+
+    #[inline]
+    fn due(&self) -> u64 {
+        if !self.open {
+            return u64::MAX;
+        }
+        let processor = if self.processor == Unit::Free { u64::MAX } else { self.processor_end };
+        let engine = if self.engine == Unit::Free { u64::MAX } else { self.engine_end };
+        processor.min(engine)
+    }
+
+    #[inline]
+    fn choose(&mut self, now: u64) {
+        self.choice_made = true;
+        let n = self.highest(self.ready);
+        if n != NONE {
+            self.ready &= !(1 << n);
+            self.chosen = n;
+            self.engine = Unit::CopyingIn;
+            self.engine_end = now + self.copy_in[n as usize] as u64;
+        }
+    }
+
+    #[inline]
+    fn is_over(&self) -> bool {
+        self.open && self.processor == Unit::Free && self.choice_made && self.engine == Unit::Free
+    }
+
+    #[inline]
+    fn end_interval(&mut self, now: u64, w: &mut Writer) {
+        self.open = false;
+        if self.executed != NONE {
+            let limit = self.priority[self.executed as usize];
+            let mut left = self.ready;
+            if self.fate == 1 {
+                left |= 1 << self.chosen;
+            }
+            while left != 0 {
+                let n = left.trailing_zeros() as usize;
+                if self.priority[n] < limit {
+                    self.blocked[n] = self.blocked[n].saturating_add(1);
+                }
+                left &= left - 1;
+            }
+        }
+        self.outgoing = self.executed;
+        self.loaded = NONE;
+        self.promoted = NONE;
+        if self.fate == 1 {
+            self.loaded = self.chosen;
+        } else {
+            self.promoted = self.highest(self.candidates & self.ready);
+            if self.promoted != NONE {
+                self.ready &= !(1 << self.promoted);
+            }
+        }
+        self.candidates = 0;
+        let promoted = self.promoted;
+        w.interval(self, now, promoted);
+    }
+
+    #[inline]
+    fn instant(&mut self, now: u64, released: u32, w: &mut Writer) {
+        self.instants += 1;
+        // a
+        if self.open {
+            if self.engine != Unit::Free && self.engine_end == now {
+                if self.engine == Unit::CopyingOut {
+                    let n = self.copied_out as usize;
+                    self.pending &= !(1 << n);
+                    w.job(n as u8, self.release[n], self.start[n], now, self.blocked[n]);
+                } else {
+                    self.fate = 1;
+                }
+                self.engine = Unit::Free;
+            }
+            if self.processor != Unit::Free && self.processor_end == now {
+                if self.processor == Unit::CopyingIn {
+                    let n = self.executed as usize;
+                    self.start[n] = now;
+                    self.processor = Unit::Executing;
+                    self.processor_end = now + self.execution[n] as u64;
+                } else {
+                    self.processor = Unit::Free;
+                }
+            }
+        }
+        // b
+        if self.is_over() {
+            self.end_interval(now, w);
+        }
+        // c
+        let new = released & !self.pending;
+        let mut skipped = released & self.pending;
+        while skipped != 0 {
+            w.skipped(skipped.trailing_zeros() as u8, now);
+            skipped &= skipped - 1;
+        }
+        self.pending |= new;
+        self.ready |= new;
+        self.candidates |= new & self.marked;
+        let mut left = new;
+        while left != 0 {
+            let n = left.trailing_zeros() as usize;
+            self.release[n] = now;
+            self.blocked[n] = 0;
+            left &= left - 1;
+        }
+        if self.open {
+            // d
+            if self.engine == Unit::CopyingIn && new & self.marked != 0 {
+                let n = self.highest(new & self.marked);
+                if self.priority[n as usize] < self.priority[self.chosen as usize] {
+                    self.engine = Unit::Free;
+                    self.fate = 2;
+                    self.ready |= 1 << self.chosen;
+                }
+            }
+            // e
+            if self.engine == Unit::Free && !self.choice_made {
+                self.choose(now);
+            }
+            // f
+            if self.is_over() {
+                self.end_interval(now, w);
+            }
+        }
+        // g
+        let waits = self.ready != 0 || self.loaded != NONE || self.promoted != NONE || self.outgoing != NONE;
+        if !self.open && waits {
+            self.open = true;
+            self.half = 1 - self.half;
+            self.begin = now;
+            self.executed = NONE;
+            self.work = 0;
+            self.copied_out = NONE;
+            self.choice_made = false;
+            self.chosen = NONE;
+            self.fate = 0;
+            self.processor = Unit::Free;
+            self.engine = Unit::Free;
+            if self.outgoing == NONE {
+                self.choose(now);
+            } else {
+                self.copied_out = self.outgoing;
+                self.engine = Unit::CopyingOut;
+                self.engine_end = now + self.copy_out[self.outgoing as usize] as u64;
+            }
+            if self.promoted != NONE {
+                self.executed = self.promoted;
+                self.work = 2;
+                self.processor = Unit::CopyingIn;
+                self.processor_end = now + self.copy_in[self.promoted as usize] as u64;
+            } else if self.loaded != NONE {
+                self.executed = self.loaded;
+                self.work = 1;
+                self.start[self.loaded as usize] = now;
+                self.processor = Unit::Executing;
+                self.processor_end = now + self.execution[self.loaded as usize] as u64;
+            }
+            self.outgoing = NONE;
+            self.loaded = NONE;
+            self.promoted = NONE;
+        }
+    }
+}
+
+fn word(s: &[u8], at: usize) -> u32 {
+    u32::from_le_bytes(s[at..at + 4].try_into().unwrap())
+}
+
+#[inline]
+fn time_at(s: &[u8], at: usize) -> u64 {
+    u64::from_le_bytes(s[at + 2..at + 10].try_into().unwrap())
+}
+
+fn opened() -> State {
+    State {
+        priority: [0; 32],
+        copy_in: [0; 32],
+        execution: [0; 32],
+        copy_out: [0; 32],
+        present: 0,
+        marked: 0,
+        pending: 0,
+        ready: 0,
+        candidates: 0,
+        release: [0; 32],
+        start: [0; 32],
+        blocked: [0; 32],
+        open: false,
+        begin: 0,
+        half: 1,
+        executed: NONE,
+        work: 0,
+        copied_out: NONE,
+        choice_made: false,
+        chosen: NONE,
+        fate: 0,
+        processor: Unit::Free,
+        processor_end: 0,
+        engine: Unit::Free,
+        engine_end: 0,
+        loaded: NONE,
+        promoted: NONE,
+        outgoing: NONE,
+        instants: 0,
+    }
+}
+
+/// The table, and the place behind its last entry; or a refusal.
+fn read_table(s: &[u8], state: &mut State) -> Result<usize, (u8, usize)> {
+    let mut at = 0;
+    while at < s.len() {
+        match s[at] {
+            1 => {
+                if s.len() - at < 16 {
+                    return Err((1, at));
+                }
+                let n = s[at + 1];
+                if n > 31 || state.present >> n & 1 == 1 {
+                    return Err((4, at));
+                }
+                let priority = s[at + 2];
+                let mut left = state.present;
+                while left != 0 {
+                    if state.priority[left.trailing_zeros() as usize] == priority {
+                        return Err((5, at));
+                    }
+                    left &= left - 1;
+                }
+                let mark = s[at + 3];
+                if mark > 1 {
+                    return Err((6, at));
+                }
+                let lengths = [word(s, at + 4), word(s, at + 8), word(s, at + 12)];
+                if lengths.iter().any(|&x| x == 0 || x > LONGEST) {
+                    return Err((7, at));
+                }
+                let i = n as usize;
+                state.present |= 1 << n;
+                state.marked |= (mark as u32) << n;
+                state.priority[i] = priority;
+                state.copy_in[i] = lengths[0];
+                state.execution[i] = lengths[1];
+                state.copy_out[i] = lengths[2];
+                at += 16;
+            }
+            2 => return Ok(at),
+            _ => return Err((2, at)),
+        }
+    }
+    Ok(at)
+}
+
+fn check_releases(s: &[u8], start: usize, present: u32) -> Result<(), (u8, usize)> {
+    let mut at = start;
+    let mut count = 0;
+    let mut last = None;
+    while at < s.len() {
+        match s[at] {
+            2 => {
+                if s.len() - at < 10 {
+                    return Err((1, at));
+                }
+                let task = s[at + 1];
+                let time = time_at(s, at);
+                if task > 31 || present >> task & 1 == 0 {
+                    return Err((8, at));
+                }
+                if time > LAST_TIME {
+                    return Err((10, at));
+                }
+                if last.is_some_and(|before| (time, task) <= before) {
+                    return Err((9, at));
+                }
+                if count == MOST_RELEASES {
+                    return Err((11, at));
+                }
+                last = Some((time, task));
+                count += 1;
+                at += 10;
+            }
+            1 if s.len() - at < 16 => return Err((1, at)),
+            1 => return Err((3, at)),
+            _ => return Err((2, at)),
+        }
+    }
+    Ok(())
+}
+
+fn run(s: &[u8], start: usize, state: &mut State, w: &mut Writer) {
+    let mut at = start;
+    loop {
+        let due = state.due();
+        let next = if at < s.len() { time_at(s, at) } else { u64::MAX };
+        let now = due.min(next);
+        if now == u64::MAX {
+            return;
+        }
+        let mut released = 0;
+        while at < s.len() && time_at(s, at) == now {
+            released |= 1 << s[at + 1];
+            at += 10;
+        }
+        state.instant(now, released, w);
+    }
+}
+
+/// The number of the refusal and its value, as the proved function tells them, and how many instants were run.
+pub fn record(s: &[u8], out: &mut [u8]) -> (u8, usize, u64) {
+    if s.is_empty() {
+        return (12, 0, 0);
+    }
+    let mut state = opened();
+    let start = match read_table(s, &mut state) {
+        Ok(start) => start,
+        Err((number, place)) => return (number, place, 0),
+    };
+    if let Err((number, place)) = check_releases(s, start, state.present) {
+        return (number, place, 0);
+    }
+    let releases = (s.len() - start) / 10;
+    if 99 * releases > out.len() {
+        let mut measured = opened();
+        let _ = read_table(s, &mut measured);
+        let mut w = Writer { out: &mut [], at: 0, keep: false };
+        run(s, start, &mut measured, &mut w);
+        if w.at > out.len() {
+            return (13, w.at, measured.instants);
+        }
+    }
+    let mut w = Writer { out, at: 0, keep: true };
+    run(s, start, &mut state, &mut w);
+    (0, w.at, state.instants)
+}

@@ -1,0 +1,12 @@
+#!/usr/bin/env bash
+# Time the proved record function against plain Rust, both in one program, and print the ratios of their times.
+set -eu
+cd "$(dirname "$0")/.."
+mkdir -p target
+rt staticlib exports >target/staticlib.log 2>&1 || {
+    cat target/staticlib.log
+    exit 1
+}
+mkdir -p target/bench
+rustc --edition 2024 -C opt-level=3 -D warnings -L target/staticlib -o target/bench/bench bench/main.rs
+target/bench/bench

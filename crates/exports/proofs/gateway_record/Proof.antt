@@ -1,0 +1,26 @@
+-- `exports::gateway_record` meets its contract: what `record::write` answers, as two numbers. Assumes nothing.
+use mathlib.Core.Path.{_∙_, ap}
+use borrow.Author.Needs.{needs}
+use Rattle.record.specs.Run.{outcome-number, outcome-value}
+use Rattle.exports.proofs.gateway_record.Statement.{statement}
+use Rattle.exports.proofs.gateway_record.Tie as tie
+
+write-requires : tie.Need-write-requires
+write-requires c κs = search needs
+
+value-requires : tie.Need-value-requires
+value-requires c κs = search needs
+
+number-requires : tie.Need-number-requires
+number-requires c κs = search needs
+
+same-length : tie.Need-same-length
+same-length c = search needs
+
+returns : tie.Need-returns
+returns c =
+    let wrote = c .before .before .before .before .write .ensures .wrote in
+    (c .number .ensures ∙ ap outcome-number (wrote .outcome-is), (c .before .value .ensures ∙ ap outcome-value (wrote .outcome-is), wrote .holds))
+
+pub gateway-record-spec : {M : Type 1} → statement M
+gateway-record-spec = tie.close (tie.spec write-requires value-requires number-requires same-length returns)

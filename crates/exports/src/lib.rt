@@ -1,0 +1,59 @@
+// The record function for programs in C and Rust: slices and numbers, and no type of this repository.
+use record::Outcome;
+use table::Refusal;
+ghost use mathlib.Core.Path.{_≡_};
+ghost use Rattle.dispatcher.specs.Answers.{refusal-number, refusal-place};
+ghost use Rattle.record.specs.Run.{file, outcome-number, outcome-value};
+
+fn number_of(refusal: Refusal) -> u8
+    ensures { λ r. ⌜ r ≡ refusal-number refusal ⌝ }
+{
+    match refusal {
+        Refusal::NoRefusal => 0,
+        Refusal::Alone(n) => n,
+        Refusal::AtEntry(n, _) => n,
+    }
+}
+
+fn place_of(refusal: Refusal) -> usize
+    ensures { λ r. ⌜ r ≡ refusal-place refusal ⌝ }
+{
+    match refusal {
+        Refusal::NoRefusal => 0,
+        Refusal::Alone(_) => 0,
+        Refusal::AtEntry(_, at) => at,
+    }
+}
+
+fn number(outcome: Outcome) -> u8
+    ensures { λ r. ⌜ r ≡ outcome-number outcome ⌝ }
+{
+    match outcome {
+        Outcome::RefusedInput(refusal) => number_of(refusal),
+        Outcome::TooShort(_) => 13,
+        Outcome::Recorded(_) => 0,
+    }
+}
+
+fn value(outcome: Outcome) -> usize
+    ensures { λ r. ⌜ r ≡ outcome-value outcome ⌝ }
+{
+    match outcome {
+        Outcome::RefusedInput(refusal) => place_of(refusal),
+        Outcome::TooShort(needed) => needed,
+        Outcome::Recorded(size) => size,
+    }
+}
+
+// The record of `input` in the front of `out`. The answer is the number of the refusal, 0 where there is none; what `told` holds then is the
+// record's length, the length needed with 13, or the place of the entry that is refused. Nothing is asked of a caller.
+#[no_mangle]
+pub extern "C" fn gateway_record(input: &[u8], out: &mut [u8], told: &mut usize) -> u8
+    ensures { λ r. ⌜ r ≡ outcome-number (file (now (input .entry)) (now (out .entry)) .outcome) ⌝ }
+    ensures { λ _. ⌜ now (told .exit) ≡ outcome-value (file (now (input .entry)) (now (out .entry)) .outcome) ⌝ }
+    ensures { λ _. ⌜ now (out .exit) ≡ file (now (input .entry)) (now (out .entry)) .memory ⌝ }
+{
+    let outcome = record::write(input, out);
+    *told = value(outcome);
+    number(outcome)
+}
