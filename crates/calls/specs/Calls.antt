@@ -5,10 +5,12 @@ use Prim.Native.Nat.{ℕ, _+_, _-_}
 use lib.Dec.{eqb, leb}
 use lib.ListN.{length}
 use Rattle.words.specs.Words.{numberAt}
-use Rattle.dispatcher.specs.Calls.{instant, mark}
+use Rattle.rules.specs.Calls.{instant, mark}
 use Rattle.lines.specs.Lines.{instant-lines, mark-lines, cut-short-line}
 use Rattle.lines.specs.Text.{text-of}
-use Rattle.calls.specs.Types.{Dispatcher, Call, InstantCall, MarkCall, CutShort, OtherKind, Answered}
+use Rattle.lines.specs.declared.Text.{Text}
+use Rattle.dispatcher.specs.Reading.{state-of}
+use Rattle.calls.specs.Types.{State, Call, InstantCall, MarkCall, CutShort, OtherKind, Answered}
 
 -- kind 64, an instant: time (8), set (4)
 unfoldable pub instant-at : List ℕ → ℕ → Call
@@ -34,18 +36,26 @@ call-size CutShort = 0
 call-size OtherKind = 0
 
 -- the dispatcher after a call; what is no whole call leaves it
-abbrev pub state-after : Dispatcher → Call → Dispatcher
+abbrev pub state-after : State → Call → State
 state-after d (InstantCall t set) = instant d t set .state
 state-after d (MarkCall n m) = mark d n m .state
 state-after d CutShort = d
 state-after d OtherKind = d
 
 -- the call's lines
-abbrev pub call-lines : Dispatcher → Call → List ℕ
+abbrev pub call-lines : State → Call → List ℕ
 call-lines d (InstantCall t set) = instant-lines (instant d t set .answer)
 call-lines d (MarkCall n m) = mark-lines (mark d n m .answer)
 call-lines d CutShort = cut-short-line
 call-lines d OtherKind = cut-short-line
 
-unfoldable pub answered : Dispatcher → Call → Answered
+pub record Reply : Type 0 where
+  pub state : State
+  pub text : Text
+
+unfoldable pub answered : State → Call → Reply
 answered d c = record { state = state-after d c; text = text-of (call-lines d c) }
+
+-- what is handed back, read as the rules have it
+abbrev pub reply-of : Answered → Reply
+reply-of a = record { state = state-of (a .state); text = a .text }

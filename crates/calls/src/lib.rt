@@ -4,7 +4,8 @@ use lines::Text;
 ghost use mathlib.Core.Path.{_≡_};
 ghost use Prim.Native.Nat.{_≤_, _<_};
 ghost use lib.ListN.{length};
-ghost use Rattle.calls.specs.Calls.{instant-at, mark-at, call-at, call-size, answered};
+ghost use Rattle.calls.specs.Calls.{instant-at, mark-at, call-at, call-size, answered, reply-of};
+ghost use Rattle.dispatcher.specs.Reading.{state-of};
 
 // Kind 64 is an instant, with its time (8 bytes) and set (4), and kind 65 a mark call, with its task and mark (1 each).
 pub enum Call {
@@ -77,7 +78,7 @@ pub fn call_size(call: Call) -> usize
 
 // The dispatcher called.
 pub fn answer(d: Dispatcher, call: Call) -> Answered
-    ensures { λ r. ⌜ (r ≡ answered d call) × (r .text .len ≤ 192) ⌝ }
+    ensures { λ r. ⌜ (reply-of r ≡ answered (state-of d) call) × (r .text .len ≤ 192) ⌝ }
 {
     match call {
         Call::InstantCall { time, set } => {

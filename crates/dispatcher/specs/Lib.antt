@@ -1,6 +1,3 @@
 pub mod Types
-pub mod State
-pub mod Order
-pub mod Instant
-pub mod Calls
-pub mod Answers
+pub mod Reading
+pub mod Promises

@@ -1,26 +1,37 @@
 // An instant, with its refusals in their order. A refused call hands the state back as it was.
-use crate::Answer;
-use crate::Clock;
-use crate::Closed;
-use crate::Closing;
 use crate::Dispatcher;
-use crate::Due;
-use crate::Occurred;
-use crate::Stage;
 use crate::Step;
-use crate::next_due::due;
-use crate::step_a::step_a;
-use crate::step_b::step_b;
-use crate::step_c::held_over;
-use crate::step_c::step_c;
-use crate::step_d::step_d;
-use crate::step_e::step_e;
-use crate::step_g::step_g;
+use crate::Tested;
+use crate::Turned;
+use rules::Answer;
+use rules::Clock;
+use rules::Closed;
+use rules::Closing;
+use rules::Due;
+use rules::Occurred;
+use rules::Registers;
+use rules::begun;
+use rules::blocks;
+use rules::cancelled;
+use rules::chosen;
+use rules::close;
+use rules::completed;
+use rules::count;
+use rules::due_time;
+use rules::ended;
+use rules::held_over;
+use rules::interval_entry;
+use rules::over;
+use rules::promoted;
+use rules::stamp;
+use rules::taken;
 ghost use mathlib.Core.Path.{_≡_};
 ghost use mathlib.Core.Bool.{not, _&&_};
 ghost use lib.Dec.{eqb, ltb};
-ghost use Rattle.dispatcher.specs.Calls as calls;
-ghost use Rattle.dispatcher.specs.Instant as instant;
+ghost use Rattle.rules.specs.Calls as calls;
+ghost use Rattle.rules.specs.Instant as instant;
+ghost use Rattle.dispatcher.specs.Reading.{state-of, step-of, Answers};
+ghost use Rattle.dispatcher.specs.Promises.{Refuses, Tests, Releases, Turns};
 
 fn not_after(clock: Clock, t: u64) -> bool
     ensures { λ r. ⌜ r ≡ calls.not-after clock t ⌝ }
@@ -51,21 +62,19 @@ fn too_late(t: u64, set: u32) -> bool
 }
 
 // 16, 10, 14, 15, in this order; 0 is none.
-fn refusal(d: Dispatcher, t: u64, set: u32) -> u8
-    ensures { λ r. ⌜ r ≡ calls.refusal d t set ⌝ }
+fn refusal(present: u32, clock: Clock, r: Registers, t: u64, set: u32) -> u8
+    ensures { λ x. ⌜ Refuses present clock r t set x ⌝ }
 {
-    if sets::difference(set, d.table.present) != 0 {
+    if sets::difference(set, present) != 0 {
         return 16;
     }
     if too_late(t, set) {
         return 10;
     }
-    let clock = d.clock;
-    let phase = d.phase;
     if not_after(clock, t) {
         return 14;
     }
-    if before_now(due(phase), t) {
+    if before_now(due_time(r), t) {
         return 15;
     }
     0
@@ -84,41 +93,115 @@ fn closing(before: Closed, after: Closed) -> Closing
     }
 }
 
-// Steps a to g.
-fn served(d: Dispatcher, t: u64, set: u32) -> Step
-    ensures { λ r. ⌜ r ≡ calls.served d t set ⌝ }
+// The test of steps b and f.
+fn test(r: Registers, t: u64, priority: &[u8; 32], blocked: &mut [u8; 32]) -> Tested
+    ensures { λ x. ⌜ Tests r t (now (priority .entry)) (now (blocked .entry)) (now (blocked .exit)) x ⌝ }
 {
-    let clock = Clock::At(t);
-    let a = step_a(Dispatcher { clock, ..d }, t);
-    let b = step_b(a, t);
-    let before = b.state;
-    let done = b.done;
-    let closed = b.closed;
-    let pending = before.jobs.pending;
-    let new = sets::difference(set, pending);
-    let phase = before.phase;
-    let held = held_over(phase, new);
-    let state = step_e(step_d(step_c(before, t, new), new), t);
-    let f = step_b(
-        Stage {
-            state,
-            done,
-            closed,
-        },
+    if over(r) {
+        let p = promoted(r, priority);
+        count(blocks(r, priority), blocked);
+        return Tested {
+            registers: close(r, p),
+            closed: Closed::Span(interval_entry(r, t, p)),
+        };
+    }
+    Tested {
+        registers: r,
+        closed: Closed::NoInterval,
+    }
+}
+
+// Steps c to e, with the tasks whose release is taken.
+fn released(r: Registers, t: u64, new: u32, priority: &[u8; 32], copyin: &[u32; 32]) -> Registers
+    ensures { λ x. ⌜ Releases r t new (now (priority .entry)) (now (copyin .entry)) x ⌝ }
+{
+    let c = taken(r, new);
+    let d = cancelled(c, new, priority);
+    chosen(d, t, priority, copyin)
+}
+
+// Steps a to g, over the parts.
+fn turn(
+    r: Registers,
+    t: u64,
+    set: u32,
+    priority: &[u8; 32],
+    copyin: &[u32; 32],
+    execution: &[u32; 32],
+    copyout: &[u32; 32],
+    release: &mut [u64; 32],
+    blocked: &mut [u8; 32],
+) -> Turned
+    ensures { λ x. ⌜ Turns r t set (now (priority .entry)) (now (copyin .entry)) (now (execution .entry)) (now (copyout .entry)) (now (release .entry)) (now (blocked .entry)) (now (release .exit)) (now (blocked .exit)) x ⌝ }
+{
+    let done = completed(r, t, release, blocked);
+    let b = test(ended(r, t, execution), t, priority, blocked);
+    let before = b.closed;
+    let open = b.registers;
+    let new = sets::difference(set, open.pending);
+    let skipped = sets::intersection(set, open.pending);
+    stamp(new, t, release, blocked);
+    let f = test(
+        released(open, t, new, priority, copyin),
         t,
+        priority,
+        blocked,
     );
     let after = f.closed;
-    let ended = f.state;
-    let state = step_g(ended, t, held);
-    let next = state.phase;
+    let left = f.registers;
+    let registers = begun(
+        left,
+        t,
+        held_over(open, new),
+        priority,
+        copyin,
+        execution,
+        copyout,
+    );
     let occurred = Occurred {
         done,
-        closed: closing(closed, after),
-        skipped: sets::intersection(set, pending),
-        due: due(next),
+        closed: closing(before, after),
+        skipped,
+        due: due_time(registers),
     };
+    Turned {
+        registers,
+        occurred,
+    }
+}
+
+// Steps a to g, of a dispatcher.
+fn served(d: Dispatcher, t: u64, set: u32) -> Step
+    ensures { λ x. ⌜ step-of x ≡ calls.served (state-of d) t set ⌝ }
+{
+    let table = d.table;
+    let priority = table.priority;
+    let copyin = table.copyin;
+    let execution = table.execution;
+    let copyout = table.copyout;
+    let mut release = d.release;
+    let mut blocked = d.blocked;
+    let x = turn(
+        d.registers,
+        t,
+        set,
+        &priority,
+        &copyin,
+        &execution,
+        &copyout,
+        &mut release,
+        &mut blocked,
+    );
+    let registers = x.registers;
+    let occurred = x.occurred;
     Step {
-        state,
+        state: Dispatcher {
+            table,
+            clock: Clock::At(t),
+            release,
+            blocked,
+            registers,
+        },
         answer: Answer::Served(occurred),
     }
 }
@@ -126,9 +209,10 @@ fn served(d: Dispatcher, t: u64, set: u32) -> Step
 impl Dispatcher {
     // An instant: the releases of a set at a time.
     pub fn instant(self, time: u64, set: u32) -> Step
-        ensures { λ r. ⌜ r ≡ calls.instant self time set ⌝ }
+        ensures { λ r. ⌜ Answers self time set r ⌝ }
     {
-        let number = refusal(self, time, set);
+        let clock = self.clock;
+        let number = refusal(self.table.present, clock, self.registers, time, set);
         if number == 0 {
             return served(self, time, set);
         }

@@ -1,41 +1,29 @@
 // Opening a dispatcher from the task entries: 12, then 2, 1, 4, 5, 6, 7 entry by entry. A release entry is refused by 2.
-use crate::Clock;
 use crate::Dispatcher;
-use crate::Jobs;
-use crate::Next;
 use crate::Opening;
-use crate::Outgoing;
-use crate::Phase;
+use rules::Clock;
 use table::Refusal;
 use table::Table;
 ghost use mathlib.Core.Path.{_≡_};
-ghost use Rattle.dispatcher.specs.Calls as calls;
+ghost use Rattle.rules.specs.Calls as calls;
+ghost use Rattle.dispatcher.specs.Reading.{state-of, opening-of};
 
 // No task has a job, and the first interval gives the processor half 0.
 pub fn opened(table: Table, marked: u32) -> Dispatcher
-    ensures { λ r. ⌜ r ≡ calls.opened table marked ⌝ }
+    ensures { λ r. ⌜ state-of r ≡ calls.opened table marked ⌝ }
 {
     Dispatcher {
         table,
-        marked,
         clock: Clock::Unset,
-        half: 1,
-        jobs: Jobs {
-            pending: 0,
-            ready: 0,
-            release: [0; 32],
-            blocked: [0; 32],
-        },
-        phase: Phase::Between {
-            next: Next::NoneNext,
-            outgoing: Outgoing::NoneOutgoing,
-        },
+        release: [0; 32],
+        blocked: [0; 32],
+        registers: rules::empty(marked),
     }
 }
 
 // What stands for the dispatcher where none opens is one without a task, so that a refusal tells no more than it says.
 fn not_opened(refusal: Refusal) -> Opening
-    ensures { λ r. ⌜ r ≡ calls.not-opened refusal ⌝ }
+    ensures { λ r. ⌜ opening-of r ≡ calls.not-opened refusal ⌝ }
 {
     Opening {
         state: opened(table::no_table(), 0),
@@ -45,7 +33,7 @@ fn not_opened(refusal: Refusal) -> Opening
 
 // A dispatcher from the task entries, or the first refusal.
 pub fn open(s: &[u8]) -> Opening
-    ensures { λ r. ⌜ r ≡ calls.opening (now (s .entry)) ⌝ }
+    ensures { λ r. ⌜ opening-of r ≡ calls.opening (now (s .entry)) ⌝ }
 {
     if s.len() == 0 {
         return not_opened(Refusal::Alone(12));

@@ -2,7 +2,7 @@
 use record::Outcome;
 use table::Refusal;
 ghost use mathlib.Core.Path.{_≡_};
-ghost use Rattle.dispatcher.specs.Answers.{refusal-number, refusal-place};
+ghost use Rattle.rules.specs.Answers.{refusal-number, refusal-place};
 ghost use Rattle.record.specs.Run.{file, outcome-number, outcome-value};
 
 fn number_of(refusal: Refusal) -> u8

@@ -1,5 +1,5 @@
 -- Every state that calls made names tasks of the table alone, and no time and no count of it comes near the end of its type.
-use Rattle.guarantees.specs.Types.{_≡_, refl, sym, ap, _∙_, subst, List, [], _∷_, _⊎_, inl, inr, ℕ, suc, _+_, _≤_, _<_, min, Table, Jobs, NoneNext, NoneOutgoing, Phase, Between, Dispatcher, Due, Never, Tick}
+use Rattle.guarantees.specs.Types.{_≡_, refl, sym, ap, _∙_, subst, List, [], _∷_, _⊎_, inl, inr, ℕ, suc, _+_, _≤_, _<_, min, Table, Jobs, NoneNext, NoneOutgoing, Phase, Between, State, Due, Never, Tick}
 use native.Mathlib.Omega.{arith}
 use mathlib.Core.Path.{ap₂}
 use borrow.Author.Tests.{eqb-true, eq-eqb, leb-true, leb-false}
@@ -7,9 +7,9 @@ use lib.Dec.{eqb, leb}
 use lib.ListN.{getD}
 use Rattle.sets.specs.Sets.{member, below, collect, union, difference}
 use Rattle.sets.specs.Laws.{by-test, none, member-task}
-use Rattle.dispatcher.specs.State.{with-jobs, with-phase, at-clock, later}
-use Rattle.dispatcher.specs.Instant.{step-a, step-b, step-c, step-d, step-e, step-g, taken, stamped, with-candidates, due, at-a, at-b, at-e, at-f, at-g, new-at}
-use Rattle.dispatcher.specs.Calls.{opened, opening, refusal}
+use Rattle.rules.specs.With.{with-jobs, with-phase, at-clock, later}
+use Rattle.rules.specs.Instant.{step-a, step-b, step-c, step-d, step-e, step-g, taken, stamped, with-candidates, due, at-a, at-b, at-e, at-f, at-g, new-at}
+use Rattle.rules.specs.Calls.{opened, opening, refusal}
 use Rattle.guarantees.specs.History.{Call, after-calls}
 use Rattle.guarantees.specs.States.{Named, PlainTime, PlainState, PlainArithmetic}
 use Rattle.guarantees.proofs.Proper.{Fair, Opens, opens}
@@ -27,11 +27,11 @@ unfolding stamped
 stamped-none v k [] = refl
 stamped-none v k (x ∷ xs) = rw (none k) (ap (λ (l : List ℕ). x ∷ l) (stamped-none v (suc k) xs))
 
-module _ (d : Dispatcher) (t : ℕ) where
+module _ (d : State) (t : ℕ) where
   abbrev no-jobs : Jobs
   no-jobs = record { pending = 0; ready = 0; release = d .jobs .release; blocked = d .jobs .blocked }
 
-  abbrev idle : Dispatcher
+  abbrev idle : State
   idle = with-phase (with-jobs d no-jobs) (Between NoneNext NoneOutgoing)
 
   idle-stays : at-g idle t 0 ≡ at-clock idle t
@@ -45,7 +45,7 @@ module _ (d : Dispatcher) (t : ℕ) where
       jobs = ap₂ (λ (x y : ℕ). record { pending = x; ready = y; release = d .jobs .release; blocked = d .jobs .blocked }) q r
 
   nothing-begins : d .phase ≡ Between NoneNext NoneOutgoing → d .jobs .pending ≡ 0 → d .jobs .ready ≡ 0 → at-g d t 0 ≡ at-clock d t
-  nothing-begins p q r = subst (λ (x : Dispatcher). at-g x t 0 ≡ at-clock x t) (sym (is-idle p q r)) idle-stays
+  nothing-begins p q r = subst (λ (x : State). at-g x t 0 ≡ at-clock x t) (sym (is-idle p q r)) idle-stays
 
 -- ---- every state that calls made
 
@@ -53,10 +53,10 @@ one-more : (c : ℕ) → c ≤ 2 → min (c + 1) 255 ≡ c + 1
 one-more c l = omega arith
 
 module _ (table : Table) (marks : ℕ) (fair : Fair table marks) where
-  abbrev G : Dispatcher → Type 0
+  abbrev G : State → Type 0
   G d = Good table marks fair d
 
-  named : (d : Dispatcher) → G d → Named (d .table) d
+  named : (d : State) → G d → Named (d .table) d
   named d g =
       subst (λ (x : Table). Named x d) (sym (g .table-is)) (record {
         numbers = λ n k. member-task n (table .present) (fair .present) k;
@@ -78,7 +78,7 @@ module _ (table : Table) (marks : ℕ) (fair : Fair table marks) where
       room x m = omega arith
 
   -- and past it nothing is released, and nothing is due
-  times : (d : Dispatcher) (t set : ℕ) → G d → Served-at d t set → PlainTime (d .table) t ⊎ (at-g d t set ≡ at-clock d t)
+  times : (d : State) (t set : ℕ) → G d → Served-at d t set → PlainTime (d .table) t ⊎ (at-g d t set ≡ at-clock d t)
   times d t set g s =
       by-test (leb t 2000000000)
       (λ l. inl (subst (λ (x : Table). PlainTime x t) (sym (g .table-is)) (plain-time t (leb-true t 2000000000 l))))
@@ -103,7 +103,7 @@ module _ (table : Table) (marks : ℕ) (fair : Fair table marks) where
     };
   }
     where
-      d : Dispatcher
+      d : State
       d = after-calls (opened table marks) calls
 
       good : G (after-calls (opened table marks) calls)
@@ -118,5 +118,5 @@ pub plain-arithmetic : PlainArithmetic
 unfolding PlainArithmetic
 plain-arithmetic bytes e calls =
     let o : Opens (opening bytes .state) = opens bytes e in
-    let d : Dispatcher = opening bytes .state in
-    subst (λ (x : Dispatcher). PlainState (after-calls x calls)) (sym (o .fresh)) (plain (d .table) (d .marked) (o .proper .fair) calls)
+    let d : State = opening bytes .state in
+    subst (λ (x : State). PlainState (after-calls x calls)) (sym (o .fresh)) (plain (d .table) (d .marked) (o .proper .fair) calls)

@@ -1,5 +1,5 @@
 -- No blocked count goes over 2: a job's first and second interval may each count one, and from the third on none does.
-use Rattle.guarantees.specs.Types.{_≡_, refl, sym, ap, _∙_, subst, Bool, true, false, cond, _&&_, false≢true, List, [], _∷_, _⊎_, inl, inr, ⊎-elim, ℕ, zero, suc, _+_, _≤_, _<_, min, Table, MaybeTask, NoTask, Task, CopyIn, Unchosen, NoneChosen, Copying, Loaded, Cancelled, Interval, Next, Outgoing, Phase, Between, Within, Dispatcher, Stage}
+use Rattle.guarantees.specs.Types.{_≡_, refl, sym, ap, _∙_, subst, Bool, true, false, cond, _&&_, false≢true, List, [], _∷_, _⊎_, inl, inr, ⊎-elim, ℕ, zero, suc, _+_, _≤_, _<_, min, Table, MaybeTask, NoTask, Task, CopyIn, Unchosen, NoneChosen, Copying, Loaded, Cancelled, Interval, Next, Outgoing, Phase, Between, Within, State, Stage}
 use native.Mathlib.Omega.{arith}
 use native.Mathlib.Nat.{add-zero, zero-add}
 use borrow.Author.Tests.{eqb-true, ltb-true}
@@ -7,10 +7,10 @@ use lib.Dec.{ltb}
 use lib.ListN.{getD, replicate}
 use Rattle.sets.specs.Sets.{member, intersection}
 use Rattle.sets.specs.Laws.{bit, by-test, clash, left, right, none, collect-out, union-out, intersection-right, insert-out, remove-out}
-use Rattle.dispatcher.specs.State.{at-clock}
-use Rattle.dispatcher.specs.Order.{highest-of, higher, higher-than}
-use Rattle.dispatcher.specs.Instant.{step-a, step-b, step-c, step-d, step-e, step-g, over, promoted, without-promoted, next-of, waiting, blocks, counted, stamped, close, with-candidates, cancel, choose, begin, begin-processor, without-done, ended, copyin-at, processor-task, at-a, at-b, at-e, at-f, at-g, new-at}
-use Rattle.dispatcher.specs.Calls.{opened, with-mark}
+use Rattle.rules.specs.With.{at-clock}
+use Rattle.rules.specs.Order.{highest-of, higher, higher-than}
+use Rattle.rules.specs.Instant.{step-a, step-b, step-c, step-d, step-e, step-g, over, promoted, without-promoted, next-of, waiting, blocks, counted, stamped, close, with-candidates, cancel, choose, begin, begin-processor, without-done, ended, copyin-at, processor-task, at-a, at-b, at-e, at-f, at-g, new-at}
+use Rattle.rules.specs.Calls.{opened, with-mark}
 use Rattle.guarantees.proofs.Highest.{Best}
 use Rattle.guarantees.proofs.Cases.{held-at, copyin-cases, a-cases, b-cases, d-cases, e-cases, g-cases}
 use Rattle.guarantees.proofs.Steps.{best-of, settles, c-new, NewAt, processor-task-same}
@@ -60,25 +60,25 @@ abbrev pub place : Phase → Place
 place (Between next outgoing) = Out (next-task next)
 place (Within i) = In (processor-task (i .processor))
 
-c-place : (d : Dispatcher) (new : ℕ) (p : Phase) → place (with-candidates d new p) ≡ place p
+c-place : (d : State) (new : ℕ) (p : Phase) → place (with-candidates d new p) ≡ place p
 unfolding with-candidates
 c-place d new (Between next outgoing) = refl
 c-place d new (Within i) = refl
 
-c-up-next : (d : Dispatcher) (new : ℕ) (p : Phase) → up-next (with-candidates d new p) ≡ up-next p
+c-up-next : (d : State) (new : ℕ) (p : Phase) → up-next (with-candidates d new p) ≡ up-next p
 unfolding with-candidates
 c-up-next d new (Between next outgoing) = refl
 c-up-next d new (Within i) = refl
 
 module _ (pr : List ℕ) (n : ℕ) (small : n < 32) where
-  abbrev pub Waits : Dispatcher → Type 0
+  abbrev pub Waits : State → Type 0
   Waits d = Old pr n d
 
   -- n's job is to be executed in a later interval
   abbrev pub Awaits : ℕ → MaybeTask → Type 0
   Awaits ready h = (member n ready ≡ true) ⊎ (executes n h ≡ true)
 
-  abbrev pub AwaitsIn : Dispatcher → Type 0
+  abbrev pub AwaitsIn : State → Type 0
   AwaitsIn d = Awaits (d .jobs .ready) (up-next (d .phase))
 
   -- what its count is at most: in its first interval 0; in the second 1; then 2, where the processor runs none that is lower
@@ -99,22 +99,22 @@ module _ (pr : List ℕ) (n : ℕ) (small : n < 32) where
   far-most c old (Out h) x = ⊎-elim (λ y. omega arith) (λ y. y .0) x
   far-most c old (In r) x = ⊎-elim (λ y. omega arith) (λ y. ⊎-elim (λ z. omega (arith, z .0)) (λ z. z .0) y) x
 
-  abbrev pub count : Dispatcher → ℕ
+  abbrev pub count : State → ℕ
   count d = getD (d .jobs .blocked) n 0
 
-  pub record Bounded (d : Dispatcher) : Type 0 where
+  pub record Bounded (d : State) : Type 0 where
     pub table : d .table .priority ≡ pr
     pub most : count d ≤ 2
     pub far : AwaitsIn d → Far (count d) (Waits d) (place (d .phase))
 
   -- a step that leaves the place, and raises no count
-  record Like (d g : Dispatcher) : Type 0 where
+  record Like (d g : State) : Type 0 where
     pub table : g .table .priority ≡ d .table .priority
     pub count : getD (g .jobs .blocked) n 0 ≡ getD (d .jobs .blocked) n 0
     pub place : place (d .phase) ≡ place (g .phase)
     pub awaits : AwaitsIn g → AwaitsIn d
 
-  keeps : (d g : Dispatcher) → Like d g → (Waits d → Waits g) → Bounded d → Bounded g
+  keeps : (d g : State) → Like d g → (Waits d → Waits g) → Bounded d → Bounded g
   keeps d g l f h = record {
     table = l .table ∙ h .table;
     most = omega (arith, h .most, l .count);
@@ -129,7 +129,7 @@ module _ (pr : List ℕ) (n : ℕ) (small : n < 32) where
   a-held : (t : ℕ) (c : CopyIn) → held-task (copyin-at t c) ≡ held-task c
   a-held t c = copyin-cases t (λ x. held-task x ≡ held-task c) c refl (λ k u e x. ap held-task (sym e))
 
-  a-bounded : (t : ℕ) (d : Dispatcher) → Bounded d → Bounded (step-a d t (d .phase) .state)
+  a-bounded : (t : ℕ) (d : State) → Bounded d → Bounded (step-a d t (d .phase) .state)
   unfolding without-done ended
   a-bounded t d =
       keeps d (step-a d t (d .phase) .state)
@@ -150,7 +150,7 @@ module _ (pr : List ℕ) (n : ℕ) (small : n < 32) where
   waiting-awaits ready (Loaded c) h = ⊎-elim (λ e. inr e) (λ m. inl m) (insert-out c ready n h)
   waiting-awaits ready (Cancelled c) h = inl h
 
-  higher-lower : (d : Dispatcher) (s : ℕ) (r : MaybeTask) → member n (higher d r s) ≡ true → (member n s ≡ true) × (NotLower (d .table .priority) n r → ⊥)
+  higher-lower : (d : State) (s : ℕ) (r : MaybeTask) → member n (higher d r s) ≡ true → (member n s ≡ true) × (NotLower (d .table .priority) n r → ⊥)
   unfolding higher-than
   higher-lower d s NoTask h = clash (member n 0) h (none n)
   higher-lower d s (Task r) h =
@@ -169,7 +169,7 @@ module _ (pr : List ℕ) (n : ℕ) (small : n < 32) where
   promoted-awaits ready (Loaded c) NoTask f x = x
   promoted-awaits ready (Cancelled c) NoTask f x = x
 
-  promoted-ready : (d : Dispatcher) (i : Interval) (c : CopyIn) → executes n (promoted d i c) ≡ true → member n (d .jobs .ready) ≡ true
+  promoted-ready : (d : State) (i : Interval) (c : CopyIn) → executes n (promoted d i c) ≡ true → member n (d .jobs .ready) ≡ true
   unfolding promoted
   promoted-ready d i c = go c
     where
@@ -189,7 +189,7 @@ module _ (pr : List ℕ) (n : ℕ) (small : n < 32) where
       go (Loaded m) e = absurd (false≢true e)
       go (Cancelled m) e = picked (highest-of d (intersection (i .candidates) (d .jobs .ready))) (best-of d (intersection (i .candidates) (d .jobs .ready))) e
 
-  module _ (d : Dispatcher) (t : ℕ) (i : Interval) (e : d .phase ≡ Within i) (o : over i ≡ true) (h : Bounded d) where
+  module _ (d : State) (t : ℕ) (i : Interval) (e : d .phase ≡ Within i) (o : over i ≡ true) (h : Bounded d) where
     far-within : Awaits (d .jobs .ready) (held-task (i .copyin)) → Far (count d) (Waits d) (In (processor-task (i .processor)))
     far-within x = subst (λ (p : Phase). Awaits (d .jobs .ready) (up-next p) → Far (count d) (Waits d) (place p)) e (h .far) x
 
@@ -242,7 +242,7 @@ module _ (pr : List ℕ) (n : ℕ) (small : n < 32) where
   b-bounded t s h = b-cases Bounded s t (λ i e o. h) (λ next outgoing e. h) (λ i e o. close-bounded (s .state) t i e o h)
 
   -- c
-  c-bounded : (t new : ℕ) (d : Dispatcher) → Bounded d → Bounded (step-c d t new)
+  c-bounded : (t new : ℕ) (d : State) → Bounded d → Bounded (step-c d t new)
   unfolding step-c
   c-bounded t new d h =
       by-test (member n new)
@@ -266,7 +266,7 @@ module _ (pr : List ℕ) (n : ℕ) (small : n < 32) where
       fewer = unfold step-c in subst (λ (j : ℕ). count (step-c d t new) ≤ cond (member j new) 0 (count d)) (zero-add n) (stamped-at new 0 (d .jobs .blocked) n)
 
   -- d
-  d-bounded : (new : ℕ) (d : Dispatcher) → NewAt d new (d .phase) → Bounded d → Bounded (step-d d new (d .phase))
+  d-bounded : (new : ℕ) (d : State) → NewAt d new (d .phase) → Bounded d → Bounded (step-d d new (d .phase))
   unfolding cancel
   d-bounded new d k =
       keeps d (step-d d new (d .phase))
@@ -283,7 +283,7 @@ module _ (pr : List ℕ) (n : ℕ) (small : n < 32) where
       (d-waiting pr n (Bound pr n) (NotLower pr n) (rule-old pr n small) small new d k)
 
   -- e
-  choose-like : (d : Dispatcher) (t : ℕ) (i : Interval) (q : MaybeTask) → d .phase ≡ Within i → Best (d .table .priority) (d .jobs .ready) q → Like d (choose d t i q)
+  choose-like : (d : State) (t : ℕ) (i : Interval) (q : MaybeTask) → d .phase ≡ Within i → Best (d .table .priority) (d .jobs .ready) q → Like d (choose d t i q)
   unfolding choose
   choose-like d t i NoTask e b = record {
     table = refl;
@@ -298,7 +298,7 @@ module _ (pr : List ℕ) (n : ℕ) (small : n < 32) where
     awaits = λ x. inl (⊎-elim (λ y. remove-out q (d .jobs .ready) n y) (λ y. ap (λ (k : ℕ). member k (d .jobs .ready)) (eqb-true n q y) ∙ b .1) x);
   }
 
-  e-bounded : (t : ℕ) (d : Dispatcher) → Bounded d → Bounded (step-e d t (d .phase))
+  e-bounded : (t : ℕ) (d : State) → Bounded d → Bounded (step-e d t (d .phase))
   e-bounded t d =
       keeps d (step-e d t (d .phase))
       (e-cases (Like d) d t (record { table = refl; count = refl; place = refl; awaits = λ x. x })
@@ -306,7 +306,7 @@ module _ (pr : List ℕ) (n : ℕ) (small : n < 32) where
       (e-waiting pr n (Bound pr n) (NotLower pr n) (rule-old pr n small) small t d)
 
   -- g
-  begin-bounded : (f : Dispatcher) (t new : ℕ) (next : Next) (outgoing : Outgoing) → f .phase ≡ Between next outgoing → Bounded f → Bounded (begin f t new next outgoing)
+  begin-bounded : (f : State) (t new : ℕ) (next : Next) (outgoing : Outgoing) → f .phase ≡ Between next outgoing → Bounded f → Bounded (begin f t new next outgoing)
   unfolding begin
   begin-bounded f t new next outgoing e h = record {
     table = h .table;
@@ -314,7 +314,7 @@ module _ (pr : List ℕ) (n : ℕ) (small : n < 32) where
     far = λ x. ⊎-elim (λ m. go m) (λ y. absurd (false≢true y)) x;
   }
     where
-      b : Dispatcher
+      b : State
       b = begin f t new next outgoing
 
       go : member n (f .jobs .ready) ≡ true → Far (count f) (Waits (begin f t new next outgoing)) (In (processor-task (begin-processor (f .table) t next)))
@@ -324,14 +324,14 @@ module _ (pr : List ℕ) (n : ℕ) (small : n < 32) where
           (⊎-elim (λ y. inr (inl (y, w))) (λ y. inr (inr (y .0, w, y .1)))
           (subst (λ (p : Phase). Far (count f) (Waits f) (place p)) e (h .far (inl m))))
 
-  g-bounded : (t new : ℕ) (f : Dispatcher) → Bounded f → Bounded (step-g f t new (f .phase))
+  g-bounded : (t new : ℕ) (f : State) → Bounded f → Bounded (step-g f t new (f .phase))
   g-bounded t new f h =
       g-cases Bounded f t new (λ i e. h) (λ next outgoing e w. h)
       (λ next outgoing e w. e-bounded t (begin f t new next outgoing) (begin-bounded f t new next outgoing e h))
 
   -- ---- at an instant
 
-  module _ (d : Dispatcher) (t set : ℕ) (h : Bounded d) where
+  module _ (d : State) (t set : ℕ) (h : Bounded d) where
     pub bounded-a : Bounded (at-a d t .state)
     unfolding at-a
     bounded-a = a-bounded t (at-clock d t) (record { table = h .table; most = h .most; far = λ x. later-clock (h .far x) })
@@ -343,9 +343,9 @@ module _ (pr : List ℕ) (n : ℕ) (small : n < 32) where
     pub bounded-e : Bounded (at-e d t set)
     unfolding at-e at-b
     bounded-e =
-        let b : Dispatcher = at-b d t .state in
+        let b : State = at-b d t .state in
         let new : ℕ = new-at d t set in
-        let c : Dispatcher = step-c b t new in
+        let c : State = step-c b t new in
         e-bounded t (step-d c new (c .phase)) (d-bounded new c (c-new b t new) (c-bounded t new b (b-bounded t (at-a d t) bounded-a)))
 
     pub bounded-g : Bounded (at-g d t set)
@@ -365,7 +365,7 @@ module _ (pr : List ℕ) (n : ℕ) (small : n < 32) where
     far = λ x. ⊎-elim (λ m. clash (member n 0) m (none n)) (λ y. absurd (false≢true y)) x;
   }
 
-  pub bounded-mark : (d : Dispatcher) (k m : ℕ) → Bounded d → Bounded (with-mark d k m)
+  pub bounded-mark : (d : State) (k m : ℕ) → Bounded d → Bounded (with-mark d k m)
   bounded-mark d k m h = record {
     table = h .table;
     most = h .most;

@@ -1,15 +1,15 @@
 -- What each step can do, as a rule for proofs: it leaves the dispatcher as it is, or does the one thing that it is for. A proof about a step
 -- gives its claim for each of the cases; where a rule of the instant list changes, its case changes here.
-use Rattle.guarantees.specs.Types.{_≡_, refl, Bool, true, false, cond, ℕ, Table, Processor, Idle, CopyingIn, Executing, Finished, CopyOut, NoCopyOut, CopyingOut, CopiedOut, CopyIn, Unchosen, NoneChosen, Copying, Loaded, Cancelled, Interval, Next, Outgoing, Phase, Between, Within, Dispatcher, Stage}
+use Rattle.guarantees.specs.Types.{_≡_, refl, Bool, true, false, cond, ℕ, Table, Processor, Idle, CopyingIn, Executing, Finished, CopyOut, NoCopyOut, CopyingOut, CopiedOut, CopyIn, Unchosen, NoneChosen, Copying, Loaded, Cancelled, Interval, Next, Outgoing, Phase, Between, Within, State, Stage}
 use lib.Dec.{eqb}
 use lib.ListN.{getD}
 use Rattle.sets.specs.Sets.{intersection}
-use Rattle.dispatcher.specs.Instant.{processor-at, copyout-at, copyin-at, over, close, close-stage, step-b, copying-out, cancel, cancel-by, step-d, choose, choose-if, step-e, begin, wanted, step-g, step-a, without-done, completed, ended, at-b, new-at, held-over}
-use Rattle.dispatcher.specs.State.{later, with-phase, with-jobs}
-use Rattle.dispatcher.specs.Order.{outranks, highest-of}
+use Rattle.rules.specs.Instant.{processor-at, copyout-at, copyin-at, over, close, close-stage, step-b, copying-out, cancel, cancel-by, step-d, choose, choose-if, step-e, begin, wanted, step-g, step-a, without-done, completed, ended, at-b, new-at, held-over}
+use Rattle.rules.specs.With.{later, with-phase, with-jobs}
+use Rattle.rules.specs.Order.{outranks, highest-of}
 
 -- the releases of an instant that belong to the interval that its step g begins
-abbrev pub held-at : Dispatcher → ℕ → ℕ → ℕ
+abbrev pub held-at : State → ℕ → ℕ → ℕ
 held-at d t set = held-over (at-b d t .state .phase) (new-at d t set)
 
 -- ---- a phase that ends
@@ -58,9 +58,9 @@ module _ (t : ℕ) where
 
 -- ---- the steps
 
-module _ (R : Dispatcher → Type 0) where
+module _ (R : State → Type 0) where
   -- a
-  pub a-cases : (d : Dispatcher) (t : ℕ) → ((next : Next) (outgoing : Outgoing) → d .phase ≡ Between next outgoing → R d)
+  pub a-cases : (d : State) (t : ℕ) → ((next : Next) (outgoing : Outgoing) → d .phase ≡ Between next outgoing → R d)
       → ((i : Interval) → d .phase ≡ Within i → R (with-phase (with-jobs d (without-done (d .jobs) (completed (d .jobs) t (i .copyout)))) (Within (ended (d .table) t i))))
       → R (step-a d t (d .phase) .state)
   unfolding step-a
@@ -86,7 +86,7 @@ module _ (R : Dispatcher → Type 0) where
       go (Within i) e = go-within i (over i) e refl
 
   -- d
-  pub d-cases : (d : Dispatcher) (new : ℕ) → R d
+  pub d-cases : (d : State) (new : ℕ) → R d
       → ((i : Interval) (n until : ℕ) → d .phase ≡ Within i → i .copyin ≡ Copying n until → outranks d n (highest-of d (intersection new (d .marked))) ≡ true → R (cancel d i n true))
       → R (step-d d new (d .phase))
   unfolding step-d cancel-by
@@ -108,7 +108,7 @@ module _ (R : Dispatcher → Type 0) where
       go (Within i) e = go-copyin i (i .copyin) e refl
 
   -- e
-  pub e-cases : (d : Dispatcher) (t : ℕ) → R d
+  pub e-cases : (d : State) (t : ℕ) → R d
       → ((i : Interval) → d .phase ≡ Within i → i .copyin ≡ Unchosen → copying-out (i .copyout) ≡ false → R (choose d t i (highest-of d (d .jobs .ready))))
       → R (step-e d t (d .phase))
   unfolding step-e choose-if
@@ -130,16 +130,16 @@ module _ (R : Dispatcher → Type 0) where
       go (Within i) e = go-copyin i (i .copyin) e refl
 
   -- g
-  pub g-cases : (d : Dispatcher) (t new : ℕ) → ((i : Interval) → d .phase ≡ Within i → R d)
+  pub g-cases : (d : State) (t new : ℕ) → ((i : Interval) → d .phase ≡ Within i → R d)
       → ((next : Next) (outgoing : Outgoing) → d .phase ≡ Between next outgoing → wanted next outgoing (d .jobs .ready) ≡ false → R d)
       → ((next : Next) (outgoing : Outgoing) → d .phase ≡ Between next outgoing → wanted next outgoing (d .jobs .ready) ≡ true
-      → let b : Dispatcher = begin d t new next outgoing in R (step-e b t (b .phase)))
+      → let b : State = begin d t new next outgoing in R (step-e b t (b .phase)))
       → R (step-g d t new (d .phase))
   unfolding step-g
   g-cases d t new k h f = go (d .phase) refl
     where
       go-wanted : (next : Next) (outgoing : Outgoing) (w : Bool) → d .phase ≡ Between next outgoing → wanted next outgoing (d .jobs .ready) ≡ w
-          → let b : Dispatcher = begin d t new next outgoing in R (cond w (step-e b t (b .phase)) d)
+          → let b : State = begin d t new next outgoing in R (cond w (step-e b t (b .phase)) d)
       go-wanted next outgoing true e w = f next outgoing e w
       go-wanted next outgoing false e w = h next outgoing e w
 

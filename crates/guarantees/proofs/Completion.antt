@@ -1,13 +1,13 @@
 -- Empty sets at the due times come to an end, and then nothing is pending: each of them brings some phase to its end, and nothing is due
 -- only where nothing is pending.
-use Rattle.guarantees.specs.Types.{_≡_, refl, sym, ap, _∙_, subst, Bool, true, false, List, [], _∷_, ℕ, zero, suc, _+_, _≤_, _<_, Table, Clock, Unset, At, Processor, Idle, CopyingIn, Executing, Finished, CopyOut, NoCopyOut, CopyingOut, CopiedOut, CopyIn, Unchosen, NoneChosen, Copying, Loaded, Cancelled, Next, NoneNext, Outgoing, NoneOutgoing, Phase, Between, Within, Dispatcher, Due, Never, Tick}
+use Rattle.guarantees.specs.Types.{_≡_, refl, sym, ap, _∙_, subst, Bool, true, false, List, [], _∷_, ℕ, zero, suc, _+_, _≤_, _<_, Table, Clock, Unset, At, Processor, Idle, CopyingIn, Executing, Finished, CopyOut, NoCopyOut, CopyingOut, CopiedOut, CopyIn, Unchosen, NoneChosen, Copying, Loaded, Cancelled, Next, NoneNext, Outgoing, NoneOutgoing, Phase, Between, Within, State, Due, Never, Tick}
 use native.Mathlib.Omega.{arith}
 use borrow.Author.Tests.{eq-eqb, le-ltb, lt-leb}
 use lib.Dec.{eqb}
 use Rattle.sets.specs.Sets.{member, difference}
 use Rattle.sets.specs.Laws.{bit, none, by-test, clash, difference-left, size, empty, difference-small}
-use Rattle.dispatcher.specs.Instant.{over, copying-out, resting, settled, due, sooner, processor-due, copyout-due, copyin-due, at-g}
-use Rattle.dispatcher.specs.Calls.{unknown, not-after, refusal}
+use Rattle.rules.specs.Instant.{over, copying-out, resting, settled, due, sooner, processor-due, copyout-due, copyin-due, at-g}
+use Rattle.rules.specs.Calls.{unknown, not-after, refusal}
 use Rattle.guarantees.specs.History.{Event, Call, Instant, after-call, by-call, after-calls, history, EmptySets}
 use Rattle.guarantees.specs.Reading.{total, is-take, is-completion}
 use Rattle.guarantees.proofs.Proper.{Fair}
@@ -50,7 +50,7 @@ at-rest (Within i) h e o =
     clash (over i) (rw (processor-rests (i .processor) (x .0), u, copyin-rests (i .copyin) (i .copyout) (y .1) e u)) o
 
 -- nothing is pending, and nothing is to come
-pub record AtRest (d : Dispatcher) : Type 0 where
+pub record AtRest (d : State) : Type 0 where
   pub phase : d .phase ≡ Between NoneNext NoneOutgoing
   pub ready : d .jobs .ready ≡ 0
   pub pending : d .jobs .pending ≡ 0
@@ -60,10 +60,10 @@ bit-zero true h = absurd (omega arith)
 bit-zero false h = refl
 
 module _ (table : Table) (marks : ℕ) (fair : Fair table marks) where
-  abbrev G : Dispatcher → Type 0
+  abbrev G : State → Type 0
   G d = Good table marks fair d
 
-  pub rests : (d : Dispatcher) → G d → due (d .phase) ≡ Never → AtRest d
+  pub rests : (d : State) → G d → due (d .phase) ≡ Never → AtRest d
   rests d g h = go (d .phase) refl (at-rest (d .phase) h (g .settled .decided) (g .settled .open-yet))
     where
       go : (p : Phase) → d .phase ≡ p → (next : Next) × (outgoing : Outgoing) × (p ≡ Between next outgoing) → AtRest d
@@ -83,7 +83,7 @@ module _ (table : Table) (marks : ℕ) (fair : Fair table marks) where
 
   -- ---- the instants at due times
 
-  pub due-times : (d : Dispatcher) (t : ℕ) → G d → due (d .phase) ≡ Tick t → Until (last (d .clock)) (mass d) (debt d) t
+  pub due-times : (d : State) (t : ℕ) → G d → due (d .phase) ≡ Tick t → Until (last (d .clock)) (mass d) (debt d) t
   due-times d t g h = drop-one (Until (last (d .clock)) (mass d) (debt d)) t (d .phase) (g .times) (due-drop t (d .phase) h)
 
   pub not-late : (c : Clock) (t : ℕ) → last c < t → not-after c t ≡ false
@@ -96,28 +96,28 @@ module _ (table : Table) (marks : ℕ) (fair : Fair table marks) where
       (empty (difference 0 present) (difference-small 0 present)
       (λ k l. by-test (member k (difference 0 present)) (λ x. clash (member k 0) (difference-left 0 present k x) (none k)) (λ x. x)))
 
-  due-served : (d : Dispatcher) (t : ℕ) → G d → due (d .phase) ≡ Tick t → eqb (refusal d t 0) 0 ≡ true
+  due-served : (d : State) (t : ℕ) → G d → due (d .phase) ≡ Tick t → eqb (refusal d t 0) 0 ≡ true
   unfolding refusal unknown
   due-served d t g h =
       rw (none-unknown (d .table .present), not-late (d .clock) t (due-times d t g h .after), h, le-ltb t t (omega arith))
 
   -- one more empty set, at the due time
-  one-more : (d : Dispatcher) (t : ℕ) → G d → due (d .phase) ≡ Tick t → (rest : List Call) × EmptySets (at-g d t 0) rest → (rest : List Call) × EmptySets d rest
+  one-more : (d : State) (t : ℕ) → G d → due (d .phase) ≡ Tick t → (rest : List Call) × EmptySets (at-g d t 0) rest → (rest : List Call) × EmptySets d rest
   unfolding EmptySets
-  one-more d t g e h = (Instant t 0 ∷ h .0, ((t, e, refl), subst (λ (x : Dispatcher). EmptySets x (h .0)) (sym (served d t 0 (due-served d t g e))) (h .1)))
+  one-more d t g e h = (Instant t 0 ∷ h .0, ((t, e, refl), subst (λ (x : State). EmptySets x (h .0)) (sym (served d t 0 (due-served d t g e))) (h .1)))
 
-  served-due : (d : Dispatcher) (t : ℕ) → G d → due (d .phase) ≡ Tick t → G (at-g d t 0)
+  served-due : (d : State) (t : ℕ) → G d → due (d .phase) ≡ Tick t → G (at-g d t 0)
   served-due d t g e = good-next table marks fair d t 0 g (served-at d t 0 (due-served d t g e))
 
   -- an instant at a due time brings the end nearer
-  nearer : (d : Dispatcher) (t : ℕ) → G d → due (d .phase) ≡ Tick t → mass (at-g d t 0) + debt d + 1 ≤ mass d + debt (at-g d t 0)
+  nearer : (d : State) (t : ℕ) → G d → due (d .phase) ≡ Tick t → mass (at-g d t 0) + debt d + 1 ≤ mass d + debt (at-g d t 0)
   nearer d t g e = omega (arith, sinks d t 0 (g .sound), due-drop t (d .phase) e, new-none d t 0 (λ k l. none k))
 
-  none-due : (d : Dispatcher) → due (d .phase) ≡ Never → (rest : List Call) × EmptySets d rest
+  none-due : (d : State) → due (d .phase) ≡ Never → (rest : List Call) × EmptySets d rest
   unfolding EmptySets
   none-due d e = ([], e)
 
-  pub drains : (m : ℕ) (d : Dispatcher) → G d → mass d ≤ m + debt d → (rest : List Call) × EmptySets d rest
+  pub drains : (m : ℕ) (d : State) → G d → mass d ≤ m + debt d → (rest : List Call) × EmptySets d rest
   drains zero d g h = go (due (d .phase)) refl
     where
       go : (x : Due) → due (d .phase) ≡ x → (rest : List Call) × EmptySets d rest
@@ -130,18 +130,18 @@ module _ (table : Table) (marks : ℕ) (fair : Fair table marks) where
       go (Tick t) e f = one-more d t g e (f t e)
 
   -- and what they leave
-  pub record Drained (d : Dispatcher) (rest : List Call) : Type 0 where
+  pub record Drained (d : State) (rest : List Call) : Type 0 where
     pub never : due (after-calls d rest .phase) ≡ Never
     pub takes : total is-take (history d rest) ≡ 0
 
-  drained-more : (d : Dispatcher) (t : ℕ) (rest : List Call) → eqb (refusal d t 0) 0 ≡ true → Drained (at-g d t 0) rest → Drained d (Instant t 0 ∷ rest)
+  drained-more : (d : State) (t : ℕ) (rest : List Call) → eqb (refusal d t 0) 0 ≡ true → Drained (at-g d t 0) rest → Drained d (Instant t 0 ∷ rest)
   unfolding after-calls history by-call
   drained-more d t rest e h = record {
-    never = ap (λ (g : Dispatcher). due (after-calls g rest .phase)) (served d t 0 e) ∙ h .never;
+    never = ap (λ (g : State). due (after-calls g rest .phase)) (served d t 0 e) ∙ h .never;
     takes = rw (e, served d t 0 e) (omega (arith, takes-of d t 0 (history (at-g d t 0) rest), new-none d t 0 (λ k l. none k), h .takes));
   }
 
-  pub drained : (rest : List Call) (d : Dispatcher) → G d → EmptySets d rest → Drained d rest
+  pub drained : (rest : List Call) (d : State) → G d → EmptySets d rest → Drained d rest
   unfolding EmptySets
   drained [] d g h = unfold after-calls history total in record { never = h; takes = refl }
   drained (c ∷ rest) d g h = go (h .0 .0) (h .0 .1) (h .0 .2) (λ t e x. drained rest (at-g d t 0) (served-due d t g e) x)
@@ -151,11 +151,11 @@ module _ (table : Table) (marks : ℕ) (fair : Fair table marks) where
       go t e x k =
           let s : eqb (refusal d t 0) 0 ≡ true = due-served d t g e in
           subst (λ (c : Call). Drained d (c ∷ rest)) (sym x)
-          (drained-more d t rest s (k t e (subst (λ (y : Dispatcher). EmptySets y rest) (ap (after-call d) x ∙ served d t 0 s) (h .1))))
+          (drained-more d t rest s (k t e (subst (λ (y : State). EmptySets y rest) (ap (after-call d) x ∙ served d t 0 s) (h .1))))
 
   -- ---- every job that is taken is completed or pending
 
-  pub balanced : (d : Dispatcher) (cs : List Call) → G d
+  pub balanced : (d : State) (cs : List Call) → G d
       → total is-completion (history d cs) + size (after-calls d cs .jobs .pending) ≡ size (d .jobs .pending) + total is-take (history d cs)
   balanced d cs =
       walk-to (λ d h g. G d → total is-completion h + size (g .jobs .pending) ≡ size (d .jobs .pending) + total is-take h)

@@ -1,15 +1,15 @@
 -- The copy-outs: the engine of a state, step by step and along the calls.
-use Rattle.guarantees.specs.Types.{_≡_, refl, sym, ap, _∙_, subst, Bool, true, false, cond, true≢false, false≢true, List, _∷_, _++_, append-assoc, ℕ, _+_, _^_, _≤_, _<_, Table, Jobs, Clock, MaybeTask, NoTask, Task, Processor, Idle, CopyingIn, Executing, Finished, CopyOut, NoCopyOut, CopyingOut, CopiedOut, Interval, Next, Outgoing, NoneOutgoing, AwaitsCopyOut, Phase, Between, Within, Dispatcher, NoJob, Job, Stage}
+use Rattle.guarantees.specs.Types.{_≡_, refl, sym, ap, _∙_, subst, Bool, true, false, cond, true≢false, false≢true, List, _∷_, _++_, append-assoc, ℕ, _+_, _^_, _≤_, _<_, Table, Jobs, Clock, MaybeTask, NoTask, Task, Processor, Idle, CopyingIn, Executing, Finished, CopyOut, NoCopyOut, CopyingOut, CopiedOut, Interval, Next, Outgoing, NoneOutgoing, AwaitsCopyOut, Phase, Between, Within, State, NoJob, Job, Stage}
 use native.Mathlib.Omega.{arith}
 use borrow.Author.Tests.{eqb-true}
 use lib.Dec.{eqb}
 use lib.ListN.{getD}
 use Rattle.sets.specs.Sets.{member}
 use Rattle.sets.specs.Laws.{bit, same-task, member-task}
-use Rattle.dispatcher.specs.State.{at-clock, later}
-use Rattle.dispatcher.specs.Order.{highest-of}
-use Rattle.dispatcher.specs.Instant.{step-a, step-b, step-c, step-d, step-e, step-g, close, close-stage, over, with-candidates, cancel, choose, begin, begin-processor, begin-copyout, copying-out, wanted, completed, ended, processor-task, copyout-task, copyout-at, awaiting-copyout, resting, job-entry, at-a, at-b, at-e, at-f, at-g, new-at}
-use Rattle.dispatcher.specs.Calls.{opened}
+use Rattle.rules.specs.With.{at-clock, later}
+use Rattle.rules.specs.Order.{highest-of}
+use Rattle.rules.specs.Instant.{step-a, step-b, step-c, step-d, step-e, step-g, close, close-stage, over, with-candidates, cancel, choose, begin, begin-processor, begin-copyout, copying-out, wanted, completed, ended, processor-task, copyout-task, copyout-at, awaiting-copyout, resting, job-entry, at-a, at-b, at-e, at-f, at-g, new-at}
+use Rattle.rules.specs.Calls.{opened}
 use Rattle.guarantees.specs.History.{Event, Begins, Ends, Call, history, happens, finishes-in, completes, ends, takes, begins}
 use Rattle.guarantees.proofs.Proper.{Fair}
 use Rattle.guarantees.proofs.Walk.{walk}
@@ -62,7 +62,7 @@ apart-bits true b p x h e = absurd (most p (let z : bit b ≡ 1 = rw e in omega 
     most true l = omega arith
     most false l = omega arith
 
-apart-in : (present : ℕ) (tasks : present < 2 ^ 32) (d : Dispatcher) (i : Interval) (q : Processor) (o : CopyOut) → i .processor ≡ q → i .copyout ≡ o
+apart-in : (present : ℕ) (tasks : present < 2 ^ 32) (d : State) (i : Interval) (q : Processor) (o : CopyOut) → i .processor ≡ q → i .copyout ≡ o
     → Parted present tasks d (Within i) → ApartIn (processor-task q) o
 apart-in present tasks d i q NoCopyOut e f h = tt
 apart-in present tasks d i q (CopiedOut m) e f h = tt
@@ -85,36 +85,36 @@ apart-in present tasks d i q (CopyingOut m start until) e f h = go q (at-m q e)
     go (Executing n s u) x = apart-bits (eqb m n) (eqb m m) (member m (d .jobs .pending)) (bit (member m (d .jobs .ready)) + copyin-bit m (i .copyin)) x (same-task m)
     go (Finished n s) x = apart-bits (eqb m n) (eqb m m) (member m (d .jobs .pending)) (bit (member m (d .jobs .ready)) + copyin-bit m (i .copyin)) x (same-task m)
 
-apart-at : (present : ℕ) (tasks : present < 2 ^ 32) (d : Dispatcher) (p : Phase) → Parted present tasks d p → ApartAt p
+apart-at : (present : ℕ) (tasks : present < 2 ^ 32) (d : State) (p : Phase) → Parted present tasks d p → ApartAt p
 apart-at present tasks d (Between next outgoing) h = tt
 apart-at present tasks d (Within i) h = apart-in present tasks d i (i .processor) (i .copyout) refl refl h
 
 -- ---- step by step, at an instant
 
-c-engine : (d : Dispatcher) (t new : ℕ) (p : Phase) → engine-of t (with-candidates d new p) ≡ engine-of t p
+c-engine : (d : State) (t new : ℕ) (p : Phase) → engine-of t (with-candidates d new p) ≡ engine-of t p
 unfolding with-candidates
 c-engine d t new (Between next outgoing) = refl
 c-engine d t new (Within i) = refl
 
-d-engine : (d : Dispatcher) (t new : ℕ) → engine-of t (step-d d new (d .phase) .phase) ≡ engine-of t (d .phase)
+d-engine : (d : State) (t new : ℕ) → engine-of t (step-d d new (d .phase) .phase) ≡ engine-of t (d .phase)
 unfolding cancel
 d-engine d t new = d-cases (λ x. engine-of t (x .phase) ≡ engine-of t (d .phase)) d new refl (λ i n u e s b. rw e)
 
-choose-engine : (d : Dispatcher) (t x : ℕ) (i : Interval) (q : MaybeTask) → engine-of x (choose d t i q .phase) ≡ engine-of x (Within i)
+choose-engine : (d : State) (t x : ℕ) (i : Interval) (q : MaybeTask) → engine-of x (choose d t i q .phase) ≡ engine-of x (Within i)
 unfolding choose
 choose-engine d t x i NoTask = refl
 choose-engine d t x i (Task q) = refl
 
-e-engine : (d : Dispatcher) (t : ℕ) → engine-of t (step-e d t (d .phase) .phase) ≡ engine-of t (d .phase)
+e-engine : (d : State) (t : ℕ) → engine-of t (step-e d t (d .phase) .phase) ≡ engine-of t (d .phase)
 e-engine d t = e-cases (λ x. engine-of t (x .phase) ≡ engine-of t (d .phase)) d t refl (λ i e s u. choose-engine d t t i (highest-of d (d .jobs .ready)) ∙ rw e)
 
-engine-e : (d : Dispatcher) (t set : ℕ) → engine-of t (at-e d t set .phase) ≡ engine-of t (at-b d t .state .phase)
+engine-e : (d : State) (t set : ℕ) → engine-of t (at-e d t set .phase) ≡ engine-of t (at-b d t .state .phase)
 unfolding at-e step-c
 engine-e d t set =
-    let b : Dispatcher = at-b d t .state in
+    let b : State = at-b d t .state in
     let new : ℕ = new-at d t set in
-    let c : Dispatcher = step-c b t new in
-    let x : Dispatcher = step-d c new (c .phase) in
+    let c : State = step-c b t new in
+    let x : State = step-d c new (c .phase) in
     e-engine x t ∙ d-engine c t new ∙ c-engine b t new (b .phase)
 
 module _ (lengths : List ℕ) (t : ℕ) where
@@ -131,7 +131,7 @@ module _ (lengths : List ℕ) (t : ℕ) where
       go false e h = h
   completes-leaving j r (CopiedOut n) ys h = h
 
-  a-leaving : (d : Dispatcher) (p : Phase) (ys : List Event) → d .phase ≡ p → Leaving lengths t (engine-of t (step-a d t p .state .phase)) ys
+  a-leaving : (d : State) (p : Phase) (ys : List Event) → d .phase ≡ p → Leaving lengths t (engine-of t (step-a d t p .state .phase)) ys
       → Leaving lengths t (engine-of t p) (completes (step-a d t p .done) ++ ys)
   unfolding step-a ended completes
   a-leaving d (Between next outgoing) ys e h = subst (λ (p : Phase). Leaving lengths t (engine-of t p) ys) e h
@@ -174,12 +174,12 @@ module _ (lengths : List ℕ) (t : ℕ) where
   Both q o (Between next outgoing) = ⊥
   Both q o (Within j) = (j .processor ≡ q) × (j .copyout ≡ o)
 
-  choose-both : (d : Dispatcher) (i : Interval) (q : Processor) (o : CopyOut) (r : MaybeTask) → Both q o (Within i) → Both q o (choose d t i r .phase)
+  choose-both : (d : State) (i : Interval) (q : Processor) (o : CopyOut) (r : MaybeTask) → Both q o (Within i) → Both q o (choose d t i r .phase)
   unfolding choose
   choose-both d i q o NoTask h = h
   choose-both d i q o (Task r) h = h
 
-  begun-both : (d : Dispatcher) (q : Processor) (o : CopyOut) → Both q o (d .phase) → Both q o (step-e d t (d .phase) .phase)
+  begun-both : (d : State) (q : Processor) (o : CopyOut) → Both q o (d .phase) → Both q o (step-e d t (d .phase) .phase)
   begun-both d q o h =
       e-cases (λ x. Both q o (x .phase)) d t h (λ i e s u. choose-both d i q o (highest-of d (d .jobs .ready)) (subst (Both q o) e h))
 
@@ -215,13 +215,13 @@ module _ (lengths : List ℕ) (t : ℕ) where
   unfolding begins
   shut-leaving next outgoing q ys e k = rw e (rw e at k)
 
-  g-leaving : (f : Dispatcher) (new : ℕ) (p : Phase) (ys : List Event) → f .phase ≡ p → f .table .copyout ≡ lengths → Times Plain (step-g f t new p .phase)
+  g-leaving : (f : State) (new : ℕ) (p : Phase) (ys : List Event) → f .phase ≡ p → f .table .copyout ≡ lengths → Times Plain (step-g f t new p .phase)
       → ApartAt (step-g f t new p .phase) → Leaving lengths t (engine-of t (step-g f t new p .phase)) ys → Leaving lengths t (engine-of t p) (begins t p (step-g f t new p .phase) ++ ys)
   unfolding step-g begins
   g-leaving f new (Within i) ys e x p a h = subst (λ (p : Phase). Leaving lengths t (engine-of t p) ys) e h
   g-leaving f new (Between next outgoing) ys e x p a h = go (wanted next outgoing (f .jobs .ready)) p a h
     where
-      b : Dispatcher
+      b : State
       b = begin f t new next outgoing
 
       go : (w : Bool) → Times Plain (cond w (step-e b t (b .phase)) f .phase) → ApartAt (cond w (step-e b t (b .phase)) f .phase)
@@ -235,12 +235,12 @@ module _ (lengths : List ℕ) (t : ℕ) where
 -- ---- along the calls
 
 -- a settled dispatcher owes nothing
-engine-settled : (d : Dispatcher) (x y : ℕ) (p : Phase) → RestAt (d .jobs .ready) p → engine-of x p ≡ engine-of y p
+engine-settled : (d : State) (x y : ℕ) (p : Phase) → RestAt (d .jobs .ready) p → engine-of x p ≡ engine-of y p
 engine-settled d x y (Between next outgoing) h = rw (h .1)
 engine-settled d x y (Within i) h = refl
 
 -- and no copy-out of it is overdue
-engine-ends : (now mass debt : ℕ) (d : Dispatcher) (p : Phase) → RestAt (d .jobs .ready) p → Times (Until now mass debt) p → at-end now (engine-of 0 p)
+engine-ends : (now mass debt : ℕ) (d : State) (p : Phase) → RestAt (d .jobs .ready) p → Times (Until now mass debt) p → at-end now (engine-of 0 p)
 engine-ends now mass debt d (Between next outgoing) h x = rw (h .1) tt
 engine-ends now mass debt d (Within i) h x = go (i .copyout) (x .1)
   where
@@ -250,24 +250,24 @@ engine-ends now mass debt d (Within i) h x = go (i .copyout) (x .1)
     go (CopiedOut n) x = tt
 
 module _ (table : Table) (marks : ℕ) (fair : Fair table marks) where
-  plain : (d : Dispatcher) → Good table marks fair d → Times Plain (d .phase)
+  plain : (d : State) → Good table marks fair d → Times Plain (d .phase)
   plain d g =
       times-map (Until (last (d .clock)) (mass d) (debt d)) Plain (λ u x. omega (arith, x .bound, debt-less d (g .sound))) (d .phase) (g .times)
 
-  leaving-tail : (d : Dispatcher) (t set : ℕ) (ys : List Event) → d .table ≡ table → Good table marks fair (at-g d t set)
+  leaving-tail : (d : State) (t set : ℕ) (ys : List Event) → d .table ≡ table → Good table marks fair (at-g d t set)
       → Leaving (table .copyout) t (engine-of t (at-g d t set .phase)) ys → Leaving (table .copyout) t (engine-of t (at-e d t set .phase)) (tail-of d t set ++ ys)
   unfolding tail-of at-g at-f
   leaving-tail d t set ys x n h =
-      let e : Dispatcher = at-e d t set in
+      let e : State = at-e d t set in
       let s : Stage = record { state = e; done = at-b d t .done; closed = at-b d t .closed } in
-      let f : Dispatcher = at-f d t set .state in
+      let f : State = at-f d t set .state in
       rw (append-assoc (ends t (e .phase) (f .phase)) (begins t (f .phase) (at-g d t set .phase)) ys)
       (b-leaving (table .copyout) t s (e .phase) (begins t (f .phase) (at-g d t set .phase) ++ ys) refl
       (g-leaving (table .copyout) t f (held-at d t set) (f .phase) ys refl
       (ap (λ (y : Table). y .copyout) (ap (λ (y : Frame). y .table) (b-frame s t) ∙ table-e d t set ∙ x)) (plain (at-g d t set) n)
       (apart-at (table .present) (fair .present) (at-g d t set) (at-g d t set .phase) (n .parted)) h))
 
-  leaving-front : (d : Dispatcher) (t : ℕ) (ys : List Event) → last (d .clock) ≤ t → Leaving (table .copyout) t (engine-of t (at-b d t .state .phase)) ys
+  leaving-front : (d : State) (t : ℕ) (ys : List Event) → last (d .clock) ≤ t → Leaving (table .copyout) t (engine-of t (at-b d t .state .phase)) ys
       → Leaving (table .copyout) (last (d .clock)) (engine-of t (d .phase)) (front-of d t ++ ys)
   unfolding front-of at-b at-a Leaving
   leaving-front d t ys l h =
@@ -279,7 +279,7 @@ module _ (table : Table) (marks : ℕ) (fair : Fair table marks) where
             (a-leaving (table .copyout) t (at-clock d t) (d .phase) (e ++ ys) refl (b-leaving (table .copyout) t a (a .state .phase) ys refl h))),
       )
 
-  leaving-instant : (d : Dispatcher) (t set : ℕ) (ys : List Event) → last (d .clock) ≤ t → Good table marks fair d → Good table marks fair (at-g d t set)
+  leaving-instant : (d : State) (t set : ℕ) (ys : List Event) → last (d .clock) ≤ t → Good table marks fair d → Good table marks fair (at-g d t set)
       → Leaving (table .copyout) t (engine-of 0 (at-g d t set .phase)) ys → Leaving (table .copyout) (last (d .clock)) (engine-of 0 (d .phase)) (happens d t set ++ ys)
   leaving-instant d t set ys l g n h =
       rw (happens-parts d t set ys, engine-settled d 0 t (d .phase) (g .settled .rests))
@@ -289,7 +289,7 @@ module _ (table : Table) (marks : ℕ) (fair : Fair table marks) where
       (leaving-tail d t set ys (g .table-is) n
       (subst (λ (s : Engine). Leaving (table .copyout) t s ys) (engine-settled (at-g d t set) 0 t (at-g d t set .phase) (n .settled .rests)) h)))))
 
-  pub leaving : (d : Dispatcher) (cs : List Call) → Good table marks fair d → Leaving (table .copyout) (last (d .clock)) (engine-of 0 (d .phase)) (history d cs)
+  pub leaving : (d : State) (cs : List Call) → Good table marks fair d → Leaving (table .copyout) (last (d .clock)) (engine-of 0 (d .phase)) (history d cs)
   leaving d cs =
       walk (λ d h. Good table marks fair d → Leaving (table .copyout) (last (d .clock)) (engine-of 0 (d .phase)) h)
       (λ d g. unfold Leaving in engine-ends (last (d .clock)) (mass d) (debt d) d (d .phase) (g .settled .rests) (g .times))

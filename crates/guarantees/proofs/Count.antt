@@ -1,7 +1,7 @@
 -- At most three intervals to a job. A job weighs 3 while ready, 2 while it is being copied in, loaded or promoted, 1 while it executes or waits
 -- for its copy-out, and then 0; a cancelled copy-in, whose job is ready again, owes 1, which the job that is promoted pays. Every interval
 -- that begins takes a weight of 1 at least. Beside it a mass falls at every phase's end, so that the empty sets come to an end.
-use Rattle.guarantees.specs.Types.{_≡_, refl, sym, ap, subst, Bool, true, false, cond, false≢true, List, ℕ, _+_, _*_, _^_, _≤_, _<_, Table, MaybeTask, NoTask, Task, Processor, Idle, CopyingIn, Executing, Finished, CopyOut, NoCopyOut, CopyingOut, CopiedOut, CopyIn, Unchosen, NoneChosen, Copying, Loaded, Cancelled, Interval, Next, NoneNext, LoadedNext, PromotedNext, Outgoing, NoneOutgoing, AwaitsCopyOut, Phase, Between, Within, Dispatcher, Stage}
+use Rattle.guarantees.specs.Types.{_≡_, refl, sym, ap, subst, Bool, true, false, cond, false≢true, List, ℕ, _+_, _*_, _^_, _≤_, _<_, Table, MaybeTask, NoTask, Task, Processor, Idle, CopyingIn, Executing, Finished, CopyOut, NoCopyOut, CopyingOut, CopiedOut, CopyIn, Unchosen, NoneChosen, Copying, Loaded, Cancelled, Interval, Next, NoneNext, LoadedNext, PromotedNext, Outgoing, NoneOutgoing, AwaitsCopyOut, Phase, Between, Within, State, Stage}
 use native.Mathlib.Omega.{arith}
 use borrow.Author.Tests.{eqb-false, not-true}
 use lib.Dec.{eqb}
@@ -11,13 +11,13 @@ use Rattle.guarantees.proofs.Highest.{Best}
 use Rattle.guarantees.proofs.Walk.{walk}
 use Rattle.guarantees.proofs.Totals.{begins-of, takes-of}
 use Rattle.guarantees.specs.History.{history, Event, Call, begins}
-use Rattle.dispatcher.specs.Calls.{opened}
+use Rattle.rules.specs.Calls.{opened}
 use Rattle.guarantees.specs.Reading.{total, is-take, is-begin}
-use Rattle.dispatcher.specs.Instant.{step-a, step-b, step-c, step-d, step-e, step-g, promoted, next-of, without-promoted, close, close-stage, over, with-candidates, cancel, choose, choose-if, begin, begin-processor, begin-copyout, wanted, without-done, ended, copyin-at, processor-at, awaiting-copyout, at-a, at-b, at-e, at-f, at-g, new-at, copyout-at}
-use Rattle.dispatcher.specs.State.{at-clock}
-use Rattle.dispatcher.specs.Order.{highest-of, outranks}
+use Rattle.rules.specs.Instant.{step-a, step-b, step-c, step-d, step-e, step-g, promoted, next-of, without-promoted, close, close-stage, over, with-candidates, cancel, choose, choose-if, begin, begin-processor, begin-copyout, wanted, without-done, ended, copyin-at, processor-at, awaiting-copyout, at-a, at-b, at-e, at-f, at-g, new-at, copyout-at}
+use Rattle.rules.specs.With.{at-clock}
+use Rattle.rules.specs.Order.{highest-of, outranks}
 use Rattle.guarantees.proofs.Steps.{Sub, c-new, NewIn, NewAt, best-of}
-use Rattle.dispatcher.specs.Instant
+use Rattle.rules.specs.Instant
 use Rattle.guarantees.proofs.Cases.{held-at, d-cases, e-cases, copyin-cases, copyout-cases, processor-cases}
 
 -- ---- weights
@@ -60,7 +60,7 @@ abbrev pub phase-debt : Phase → ℕ
 phase-debt (Between next outgoing) = 0
 phase-debt (Within i) = copyin-debt (i .copyin)
 
-abbrev pub weight : Dispatcher → Phase → ℕ
+abbrev pub weight : State → Phase → ℕ
 weight d p = 3 * size (d .jobs .ready) + phase-weight p
 
 -- ---- the phases that are still to end in the open interval
@@ -128,20 +128,20 @@ abbrev pub Paid : ℕ → Phase → Type 0
 Paid ready (Between next outgoing) = Unit {0}
 Paid ready (Within i) = Paid-in ready (i .candidates) (i .copyin)
 
-pub record Sound (d : Dispatcher) (p : Phase) : Type 0 where
+pub record Sound (d : State) (p : Phase) : Type 0 where
   pub few : d .jobs .ready < 2 ^ 32
   pub paid : Paid (d .jobs .ready) p
 
 -- from a dispatcher d in the phase p to another, with b intervals begun and n jobs taken
-pub record Leads (d : Dispatcher) (p : Phase) (d′ : Dispatcher) (p′ : Phase) (b n : ℕ) : Type 0 where
+pub record Leads (d : State) (p : Phase) (d′ : State) (p′ : Phase) (b n : ℕ) : Type 0 where
   pub sound : Sound d′ p′
   pub weigh : weight d′ p′ + phase-debt p + b ≤ weight d p + phase-debt p′ + 3 * n
   pub sink : 8 * weight d′ p′ + rank p′ + 8 * phase-debt p ≤ 8 * weight d p + rank p + 8 * phase-debt p′ + 24 * n
 
-stays : (d : Dispatcher) → Sound d (d .phase) → Leads d (d .phase) d (d .phase) 0 0
+stays : (d : State) → Sound d (d .phase) → Leads d (d .phase) d (d .phase) 0 0
 stays d h = record { sound = h; weigh = omega arith; sink = omega arith }
 
-back : (d : Dispatcher) (p : Phase) → d .phase ≡ p → Sound d p → Leads d p d (d .phase) 0 0
+back : (d : State) (p : Phase) → d .phase ≡ p → Sound d p → Leads d p d (d .phase) 0 0
 back d p e h = subst (λ (x : Phase). Leads d p d x 0 0) (sym e) (record { sound = h; weigh = omega arith; sink = omega arith })
 
 -- a
@@ -168,7 +168,7 @@ a-processor-rank : (table : Table) (t : ℕ) (q : Processor) → processor-rank 
 a-processor-rank table t q =
     processor-cases t table (λ x. processor-rank x ≤ processor-rank q) q (omega arith) (λ n u e x. omega (arith, ap processor-rank e)) (λ n s u e x. omega arith)
 
-pub a-leads : (d : Dispatcher) (t : ℕ) (p : Phase) → d .phase ≡ p → Sound d p → Leads d p (step-a d t p .state) (step-a d t p .state .phase) 0 0
+pub a-leads : (d : State) (t : ℕ) (p : Phase) → d .phase ≡ p → Sound d p → Leads d p (step-a d t p .state) (step-a d t p .state .phase) 0 0
 unfolding step-a without-done ended
 a-leads d t (Between next outgoing) e h = back d (Between next outgoing) e h
 a-leads d t (Within i) e h = record {
@@ -202,7 +202,7 @@ promote-debt : (ready s : ℕ) (pr : List ℕ) (q : MaybeTask) (c k : ℕ) → B
 promote-debt ready s pr NoTask c k b h l m = clash (member k s) m (b k l)
 promote-debt ready s pr (Task q) c k b h l m = omega (arith, size-remove q ready (b .0) (h q (b .0) (b .1)))
 
-b-next : (d : Dispatcher) (i : Interval) (c : CopyIn) → Paid-in (d .jobs .ready) (i .candidates) c
+b-next : (d : State) (i : Interval) (c : CopyIn) → Paid-in (d .jobs .ready) (i .candidates) c
     → 3 * size (without-promoted (d .jobs .ready) (promoted d i c)) + next-weight (next-of c (promoted d i c)) + copyin-debt c ≤ 3 * size (d .jobs .ready) + copyin-weight c
 unfolding promoted
 b-next d i Unchosen h = omega arith
@@ -237,12 +237,12 @@ b-leads s t (Within i) e h = go (over i)
     go false = back (s .state) (Within i) e h
 
 -- c
-c-rank : (d : Dispatcher) (new : ℕ) (p : Phase) → rank (with-candidates d new p) ≡ rank p
+c-rank : (d : State) (new : ℕ) (p : Phase) → rank (with-candidates d new p) ≡ rank p
 unfolding with-candidates
 c-rank d new (Between next outgoing) = refl
 c-rank d new (Within i) = refl
 
-c-phase : (d : Dispatcher) (new : ℕ) (p : Phase) → (phase-weight (with-candidates d new p) ≡ phase-weight p) × (phase-debt (with-candidates d new p) ≡ phase-debt p)
+c-phase : (d : State) (new : ℕ) (p : Phase) → (phase-weight (with-candidates d new p) ≡ phase-weight p) × (phase-debt (with-candidates d new p) ≡ phase-debt p)
 unfolding with-candidates
 c-phase d new (Between next outgoing) = (refl, refl)
 c-phase d new (Within i) = (refl, refl)
@@ -258,14 +258,14 @@ paid-more ready candidates ready′ candidates′ r f (Copying n until) h = tt
 paid-more ready candidates ready′ candidates′ r f (Loaded n) h = tt
 paid-more ready candidates ready′ candidates′ r f (Cancelled n) h = rival-more ready candidates ready′ candidates′ r f h
 
-c-paid : (d : Dispatcher) (new : ℕ) (p : Phase) → Paid (d .jobs .ready) p → Paid (union (d .jobs .ready) new) (with-candidates d new p)
+c-paid : (d : State) (new : ℕ) (p : Phase) → Paid (d .jobs .ready) p → Paid (union (d .jobs .ready) new) (with-candidates d new p)
 unfolding with-candidates
 c-paid d new (Between next outgoing) h = tt
 c-paid d new (Within i) h =
     paid-more (d .jobs .ready) (i .candidates) (union (d .jobs .ready) new) (union (i .candidates) (intersection new (d .marked)))
     (λ k l m. union-left (d .jobs .ready) new k l m) (λ k l m. union-left (i .candidates) (intersection new (d .marked)) k l m) (i .copyin) h
 
-c-leads : (d : Dispatcher) (t new : ℕ) → Sound d (d .phase) → Leads d (d .phase) (step-c d t new) (step-c d t new .phase) 0 (size new)
+c-leads : (d : State) (t new : ℕ) → Sound d (d .phase) → Leads d (d .phase) (step-c d t new) (step-c d t new .phase) 0 (size new)
 unfolding step-c
 c-leads d t new h = record {
   sound = record { few = union-small (d .jobs .ready) new; paid = c-paid d new (d .phase) (h .paid) };
@@ -274,7 +274,7 @@ c-leads d t new h = record {
 }
 
 -- d
-d-rival : (d : Dispatcher) (new : ℕ) (i : Interval) (c : ℕ) (q : MaybeTask) → NewIn d new i
+d-rival : (d : State) (new : ℕ) (i : Interval) (c : ℕ) (q : MaybeTask) → NewIn d new i
     → Best (d .table .priority) (intersection new (d .marked)) q → outranks d c q ≡ true → Rival (insert c (d .jobs .ready)) (i .candidates)
 d-rival d new i c NoTask f b t = absurd (false≢true t)
 d-rival d new i c (Task q) f b t =
@@ -286,7 +286,7 @@ d-rival d new i c (Task q) f b t =
       is-candidate = f .candidates q (b .0) is-new (intersection-right new (d .marked) q (b .1));
     }
 
-d-cancel : (d : Dispatcher) (new : ℕ) (i : Interval) (c until : ℕ) → i .copyin ≡ Copying c until → NewIn d new i → Sound d (Within i)
+d-cancel : (d : State) (new : ℕ) (i : Interval) (c until : ℕ) → i .copyin ≡ Copying c until → NewIn d new i → Sound d (Within i)
     → outranks d c (highest-of d (intersection new (d .marked))) ≡ true → Leads d (Within i) (cancel d i c true) (cancel d i c true .phase) 0 0
 unfolding cancel
 d-cancel d new i c until s f h b = record {
@@ -298,14 +298,14 @@ d-cancel d new i c until s f h b = record {
   sink = rw s (omega (arith, size-insert c (d .jobs .ready)));
 }
 
-d-leads : (d : Dispatcher) (new : ℕ) → NewAt d new (d .phase) → Sound d (d .phase) → Leads d (d .phase) (step-d d new (d .phase)) (step-d d new (d .phase) .phase) 0 0
+d-leads : (d : State) (new : ℕ) → NewAt d new (d .phase) → Sound d (d .phase) → Leads d (d .phase) (step-d d new (d .phase)) (step-d d new (d .phase) .phase) 0 0
 d-leads d new f h =
     d-cases (λ x. Leads d (d .phase) x (x .phase) 0 0) d new (stays d h)
     (λ i c u e s b.
     subst (λ (p : Phase). Leads d p (cancel d i c true) (cancel d i c true .phase) 0 0) (sym e) (d-cancel d new i c u s (subst (NewAt d new) e f) (subst (Sound d) e h) b))
 
 -- e
-choose-leads : (d : Dispatcher) (t : ℕ) (i : Interval) (q : MaybeTask) → i .copyin ≡ Unchosen → Sound d (Within i) → Best (d .table .priority) (d .jobs .ready) q
+choose-leads : (d : State) (t : ℕ) (i : Interval) (q : MaybeTask) → i .copyin ≡ Unchosen → Sound d (Within i) → Best (d .table .priority) (d .jobs .ready) q
     → Leads d (Within i) (choose d t i q) (choose d t i q .phase) 0 0
 unfolding choose
 choose-leads d t i NoTask s h b = record { sound = record { few = h .few; paid = tt }; weigh = rw s (omega arith); sink = rw s (omega arith) }
@@ -316,13 +316,13 @@ choose-leads d t i (Task q) s h b = record {
 }
 
 -- with a job that is ready the choice takes one
-choose-falls : (d : Dispatcher) (t : ℕ) (i : Interval) (q : MaybeTask) → i .copyin ≡ Unchosen → d .jobs .ready < 2 ^ 32 → eqb (d .jobs .ready) 0 ≡ false
+choose-falls : (d : State) (t : ℕ) (i : Interval) (q : MaybeTask) → i .copyin ≡ Unchosen → d .jobs .ready < 2 ^ 32 → eqb (d .jobs .ready) 0 ≡ false
     → Best (d .table .priority) (d .jobs .ready) q → weight (choose d t i q) (choose d t i q .phase) + 1 ≤ weight d (Within i)
 unfolding choose
 choose-falls d t i NoTask s f h b = absurd (eqb-false (d .jobs .ready) 0 h (empty (d .jobs .ready) f b))
 choose-falls d t i (Task q) s f h b = rw s (omega (arith, size-remove q (d .jobs .ready) (b .0) (b .1)))
 
-e-leads : (d : Dispatcher) (t : ℕ) → Sound d (d .phase) → Leads d (d .phase) (step-e d t (d .phase)) (step-e d t (d .phase) .phase) 0 0
+e-leads : (d : State) (t : ℕ) → Sound d (d .phase) → Leads d (d .phase) (step-e d t (d .phase)) (step-e d t (d .phase) .phase) 0 0
 e-leads d t h =
     let q : MaybeTask = highest-of d (d .jobs .ready) in
     e-cases (λ x. Leads d (d .phase) x (x .phase) 0 0) d t (stays d h)
@@ -341,7 +341,7 @@ begin-processor-weight table t (LoadedNext n) = omega arith
 begin-processor-weight table t (PromotedNext n) = omega arith
 
 -- a dispatcher whose interval has just begun
-module _ (f : Dispatcher) (t new : ℕ) (next : Next) (outgoing : Outgoing) (h : Sound f (Between next outgoing)) where
+module _ (f : State) (t new : ℕ) (next : Next) (outgoing : Outgoing) (h : Sound f (Between next outgoing)) where
   new-interval : Interval
   new-interval = record {
     begin = t;
@@ -352,13 +352,13 @@ module _ (f : Dispatcher) (t new : ℕ) (next : Next) (outgoing : Outgoing) (h :
     candidates = intersection new (f .marked);
   }
 
-  opened-leads : let b : Dispatcher = begin f t new next outgoing in
+  opened-leads : let b : State = begin f t new next outgoing in
       Leads b (b .phase) (step-e b t (b .phase)) (step-e b t (b .phase) .phase) 0 0
   unfolding begin
-  opened-leads = let b : Dispatcher = begin f t new next outgoing in e-leads b t (record { few = h .few; paid = tt })
+  opened-leads = let b : State = begin f t new next outgoing in e-leads b t (record { few = h .few; paid = tt })
 
-g-falls : (f : Dispatcher) (t new : ℕ) (next : Next) (outgoing : Outgoing) → Sound f (Between next outgoing) → wanted next outgoing (f .jobs .ready) ≡ true
-    → let b : Dispatcher = begin f t new next outgoing in
+g-falls : (f : State) (t new : ℕ) (next : Next) (outgoing : Outgoing) → Sound f (Between next outgoing) → wanted next outgoing (f .jobs .ready) ≡ true
+    → let b : State = begin f t new next outgoing in
     weight (step-e b t (b .phase)) (step-e b t (b .phase) .phase) + 1 ≤ weight f (Between next outgoing) + phase-debt (step-e b t (b .phase) .phase)
 unfolding begin
 g-falls f t new (LoadedNext n) outgoing h w = omega (arith, opened-leads f t new (LoadedNext n) outgoing h .weigh)
@@ -366,16 +366,16 @@ g-falls f t new (PromotedNext n) outgoing h w = omega (arith, opened-leads f t n
 g-falls f t new NoneNext (AwaitsCopyOut m s) h w = omega (arith, opened-leads f t new NoneNext (AwaitsCopyOut m s) h .weigh)
 g-falls f t new NoneNext NoneOutgoing h w =
     unfold step-e choose-if new-interval in
-    let b : Dispatcher = begin f t new NoneNext NoneOutgoing in
+    let b : State = begin f t new NoneNext NoneOutgoing in
     omega (arith, choose-falls b t (new-interval f t new NoneNext NoneOutgoing h) (highest-of b (f .jobs .ready)) refl (h .few) (not-true (eqb (f .jobs .ready) 0) w) (best-of b (f .jobs .ready)))
 
-g-leads : (f : Dispatcher) (t new : ℕ) (p : Phase) → f .phase ≡ p → Sound f p
+g-leads : (f : State) (t new : ℕ) (p : Phase) → f .phase ≡ p → Sound f p
     → Leads f p (step-g f t new p) (step-g f t new p .phase) (total is-begin (begins t p (step-g f t new p .phase))) 0
 unfolding step-g begins total
 g-leads f t new (Within i) e h = back f (Within i) e h
 g-leads f t new (Between next outgoing) e h = go (wanted next outgoing (f .jobs .ready)) refl
   where
-    b : Dispatcher
+    b : State
     b = begin f t new next outgoing
 
     stays : (q : Phase) → q ≡ Between next outgoing → Leads f (Between next outgoing) f q (total is-begin (begins t (Between next outgoing) q)) 0
@@ -392,7 +392,7 @@ g-leads f t new (Between next outgoing) e h = go (wanted next outgoing (f .jobs 
 
 -- ---- the steps together
 
-pub to-b : (d : Dispatcher) (t : ℕ) → Sound d (d .phase) → Leads d (d .phase) (at-b d t .state) (at-b d t .state .phase) 0 0
+pub to-b : (d : State) (t : ℕ) → Sound d (d .phase) → Leads d (d .phase) (at-b d t .state) (at-b d t .state .phase) 0 0
 unfolding at-b at-a
 to-b d t h =
     let a : Stage = at-a d t in
@@ -400,32 +400,32 @@ to-b d t h =
     let y : Leads (a .state) (a .state .phase) (at-b d t .state) (at-b d t .state .phase) 0 0 = b-leads a t (a .state .phase) refl (x .sound) in
     record { sound = y .sound; weigh = omega (arith, x .weigh, y .weigh); sink = omega (arith, x .sink, y .sink) }
 
-pub to-e : (d : Dispatcher) (t set : ℕ) → Sound (at-b d t .state) (at-b d t .state .phase)
+pub to-e : (d : State) (t set : ℕ) → Sound (at-b d t .state) (at-b d t .state .phase)
     → Leads (at-b d t .state) (at-b d t .state .phase) (at-e d t set) (at-e d t set .phase) 0 (size (new-at d t set))
 unfolding at-e
 to-e d t set h =
-    let b : Dispatcher = at-b d t .state in
+    let b : State = at-b d t .state in
     let new : ℕ = new-at d t set in
-    let c : Dispatcher = step-c b t new in
-    let x : Dispatcher = step-d c new (c .phase) in
-    let e : Dispatcher = step-e x t (x .phase) in
+    let c : State = step-c b t new in
+    let x : State = step-d c new (c .phase) in
+    let e : State = step-e x t (x .phase) in
     let l1 : Leads b (b .phase) c (c .phase) 0 (size new) = c-leads b t new h in
     let l2 : Leads c (c .phase) x (x .phase) 0 0 = d-leads c new (c-new b t new) (l1 .sound) in
     let l3 : Leads x (x .phase) e (e .phase) 0 0 = e-leads x t (l2 .sound) in
     record { sound = l3 .sound; weigh = omega (arith, l1 .weigh, l2 .weigh, l3 .weigh); sink = omega (arith, l1 .sink, l2 .sink, l3 .sink) }
 
-pub to-g : (d : Dispatcher) (t set : ℕ) → Sound (at-e d t set) (at-e d t set .phase)
+pub to-g : (d : State) (t set : ℕ) → Sound (at-e d t set) (at-e d t set .phase)
     → Leads (at-e d t set) (at-e d t set .phase) (at-g d t set) (at-g d t set .phase) (total is-begin (begins t (at-f d t set .state .phase) (at-g d t set .phase))) 0
 unfolding at-f at-g
 to-g d t set h =
-    let e : Dispatcher = at-e d t set in
-    let f : Dispatcher = at-f d t set .state in
-    let g : Dispatcher = at-g d t set in
+    let e : State = at-e d t set in
+    let f : State = at-f d t set .state in
+    let g : State = at-g d t set in
     let x : Leads e (e .phase) f (f .phase) 0 0 = b-leads (record { state = e; done = at-b d t .done; closed = at-b d t .closed }) t (e .phase) refl h in
     let y : Leads f (f .phase) g (g .phase) (total is-begin (begins t (f .phase) (g .phase))) 0 = g-leads f t (held-at d t set) (f .phase) refl (x .sound) in
     record { sound = y .sound; weigh = omega (arith, x .weigh, y .weigh); sink = omega (arith, x .sink, y .sink) }
 
-pub instant-leads : (d : Dispatcher) (t set : ℕ) → Sound d (d .phase)
+pub instant-leads : (d : State) (t set : ℕ) → Sound d (d .phase)
     → Leads d (d .phase) (at-g d t set) (at-g d t set .phase) (total is-begin (begins t (at-f d t set .state .phase) (at-g d t set .phase))) (size (new-at d t set))
 instant-leads d t set h =
     let x : Leads d (d .phase) (at-b d t .state) (at-b d t .state .phase) 0 0 = to-b d t h in
@@ -435,7 +435,7 @@ instant-leads d t set h =
 
 -- ---- along the calls
 
-pub debt-covered : (d : Dispatcher) (p : Phase) → Sound d p → phase-debt p ≤ weight d p
+pub debt-covered : (d : State) (p : Phase) → Sound d p → phase-debt p ≤ weight d p
 debt-covered d (Between next outgoing) h = omega arith
 debt-covered d (Within i) h = go (i .copyin) (h .paid)
   where
@@ -446,7 +446,7 @@ debt-covered d (Within i) h = go (i .copyin) (h .paid)
     go (Loaded n) h = omega arith
     go (Cancelled n) h = omega (arith, size-some (h .who) (d .jobs .ready) (h .task) (h .is-ready))
 
-pub counted : (d : Dispatcher) (cs : List Call) → Sound d (d .phase)
+pub counted : (d : State) (cs : List Call) → Sound d (d .phase)
     → total is-begin (history d cs) + phase-debt (d .phase) ≤ weight d (d .phase) + 3 * total is-take (history d cs)
 counted d cs =
     walk (λ d h. Sound d (d .phase) → total is-begin h + phase-debt (d .phase) ≤ weight d (d .phase) + 3 * total is-take h)

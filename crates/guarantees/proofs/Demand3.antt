@@ -1,5 +1,5 @@
 -- Demand 3: the claim holds of every list of calls.
-use Rattle.guarantees.specs.Types.{_≡_, refl, sym, ap, _∙_, subst, Bool, true, false, List, _++_, inl, inr, ℕ, zero, suc, _≤_, _<_, Table, MaybeTask, NoTask, Task, Dispatcher}
+use Rattle.guarantees.specs.Types.{_≡_, refl, sym, ap, _∙_, subst, Bool, true, false, List, _++_, inl, inr, ℕ, zero, suc, _≤_, _<_, Table, MaybeTask, NoTask, Task, State}
 use native.Mathlib.Omega.{arith}
 use native.Mathlib.Nat.{le-of-suc-le-suc}
 use borrow.Author.Tests.{ltb-true, ltb-false}
@@ -7,8 +7,8 @@ use lib.Dec.{ltb}
 use lib.ListN.{getD, length}
 use Rattle.sets.specs.Sets.{member}
 use Rattle.sets.specs.Laws.{by-test, none, member-task, size, size-none}
-use Rattle.dispatcher.specs.Instant.{due}
-use Rattle.dispatcher.specs.Calls.{opened, opening}
+use Rattle.rules.specs.Instant.{due}
+use Rattle.rules.specs.Calls.{opened, opening}
 use Rattle.guarantees.specs.History.{Event, Call, history, after-calls}
 use Rattle.guarantees.specs.Reading.{Situation, NoneOpen, Open, situation, intervals, total, is-take}
 use Rattle.guarantees.specs.Claim.{met, Lower, ThisOrHigher, InOrder, Holds, AllCompleted, Claim, Demand3}
@@ -101,7 +101,7 @@ module _ (table : Table) (marks : ℕ) (fair : Fair table marks) where
     as-many = omega (arith, balanced table marks fair d calls (good-opened table marks fair), size-at-first, ap size p, size-none);
   }
     where
-      d : Dispatcher
+      d : State
       d = opened table marks
 
   claim : (calls : List Call) → Claim (opened table marks) calls
@@ -116,7 +116,7 @@ module _ (table : Table) (marks : ℕ) (fair : Fair table marks) where
         ∙ omega (arith, total-append is-take (history d calls) (history (after-calls d calls) rest), drained table marks fair rest (after-calls d calls) good e .takes);
   }
     where
-      d : Dispatcher
+      d : State
       d = opened table marks
 
       good : Good table marks fair (after-calls (opened table marks) calls)
@@ -127,11 +127,11 @@ module _ (table : Table) (marks : ℕ) (fair : Fair table marks) where
       pending rest x =
           rests table marks fair (after-calls (opened table marks) (calls ++ rest))
           (good-after table marks fair (calls ++ rest) (opened table marks) (good-opened table marks fair))
-          (ap (λ (g : Dispatcher). due (g .phase)) (after-append calls rest (opened table marks)) ∙ x .never) .pending
+          (ap (λ (g : State). due (g .phase)) (after-append calls rest (opened table marks)) ∙ x .never) .pending
 
 pub demand-3 : Demand3
 unfolding Demand3
 demand-3 bytes e calls =
     let o : Opens (opening bytes .state) = opens bytes e in
-    let d : Dispatcher = opening bytes .state in
-    subst (λ (x : Dispatcher). Claim x calls) (sym (o .fresh)) (claim (d .table) (d .marked) (o .proper .fair) calls)
+    let d : State = opening bytes .state in
+    subst (λ (x : State). Claim x calls) (sym (o .fresh)) (claim (d .table) (d .marked) (o .proper .fair) calls)

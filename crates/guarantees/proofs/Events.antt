@@ -1,10 +1,10 @@
 -- The events of an instant: what holds of a list of events and is kept by each kind of event holds with those of a step before it; the three
 -- parts of an instant, before, at and after the releases; and the intervals that begin in them.
-use Rattle.guarantees.specs.Types.{_≡_, refl, ap, _∙_, Bool, true, false, cond, List, [], _∷_, _++_, append-assoc, ℕ, zero, suc, _<_, MaybeTask, CopyIn, Unchosen, NoneChosen, Copying, Loaded, Cancelled, Phase, Between, Within, Dispatcher, Done, NoJob, Job}
+use Rattle.guarantees.specs.Types.{_≡_, refl, ap, _∙_, Bool, true, false, cond, List, [], _∷_, _++_, append-assoc, ℕ, zero, suc, _<_, MaybeTask, CopyIn, Unchosen, NoneChosen, Copying, Loaded, Cancelled, Phase, Between, Within, State, Done, NoJob, Job}
 use native.Mathlib.Omega.{arith}
 use lib.Dec.{eqb}
 use Rattle.sets.specs.Sets.{member}
-use Rattle.dispatcher.specs.Instant.{processor-task, copyout-task, at-a, at-b, at-e, at-f, at-g, new-at}
+use Rattle.rules.specs.Instant.{processor-task, copyout-task, at-a, at-b, at-e, at-f, at-g, new-at}
 use Rattle.guarantees.specs.History.{Event, Comes, Finishes, Completes, Ends, Takes, Begins, happens, finishes, finishes-in, completes, ends, takes, begins}
 use Rattle.guarantees.specs.Reading.{intervals}
 
@@ -59,14 +59,14 @@ module _ (P : List Event → Type 0) where
 -- ---- the parts of an instant
 
 -- before the releases
-unfoldable pub front-of : Dispatcher → ℕ → List Event
+unfoldable pub front-of : State → ℕ → List Event
 front-of d t = Comes t ∷ (finishes-in t (d .phase) ++ (completes (at-a d t .done) ++ ends t (at-a d t .state .phase) (at-b d t .state .phase)))
 
 -- after them
-unfoldable pub tail-of : Dispatcher → ℕ → ℕ → List Event
+unfoldable pub tail-of : State → ℕ → ℕ → List Event
 tail-of d t set = ends t (at-e d t set .phase) (at-f d t set .state .phase) ++ begins t (at-f d t set .state .phase) (at-g d t set .phase)
 
-pub happens-parts : (d : Dispatcher) (t set : ℕ) (h : List Event)
+pub happens-parts : (d : State) (t set : ℕ) (h : List Event)
     → happens d t set ++ h ≡ front-of d t ++ (takes 32 (new-at d t set) (d .marked) t ++ (tail-of d t set ++ h))
 unfolding happens front-of tail-of
 happens-parts d t set h = simp append-assoc
@@ -74,7 +74,7 @@ happens-parts d t set h = simp append-assoc
 -- what each event before the releases keeps
 pub by-front : (P : List Event → Type 0) → ((t : ℕ) (es : List Event) → P es → P (Comes t ∷ es)) → ((n : ℕ) (es : List Event) → P es → P (Finishes n ∷ es))
     → ((n t : ℕ) (es : List Event) → P es → P (Completes n t ∷ es)) → ((t : ℕ) (es : List Event) → P es → P (Ends t ∷ es))
-    → (d : Dispatcher) (t : ℕ) (es : List Event) → P es → P (front-of d t ++ es)
+    → (d : State) (t : ℕ) (es : List Event) → P es → P (front-of d t ++ es)
 unfolding front-of
 by-front P a b c e d t es h =
     let x : List Event = ends t (at-a d t .state .phase) (at-b d t .state .phase) in
@@ -92,7 +92,7 @@ pub takes-intervals : (k new marked t : ℕ) (ys : List Event) → intervals (ta
 unfolding intervals
 takes-intervals k new marked t ys = by-takes (As ys) k new marked t (λ n l m es e. e) ys refl
 
-front-intervals : (d : Dispatcher) (t : ℕ) (ys : List Event) → intervals (front-of d t ++ ys) ≡ intervals ys
+front-intervals : (d : State) (t : ℕ) (ys : List Event) → intervals (front-of d t ++ ys) ≡ intervals ys
 unfolding intervals
 front-intervals d t ys = by-front (As ys) (λ t es e. e) (λ n es e. e) (λ n t es e. e) (λ t es e. e) d t ys refl
 
@@ -102,7 +102,7 @@ begins-intervals t (Within i) q ys = refl
 begins-intervals t (Between next outgoing) (Between x y) ys = refl
 begins-intervals t (Between next outgoing) (Within j) ys = refl
 
-pub tail-intervals : (d : Dispatcher) (t set : ℕ) (h : List Event)
+pub tail-intervals : (d : State) (t set : ℕ) (h : List Event)
     → intervals (tail-of d t set ++ h) ≡ intervals (begins t (at-f d t set .state .phase) (at-g d t set .phase)) ++ intervals h
 unfolding tail-of intervals
 tail-intervals d t set h =
@@ -111,7 +111,7 @@ tail-intervals d t set h =
     ∙ by-ends (As (b ++ h)) t (λ es e. e) (at-e d t set .phase) (at-f d t set .state .phase) (b ++ h) refl
     ∙ begins-intervals t (at-f d t set .state .phase) (at-g d t set .phase) h
 
-pub happens-intervals : (d : Dispatcher) (t set : ℕ) (h : List Event)
+pub happens-intervals : (d : State) (t set : ℕ) (h : List Event)
     → intervals (happens d t set ++ h) ≡ intervals (begins t (at-f d t set .state .phase) (at-g d t set .phase)) ++ intervals h
 happens-intervals d t set h =
     ap intervals (happens-parts d t set h)

@@ -7,7 +7,7 @@ use lib.Dec.{ltb}
 use lib.ListN.{getD}
 use Rattle.sets.specs.Sets.{member}
 use Rattle.sets.specs.Laws.{by-test, below-suc, clash}
-use Rattle.dispatcher.specs.Order.{better, highest-below, highest}
+use Rattle.rules.specs.Order.{better, highest-below, highest}
 
 -- what a pick is among the members below k of a set
 abbrev pub BestBelow : ℕ → List ℕ → ℕ → MaybeTask → Type 0

@@ -1,7 +1,7 @@
 -- The invariant of the states that calls made, and that each call keeps it. Its last part bounds the times: each phase under way ends after
 -- the clock, at most 1,000,000 ticks after it, and before a bound that the mass still to come pushes down; so no time comes near the last tick
 -- of a u64, since releases come by 1,000,000,000 and every phase that ends after that takes from the mass.
-use Rattle.guarantees.specs.Types.{_≡_, refl, sym, ap, _∙_, subst, Bool, true, false, cond, not, false≢true, List, ⊎-elim, ℕ, _+_, _*_, _^_, _≤_, _<_, Table, Clock, Processor, Idle, CopyingIn, Executing, Finished, CopyOut, NoCopyOut, CopyingOut, CopiedOut, CopyIn, Unchosen, NoneChosen, Copying, Loaded, Cancelled, Next, NoneNext, LoadedNext, PromotedNext, Outgoing, NoneOutgoing, AwaitsCopyOut, Phase, Between, Within, Dispatcher}
+use Rattle.guarantees.specs.Types.{_≡_, refl, sym, ap, _∙_, subst, Bool, true, false, cond, not, false≢true, List, ⊎-elim, ℕ, _+_, _*_, _^_, _≤_, _<_, Table, Clock, Processor, Idle, CopyingIn, Executing, Finished, CopyOut, NoCopyOut, CopyingOut, CopiedOut, CopyIn, Unchosen, NoneChosen, Copying, Loaded, Cancelled, Next, NoneNext, LoadedNext, PromotedNext, Outgoing, NoneOutgoing, AwaitsCopyOut, Phase, Between, Within, State}
 use native.Mathlib.Omega.{arith}
 use borrow.Author.Tests.{eqb-true, eqb-false, eq-eqb, ltb-true, ltb-false}
 use lib.Dec.{eqb, ltb}
@@ -11,9 +11,9 @@ use Rattle.sets.specs.Laws.{insert-out, insert-small, remove-out, remove-small,
 use Rattle.guarantees.proofs.Walk.{after}
 use Rattle.guarantees.proofs.Proper.{Fair}
 use Rattle.guarantees.specs.History.{Call, after-calls}
-use Rattle.dispatcher.specs.Calls.{mark-refusal, with-mark, opened}
-use Rattle.dispatcher.specs.Instant.{taken, settled, at-b, at-e, at-f, at-g, new-at}
-use Rattle.dispatcher.specs.State.{later}
+use Rattle.rules.specs.Calls.{mark-refusal, with-mark, opened}
+use Rattle.rules.specs.Instant.{taken, settled, at-b, at-e, at-f, at-g, new-at}
+use Rattle.rules.specs.With.{later}
 use Rattle.guarantees.proofs.Frames.{table-g, clock-g}
 use Rattle.guarantees.proofs.Count.{Sound, weight, rank, rank-small, phase-weight, phase-debt, b-leads, debt-covered, instant-leads, copyin-weight, processor-weight, next-weight, outgoing-weight}
 use Rattle.guarantees.proofs.Settled.{Settled, settled-after}
@@ -50,13 +50,13 @@ phase-weight-small (Within i) = omega (arith, go (i .copyin), go-processor (i .p
     go-processor (Executing n start until) = omega arith
     go-processor (Finished n start) = omega arith
 
-unfoldable pub mass : Dispatcher → ℕ
+unfoldable pub mass : State → ℕ
 mass d = 8 * weight d (d .phase) + rank (d .phase)
 
-pub debt : Dispatcher → ℕ
+pub debt : State → ℕ
 debt d = 8 * phase-debt (d .phase)
 
-mass-small : (d : Dispatcher) → mass d ≤ 796
+mass-small : (d : State) → mass d ≤ 796
 unfolding mass
 mass-small d = omega (arith, size-most (d .jobs .ready), phase-weight-small (d .phase), rank-small (d .phase))
 
@@ -158,31 +158,31 @@ module _ (X Y : ℕ → Type 0) where
 -- ---- the pieces of an instant
 
 -- an empty set is taken as none
-pub new-none : (d : Dispatcher) (t set : ℕ) → ((k : ℕ) → k < 32 → member k set ≡ false) → size (new-at d t set) ≡ 0
+pub new-none : (d : State) (t set : ℕ) → ((k : ℕ) → k < 32 → member k set ≡ false) → size (new-at d t set) ≡ 0
 unfolding size new-at taken
 new-none d t set h =
     let s : ℕ = difference set (at-b d t .state .jobs .pending) in
     count-none 32 (λ k. member k s)
     (λ k l. by-test (member k s) (λ x. clash (member k set) (difference-left set (at-b d t .state .jobs .pending) k x) (h k l)) (λ x. x))
 
-few-f : (d : Dispatcher) (t set : ℕ) → Sound d (d .phase) → at-f d t set .state .jobs .ready < 2 ^ 32
+few-f : (d : State) (t set : ℕ) → Sound d (d .phase) → at-f d t set .state .jobs .ready < 2 ^ 32
 unfolding at-f
 few-f d t set h =
-    let e : Dispatcher = at-e d t set in
+    let e : State = at-e d t set in
     b-leads (record { state = e; done = at-b d t .done; closed = at-b d t .closed }) t (e .phase) refl (Count.to-e d t set (Count.to-b d t h .sound) .sound) .sound .few
 
-pub sinks : (d : Dispatcher) (t set : ℕ) → Sound d (d .phase) → mass (at-g d t set) + debt d + drop t (d .phase) ≤ mass d + debt (at-g d t set) + 24 * size (new-at d t set)
+pub sinks : (d : State) (t set : ℕ) → Sound d (d .phase) → mass (at-g d t set) + debt d + drop t (d .phase) ≤ mass d + debt (at-g d t set) + 24 * size (new-at d t set)
 unfolding mass debt
 sinks d t set h = instant-sinks d t set h
 
-pub debt-less : (d : Dispatcher) → Sound d (d .phase) → debt d ≤ mass d
+pub debt-less : (d : State) → Sound d (d .phase) → debt d ≤ mass d
 unfolding mass debt
 debt-less d h = omega (arith, debt-covered d (d .phase) h)
 
 -- ---- the invariant of the dispatchers that calls make
 
 module _ (table : Table) (marks : ℕ) (fair : Fair table marks) where
-  pub record Good (d : Dispatcher) : Type 0 where
+  pub record Good (d : State) : Type 0 where
     pub table-is : d .table ≡ table
     pub sound : Sound d (d .phase)
     pub parted : Parted (table .present) (fair .present) d (d .phase)
@@ -217,7 +217,7 @@ module _ (table : Table) (marks : ℕ) (fair : Fair table marks) where
       soon : (x : ℕ) → 1 ≤ x → x ≤ 1000000 → Until t m e (later t x)
       soon x p q = record { after = omega arith; near = omega arith; bound = omega arith }
 
-  module _ (d : Dispatcher) (t set : ℕ) (good : Good d) (served : Served-at d t set) where
+  module _ (d : State) (t set : ℕ) (good : Good d) (served : Served-at d t set) where
     abbrev After : ℕ → Type 0
     After = Until t (mass (at-g d t set)) (debt (at-g d t set))
 
@@ -283,7 +283,7 @@ module _ (table : Table) (marks : ℕ) (fair : Fair table marks) where
     }
 
   -- a mark call that is served names a task of the table
-  mark-known : (d : Dispatcher) (n m : ℕ) → eqb (mark-refusal d n m) 0 ≡ true → member n (d .table .present) ≡ true
+  mark-known : (d : State) (n m : ℕ) → eqb (mark-refusal d n m) 0 ≡ true → member n (d .table .present) ≡ true
   unfolding mark-refusal
   mark-known d n m = go (member n (d .table .present)) (ltb 1 m) (member n (d .jobs .pending))
     where
@@ -291,7 +291,7 @@ module _ (table : Table) (marks : ℕ) (fair : Fair table marks) where
       go true b c h = refl
       go false b c h = absurd (false≢true h)
 
-  pub good-mark : (d : Dispatcher) (n m : ℕ) → eqb (mark-refusal d n m) 0 ≡ true → Good d → Good (with-mark d n m)
+  pub good-mark : (d : State) (n m : ℕ) → eqb (mark-refusal d n m) 0 ≡ true → Good d → Good (with-mark d n m)
   good-mark d n m e g = record {
     table-is = g .table-is;
     sound = record { few = g .sound .few; paid = g .sound .paid };
@@ -318,5 +318,5 @@ module _ (table : Table) (marks : ℕ) (fair : Fair table marks) where
           g .parted .marks k (member-task k (remove n (d .marked)) (remove-small n (d .marked)) x) (remove-out n (d .marked) k x)
 
   -- every list of calls
-  pub good-after : (cs : List Call) (d : Dispatcher) → Good d → Good (after-calls d cs)
+  pub good-after : (cs : List Call) (d : State) → Good d → Good (after-calls d cs)
   good-after = after Good (λ d t set e g. good-next d t set g (served-at d t set e)) good-mark

@@ -1,10 +1,10 @@
 -- Every task that is taken or executed in a history is one of the table's.
-use Rattle.guarantees.specs.Types.{_≡_, Bool, true, false, cond, List, [], _∷_, _++_, append-assoc, subst, ℕ, zero, suc, _<_, Table, MaybeTask, NoTask, Task, Processor, Idle, CopyingIn, Executing, Finished, Phase, Between, Within, Dispatcher}
+use Rattle.guarantees.specs.Types.{_≡_, Bool, true, false, cond, List, [], _∷_, _++_, append-assoc, subst, ℕ, zero, suc, _<_, Table, MaybeTask, NoTask, Task, Processor, Idle, CopyingIn, Executing, Finished, Phase, Between, Within, State}
 use native.Mathlib.Nat.{not-suc-le-zero, le-of-suc-le-suc}
 use lib.ListN.{getD, length}
 use Rattle.sets.specs.Sets.{member}
 use Rattle.sets.specs.Laws.{difference-left}
-use Rattle.dispatcher.specs.Instant.{at-b, at-e, at-f, at-g, new-at, taken, processor-task}
+use Rattle.rules.specs.Instant.{at-b, at-e, at-f, at-g, new-at, taken, processor-task}
 use Rattle.guarantees.specs.History.{Event, Comes, Finishes, Completes, Ends, Takes, Begins, Call, history, happens, ends, takes, begins}
 use Rattle.guarantees.specs.Reading.{intervals}
 use Rattle.guarantees.specs.Claim.{executes, upto}
@@ -70,7 +70,7 @@ module _ (present : ℕ) where
   known-begins t (Between next outgoing) (Between x y) ys h k = k
   known-begins t (Between next outgoing) (Within j) ys h k = (known-processor (j .processor) (h .1), k)
 
-  known-happens : (d : Dispatcher) (t set : ℕ) (ys : List Event) → set-known present set → phase-known present (at-g d t set .phase) → AllKnown ys → AllKnown (happens d t set ++ ys)
+  known-happens : (d : State) (t set : ℕ) (ys : List Event) → set-known present set → phase-known present (at-g d t set .phase) → AllKnown ys → AllKnown (happens d t set ++ ys)
   unfolding AllKnown tail-of
   known-happens d t set ys f g h =
       let x : List Event = begins t (at-f d t set .state .phase) (at-g d t set .phase) in
@@ -87,7 +87,7 @@ module _ (present : ℕ) where
 -- ---- along the calls
 
 module _ (table : Table) (marks : ℕ) (fair : Fair table marks) where
-  pub all-known : (d : Dispatcher) (cs : List Call) → Good table marks fair d → AllKnown (table .present) (history d cs)
+  pub all-known : (d : State) (cs : List Call) → Good table marks fair d → AllKnown (table .present) (history d cs)
   all-known d cs =
       walk (λ d h. Good table marks fair d → AllKnown (table .present) h)
       (λ d g. unfold AllKnown in tt)

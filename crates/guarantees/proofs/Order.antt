@@ -1,5 +1,5 @@
 -- The order, along a history: the claim on each release, from what the states say of the intervals to come (Waiting).
-use Rattle.guarantees.specs.Types.{_≡_, refl, sym, ap, _∙_, subst, Bool, true, false, cond, false≢true, List, [], _∷_, _++_, append-assoc, _↔_, ℕ, zero, suc, _≤_, _<_, Table, MaybeTask, NoTask, Task, CopyIn, Unchosen, NoneChosen, Copying, Loaded, Cancelled, Interval, Next, Outgoing, Phase, Between, Within, Dispatcher, Stage}
+use Rattle.guarantees.specs.Types.{_≡_, refl, sym, ap, _∙_, subst, Bool, true, false, cond, false≢true, List, [], _∷_, _++_, append-assoc, _↔_, ℕ, zero, suc, _≤_, _<_, Table, MaybeTask, NoTask, Task, CopyIn, Unchosen, NoneChosen, Copying, Loaded, Cancelled, Interval, Next, Outgoing, Phase, Between, Within, State, Stage}
 use native.Mathlib.Omega.{arith}
 use native.Mathlib.Nat.{not-suc-le-zero, le-of-suc-le-suc}
 use borrow.Author.Tests.{ltb-false}
@@ -10,9 +10,9 @@ use Rattle.sets.specs.Laws.{by-test, clash, union-right, intersection-in, inser
 use Rattle.guarantees.proofs.Highest.{Best}
 use Rattle.guarantees.proofs.Walk.{walk}
 use Rattle.guarantees.specs.History.{history, Event, Comes, Takes, Begins, Completes, Finishes, Ends, Call, happens, finishes, finishes-in, completes, ends, takes, begins}
-use Rattle.dispatcher.specs.Instant.{step-a, step-b, step-c, step-d, step-e, step-g, close, close-stage, over, with-candidates, cancel, cancel-by, choose, begin, begin-processor, wanted, taken, ended, processor-task, copyin-at, at-a, at-b, at-e, at-f, at-g, new-at}
-use Rattle.dispatcher.specs.State.{at-clock}
-use Rattle.dispatcher.specs.Order.{highest-of, outranks}
+use Rattle.rules.specs.Instant.{step-a, step-b, step-c, step-d, step-e, step-g, close, close-stage, over, with-candidates, cancel, cancel-by, choose, begin, begin-processor, wanted, taken, ended, processor-task, copyin-at, at-a, at-b, at-e, at-f, at-g, new-at}
+use Rattle.rules.specs.With.{at-clock}
+use Rattle.rules.specs.Order.{highest-of, outranks}
 use Rattle.guarantees.specs.Reading.{Situation, NoneOpen, Open, situation, after-event, intervals}
 use Rattle.guarantees.specs.Claim.{executes, upto, met, Lower, LowerFinished}
 use Rattle.guarantees.proofs.Frames.{table-b, marked-b, table-g}
@@ -38,45 +38,45 @@ abbrev Bare : Phase → Type 0
 Bare (Between next outgoing) = ⊥
 Bare (Within i) = finished-of (i .copyin) ≡ NoTask
 
-candidates-bare : (d : Dispatcher) (new : ℕ) (p : Phase) → Bare p → Bare (with-candidates d new p)
+candidates-bare : (d : State) (new : ℕ) (p : Phase) → Bare p → Bare (with-candidates d new p)
 unfolding with-candidates
 candidates-bare d new (Between next outgoing) h = h
 candidates-bare d new (Within i) h = h
 
 -- ---- the situation, step by step
 
-c-situation : (d : Dispatcher) (new : ℕ) (p : Phase) → situation-of (with-candidates d new p) ≡ situation-of p
+c-situation : (d : State) (new : ℕ) (p : Phase) → situation-of (with-candidates d new p) ≡ situation-of p
 unfolding with-candidates
 c-situation d new (Between next outgoing) = refl
 c-situation d new (Within i) = refl
 
-d-situation : (d : Dispatcher) (new : ℕ) → situation-of (step-d d new (d .phase) .phase) ≡ situation-of (d .phase)
+d-situation : (d : State) (new : ℕ) → situation-of (step-d d new (d .phase) .phase) ≡ situation-of (d .phase)
 unfolding cancel
 d-situation d new = d-cases (λ x. situation-of (x .phase) ≡ situation-of (d .phase)) d new refl (λ i n u e s b. rw (e, s))
 
-choose-situation : (d : Dispatcher) (t : ℕ) (i : Interval) (q : MaybeTask) → situation-of (choose d t i q .phase) ≡ Open (processor-task (i .processor)) NoTask
+choose-situation : (d : State) (t : ℕ) (i : Interval) (q : MaybeTask) → situation-of (choose d t i q .phase) ≡ Open (processor-task (i .processor)) NoTask
 unfolding choose
 choose-situation d t i NoTask = refl
 choose-situation d t i (Task q) = refl
 
-e-situation : (d : Dispatcher) (t : ℕ) → situation-of (step-e d t (d .phase) .phase) ≡ situation-of (d .phase)
+e-situation : (d : State) (t : ℕ) → situation-of (step-e d t (d .phase) .phase) ≡ situation-of (d .phase)
 e-situation d t = e-cases (λ x. situation-of (x .phase) ≡ situation-of (d .phase)) d t refl (λ i e s u. choose-situation d t i (highest-of d (d .jobs .ready)) ∙ rw (e, s))
 
-situation-e : (d : Dispatcher) (t set : ℕ) → situation-of (at-e d t set .phase) ≡ situation-of (at-b d t .state .phase)
+situation-e : (d : State) (t set : ℕ) → situation-of (at-e d t set .phase) ≡ situation-of (at-b d t .state .phase)
 unfolding at-e step-c
 situation-e d t set =
-    let b : Dispatcher = at-b d t .state in
+    let b : State = at-b d t .state in
     let new : ℕ = new-at d t set in
-    let c : Dispatcher = step-c b t new in
-    let x : Dispatcher = step-d c new (c .phase) in
+    let c : State = step-c b t new in
+    let x : State = step-d c new (c .phase) in
     e-situation x t ∙ d-situation c new ∙ c-situation b new (b .phase)
 
 -- an interval that has just begun
-begin-situation : (f : Dispatcher) (t new : ℕ) (next : Next) (outgoing : Outgoing) →
-    let b : Dispatcher = begin f t new next outgoing in
+begin-situation : (f : State) (t new : ℕ) (next : Next) (outgoing : Outgoing) →
+    let b : State = begin f t new next outgoing in
     situation-of (step-e b t (b .phase) .phase) ≡ Open (processor-task (begin-processor (f .table) t next)) NoTask
 unfolding begin
-begin-situation f t new next outgoing = let b : Dispatcher = begin f t new next outgoing in e-situation b t
+begin-situation f t new next outgoing = let b : State = begin f t new next outgoing in e-situation b t
 
 module _ (pr : List ℕ) where
   -- the claim on a release of task n, marked or not, where rs are the intervals that begin after it
@@ -177,13 +177,13 @@ module _ (pr : List ℕ) where
 
     module _ (small : n < 32) where
       -- a marked release, where the engine had finished no copy-in
-      not-outranked : (d : Dispatcher) (new c : ℕ) (q : MaybeTask) → member n new ≡ true → member n (d .marked) ≡ true
+      not-outranked : (d : State) (new c : ℕ) (q : MaybeTask) → member n new ≡ true → member n (d .marked) ≡ true
           → Best (d .table .priority) (intersection new (d .marked)) q → outranks d c q ≡ false → getD (d .table .priority) c 0 ≤ getD (d .table .priority) n 0
       not-outranked d new c NoTask h m b e = clash (member n (intersection new (d .marked))) (intersection-in new (d .marked) n small h m) (b n small)
       not-outranked d new c (Task q) h m b e =
           omega (arith, b .2 n small (intersection-in new (d .marked) n small h m), ltb-false (getD (d .table .priority) q 0) (getD (d .table .priority) c 0) e)
 
-      d-marked : (d : Dispatcher) (new : ℕ) (i : Interval) (c : CopyIn) → i .copyin ≡ c → d .phase ≡ Within i → d .table .priority ≡ pr → NewIn d new i
+      d-marked : (d : State) (new : ℕ) (i : Interval) (c : CopyIn) → i .copyin ≡ c → d .phase ≡ Within i → d .table .priority ≡ pr → NewIn d new i
           → member n new ≡ true → member n (d .marked) ≡ true → finished-of c ≡ NoTask → Old pr n (cancel-by d new i c)
       unfolding cancel-by cancel
       d-marked d new i c s e t f h m x = go c s x
@@ -207,14 +207,14 @@ module _ (pr : List ℕ) where
           go (Loaded c) s x = absurd (let z : _≡_ {A = ℕ} 0 1 = cc in omega arith)
           go (Cancelled c) s x = stays (rw s (rival (d .jobs .ready) r))
 
-      d-marked-at : (d : Dispatcher) (new : ℕ) (p : Phase) → d .phase ≡ p → d .table .priority ≡ pr → NewAt d new p
+      d-marked-at : (d : State) (new : ℕ) (p : Phase) → d .phase ≡ p → d .table .priority ≡ pr → NewAt d new p
           → member n new ≡ true → member n (d .marked) ≡ true → Bare p → Old pr n (step-d d new p)
       unfolding step-d
       d-marked-at d new (Between next outgoing) e t f h m x = absurd x
       d-marked-at d new (Within i) e t f h m x = d-marked d new i (i .copyin) refl e t f h m x
 
-      module _ (d : Dispatcher) (t set : ℕ) (cs : List Call) (tab : d .table .priority ≡ pr) (taken : member n (new-at d t set) ≡ true) where
-        c : Dispatcher
+      module _ (d : State) (t set : ℕ) (cs : List Call) (tab : d .table .priority ≡ pr) (taken : member n (new-at d t set) ≡ true) where
+        c : State
         c = step-c (at-b d t .state) t (new-at d t set)
 
         tab-c : c .table .priority ≡ pr
@@ -273,7 +273,7 @@ module _ (pr : List ℕ) where
 
   -- ---- along an instant
 
-  kept-finishes : (d : Dispatcher) (t : ℕ) (p : Phase) (ys : List Event) → d .phase ≡ p → Kept (situation-of (step-a d t p .state .phase)) ys → Kept (situation-of p) (finishes-in t p ++ ys)
+  kept-finishes : (d : State) (t : ℕ) (p : Phase) (ys : List Event) → d .phase ≡ p → Kept (situation-of (step-a d t p .state .phase)) ys → Kept (situation-of p) (finishes-in t p ++ ys)
   unfolding step-a ended finishes-in finishes Kept
   kept-finishes d t (Between next outgoing) ys e k = subst (λ (x : Phase). Kept (situation-of x) ys) e k
   kept-finishes d t (Within i) ys e k =
@@ -318,13 +318,13 @@ module _ (pr : List ℕ) where
   unfolding begins Kept
   kept-shut t next outgoing q ys e k = rw e (rw e at k)
 
-  kept-begins : (f : Dispatcher) (t new : ℕ) (p : Phase) (ys : List Event) → f .phase ≡ p → Kept (situation-of (step-g f t new p .phase)) ys
+  kept-begins : (f : State) (t new : ℕ) (p : Phase) (ys : List Event) → f .phase ≡ p → Kept (situation-of (step-g f t new p .phase)) ys
       → Kept (situation-of p) (begins t p (step-g f t new p .phase) ++ ys)
   unfolding step-g begins
   kept-begins f t new (Within i) ys e k = subst (λ (x : Phase). Kept (situation-of x) ys) e k
   kept-begins f t new (Between next outgoing) ys e k = go (wanted next outgoing (f .jobs .ready)) k
     where
-      b : Dispatcher
+      b : State
       b = begin f t new next outgoing
 
       go : (w : Bool) → Kept (situation-of (cond w (step-e b t (b .phase)) f .phase)) ys → Kept NoneOpen (begins t (Between next outgoing) (cond w (step-e b t (b .phase)) f .phase) ++ ys)
@@ -338,7 +338,7 @@ module _ (pr : List ℕ) where
       by-takes (λ zs. Kept s zs × (intervals zs ≡ intervals ys)) 32 new marked t
       (λ n l m es k. ((subst (Waits n (member n marked) s) (sym (k .1)) (w n l m), k .0), k .1)) ys (h, refl) .0
 
-  kept-front : (d : Dispatcher) (t : ℕ) (ys : List Event) → Kept (situation-of (at-b d t .state .phase)) ys → Kept (situation-of (d .phase)) (front-of d t ++ ys)
+  kept-front : (d : State) (t : ℕ) (ys : List Event) → Kept (situation-of (at-b d t .state .phase)) ys → Kept (situation-of (d .phase)) (front-of d t ++ ys)
   unfolding front-of at-b at-a Kept
   kept-front d t ys k =
       let a : Stage = at-a d t in
@@ -347,16 +347,16 @@ module _ (pr : List ℕ) where
       (kept-finishes (at-clock d t) t (d .phase) (completes (a .done) ++ (e ++ ys)) refl
       (by-completes (Kept (situation-of (a .state .phase))) (λ n t es k. k) (a .done) (e ++ ys) (kept-ends a t (a .state .phase) ys refl k)))
 
-  kept-tail : (d : Dispatcher) (t set : ℕ) (ys : List Event) → Kept (situation-of (at-g d t set .phase)) ys → Kept (situation-of (at-e d t set .phase)) (tail-of d t set ++ ys)
+  kept-tail : (d : State) (t set : ℕ) (ys : List Event) → Kept (situation-of (at-g d t set .phase)) ys → Kept (situation-of (at-e d t set .phase)) (tail-of d t set ++ ys)
   unfolding tail-of at-f at-g
   kept-tail d t set ys k =
-      let e : Dispatcher = at-e d t set in
-      let f : Dispatcher = at-f d t set .state in
+      let e : State = at-e d t set in
+      let f : State = at-f d t set .state in
       rw (append-assoc (ends t (e .phase) (f .phase)) (begins t (f .phase) (at-g d t set .phase)) ys)
       (kept-ends (record { state = e; done = at-b d t .done; closed = at-b d t .closed }) t (e .phase) (begins t (f .phase) (at-g d t set .phase) ++ ys) refl
       (kept-begins f t (held-at d t set) (f .phase) ys refl k))
 
-  kept-instant : (d : Dispatcher) (t set : ℕ) (cs : List Call) → d .table .priority ≡ pr
+  kept-instant : (d : State) (t set : ℕ) (cs : List Call) → d .table .priority ≡ pr
       → Kept (situation-of (at-g d t set .phase)) (history (at-g d t set) cs) → Kept (situation-of (d .phase)) (happens d t set ++ history (at-g d t set) cs)
   kept-instant d t set cs p k =
       let h : List Event = history (at-g d t set) cs in
@@ -366,7 +366,7 @@ module _ (pr : List ℕ) where
       (λ n l m. released n l d t set cs p m (at-b d t .state .phase) refl)
       (subst (λ (s : Situation). Kept s (tail-of d t set ++ h)) (situation-e d t set) (kept-tail d t set h k))))
 
-  pub kept : (d : Dispatcher) (cs : List Call) → d .table .priority ≡ pr → Kept (situation-of (d .phase)) (history d cs)
+  pub kept : (d : State) (cs : List Call) → d .table .priority ≡ pr → Kept (situation-of (d .phase)) (history d cs)
   unfolding Kept
   kept d cs =
       walk (λ d h. d .table .priority ≡ pr → Kept (situation-of (d .phase)) h)

@@ -1,14 +1,14 @@
 -- The pending jobs, by the history: a job is pending from its release until its completion, and the state's set says the same.
-use Rattle.guarantees.specs.Types.{_≡_, refl, sym, ap, _∙_, subst, Bool, true, false, cond, not, _&&_, _||_, true≢false, List, [], _∷_, _++_, append-assoc, ℕ, zero, suc, _≤_, _<_, MaybeTask, NoTask, Task, Interval, Phase, Between, Within, Dispatcher, Done, NoJob, Job, Stage, Tick}
+use Rattle.guarantees.specs.Types.{_≡_, refl, sym, ap, _∙_, subst, Bool, true, false, cond, not, _&&_, _||_, true≢false, List, [], _∷_, _++_, append-assoc, ℕ, zero, suc, _≤_, _<_, MaybeTask, NoTask, Task, Interval, Phase, Between, Within, State, Done, NoJob, Job, Stage, Tick}
 use native.Mathlib.Omega.{arith}
 use native.Mathlib.Nat.{not-suc-le-zero}
 use borrow.Author.Tests.{eqb-true, eqb-false, eq-eqb, ne-eqb}
 use lib.Dec.{eqb}
 use Rattle.sets.specs.Sets.{member, union}
 use Rattle.sets.specs.Laws.{by-test, united, removed}
-use Rattle.dispatcher.specs.State.{at-clock}
-use Rattle.dispatcher.specs.Order.{highest-of}
-use Rattle.dispatcher.specs.Instant.{step-a, step-b, step-c, step-d, step-e, step-g, close, cancel, choose, begin, without-done, after-done, at-a, at-b, at-e, at-f, at-g, new-at}
+use Rattle.rules.specs.With.{at-clock}
+use Rattle.rules.specs.Order.{highest-of}
+use Rattle.rules.specs.Instant.{step-a, step-b, step-c, step-d, step-e, step-g, close, cancel, choose, begin, without-done, after-done, at-a, at-b, at-e, at-f, at-g, new-at}
 use Rattle.guarantees.specs.History.{Event, Comes, Finishes, Completes, Ends, Takes, Begins, Call, history, after-calls, happens, finishes-in, completes, ends, takes, begins}
 use Rattle.guarantees.specs.Reading.{completion}
 use Rattle.guarantees.proofs.Walk.{walk-to}
@@ -55,7 +55,7 @@ module _ (n : ℕ) where
   abbrev As : Bool → List Event → List Event → Type 0
   As b ys zs = pending-in n b zs ≡ pending-in n b ys
 
-  tail-pending : (d : Dispatcher) (t set : ℕ) (b : Bool) (ys : List Event) → pending-in n b (tail-of d t set ++ ys) ≡ pending-in n b ys
+  tail-pending : (d : State) (t set : ℕ) (b : Bool) (ys : List Event) → pending-in n b (tail-of d t set ++ ys) ≡ pending-in n b ys
   unfolding tail-of pending-in
   tail-pending d t set b ys =
       let x : List Event = begins t (at-f d t set .state .phase) (at-g d t set .phase) in
@@ -104,7 +104,7 @@ module _ (n : ℕ) where
         (λ e. takes-this k new marked t b (cond (member k new) (Takes k t (member k marked) ∷ []) [] ++ ys) (omega (arith, eqb-false k n e))
         ∙ one-other k t (member k marked) (member k new) (b || member n new) ys e)
 
-    happens-pending : (d : Dispatcher) (t set : ℕ) (ys : List Event)
+    happens-pending : (d : State) (t set : ℕ) (ys : List Event)
         → pending-in n (member n (d .jobs .pending)) (happens d t set ++ ys) ≡ pending-in n (member n (union (after-done (d .jobs .pending) (at-a d t .done)) (new-at d t set))) ys
     unfolding front-of
     happens-pending d t set ys =
@@ -138,35 +138,35 @@ b-pending : (s : Stage) (t : ℕ) → step-b s t (s .state .phase) .state .jobs 
 unfolding close
 b-pending s t = b-cases (λ x. x .jobs .pending ≡ s .state .jobs .pending) s t (λ i e o. refl) (λ next outgoing e. refl) (λ i e o. refl)
 
-d-pending : (d : Dispatcher) (new : ℕ) → step-d d new (d .phase) .jobs .pending ≡ d .jobs .pending
+d-pending : (d : State) (new : ℕ) → step-d d new (d .phase) .jobs .pending ≡ d .jobs .pending
 unfolding cancel
 d-pending d new = d-cases (λ x. x .jobs .pending ≡ d .jobs .pending) d new refl (λ i n u e s b. refl)
 
-choose-pending : (d : Dispatcher) (t : ℕ) (i : Interval) (q : MaybeTask) → choose d t i q .jobs .pending ≡ d .jobs .pending
+choose-pending : (d : State) (t : ℕ) (i : Interval) (q : MaybeTask) → choose d t i q .jobs .pending ≡ d .jobs .pending
 unfolding choose
 choose-pending d t i NoTask = refl
 choose-pending d t i (Task q) = refl
 
-e-pending : (d : Dispatcher) (t : ℕ) → step-e d t (d .phase) .jobs .pending ≡ d .jobs .pending
+e-pending : (d : State) (t : ℕ) → step-e d t (d .phase) .jobs .pending ≡ d .jobs .pending
 e-pending d t = e-cases (λ x. x .jobs .pending ≡ d .jobs .pending) d t refl (λ i e s u. choose-pending d t i (highest-of d (d .jobs .ready)))
 
-g-pending : (d : Dispatcher) (t new : ℕ) → step-g d t new (d .phase) .jobs .pending ≡ d .jobs .pending
+g-pending : (d : State) (t new : ℕ) → step-g d t new (d .phase) .jobs .pending ≡ d .jobs .pending
 unfolding begin
 g-pending d t new =
     g-cases (λ x. x .jobs .pending ≡ d .jobs .pending) d t new (λ i e. refl) (λ next outgoing e w. refl) (λ next outgoing e w. e-pending (begin d t new next outgoing) t)
 
-a-pending : (d : Dispatcher) (t : ℕ) (p : Phase) → step-a d t p .state .jobs .pending ≡ after-done (d .jobs .pending) (step-a d t p .done)
+a-pending : (d : State) (t : ℕ) (p : Phase) → step-a d t p .state .jobs .pending ≡ after-done (d .jobs .pending) (step-a d t p .done)
 unfolding step-a without-done
 a-pending d t (Between next outgoing) = refl
 a-pending d t (Within i) = refl
 
-pending-g : (d : Dispatcher) (t set : ℕ) → at-g d t set .jobs .pending ≡ union (after-done (d .jobs .pending) (at-a d t .done)) (new-at d t set)
+pending-g : (d : State) (t set : ℕ) → at-g d t set .jobs .pending ≡ union (after-done (d .jobs .pending) (at-a d t .done)) (new-at d t set)
 unfolding at-g at-f at-e at-b at-a step-c
 pending-g d t set =
-    let b : Dispatcher = at-b d t .state in
+    let b : State = at-b d t .state in
     let new : ℕ = new-at d t set in
-    let c : Dispatcher = step-c b t new in
-    let x : Dispatcher = step-d c new (c .phase) in
+    let c : State = step-c b t new in
+    let x : State = step-d c new (c .phase) in
     g-pending (at-f d t set .state) t (held-at d t set)
     ∙ b-pending (record { state = at-e d t set; done = at-b d t .done; closed = at-b d t .closed }) t
     ∙ e-pending x t ∙ d-pending c new
@@ -174,7 +174,7 @@ pending-g d t set =
 
 -- ---- along the calls
 
-pub pending-same : (n : ℕ) → n < 32 → (d : Dispatcher) (cs : List Call)
+pub pending-same : (n : ℕ) → n < 32 → (d : State) (cs : List Call)
     → pending-in n (member n (d .jobs .pending)) (history d cs) ≡ member n (after-calls d cs .jobs .pending)
 pending-same n small d cs =
     walk-to (λ d h g. pending-in n (member n (d .jobs .pending)) h ≡ member n (g .jobs .pending))

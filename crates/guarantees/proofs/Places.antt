@@ -1,6 +1,6 @@
 -- Where the pending jobs are: a job that is pending is ready or in one place of one unit, and in no second one; so that a task's bit of the
 -- pending set is the sum of its bits elsewhere. And every task that a state names is one of the table's.
-use Rattle.guarantees.specs.Types.{_≡_, refl, sym, ap, _∙_, subst, Bool, true, false, cond, not, _&&_, _||_, true≢false, false≢true, List, ⊎-elim, ℕ, _+_, _^_, _≤_, _<_, Table, Jobs, MaybeTask, NoTask, Task, Processor, Idle, CopyingIn, Executing, Finished, CopyOut, NoCopyOut, CopyingOut, CopiedOut, CopyIn, Unchosen, NoneChosen, Copying, Loaded, Cancelled, Interval, Next, NoneNext, LoadedNext, PromotedNext, Outgoing, NoneOutgoing, AwaitsCopyOut, Phase, Between, Within, Dispatcher, Done, Stage}
+use Rattle.guarantees.specs.Types.{_≡_, refl, sym, ap, _∙_, subst, Bool, true, false, cond, not, _&&_, _||_, true≢false, false≢true, List, ⊎-elim, ℕ, _+_, _^_, _≤_, _<_, Table, Jobs, MaybeTask, NoTask, Task, Processor, Idle, CopyingIn, Executing, Finished, CopyOut, NoCopyOut, CopyingOut, CopiedOut, CopyIn, Unchosen, NoneChosen, Copying, Loaded, Cancelled, Interval, Next, NoneNext, LoadedNext, PromotedNext, Outgoing, NoneOutgoing, AwaitsCopyOut, Phase, Between, Within, State, Done, Stage}
 use native.Mathlib.Omega.{arith}
 use borrow.Author.Tests.{eqb-true, not-true}
 use lib.Dec.{eqb}
@@ -8,9 +8,9 @@ use Rattle.sets.specs.Sets.{member, intersection, remove}
 use Rattle.sets.specs.Laws.{left, bit, united, inserted, removed, same-task, member-task, difference-right, size-union-apart, remove-out, union-out, insert-out, by-test, right, intersection-right, difference-left, size, size-remove, union-small, remove-small}
 use Rattle.guarantees.proofs.Highest.{Best}
 use Rattle.guarantees.specs.Reading.{total, is-completion}
-use Rattle.dispatcher.specs.Instant.{step-a, step-b, step-c, step-d, step-e, step-g, promoted, next-of, without-promoted, close, close-stage, over, with-candidates, cancel, choose, begin, begin-processor, begin-copyout, copying-out, wanted, taken, completed, without-done, ended, copyin-at, copyout-at, processor-at, awaiting-copyout, resting, after-done, settled, at-a, at-b, at-e, at-f, at-g, new-at}
-use Rattle.dispatcher.specs.State.{at-clock}
-use Rattle.dispatcher.specs.Order.{highest-of}
+use Rattle.rules.specs.Instant.{step-a, step-b, step-c, step-d, step-e, step-g, promoted, next-of, without-promoted, close, close-stage, over, with-candidates, cancel, choose, begin, begin-processor, begin-copyout, copying-out, wanted, taken, completed, without-done, ended, copyin-at, copyout-at, processor-at, awaiting-copyout, resting, after-done, settled, at-a, at-b, at-e, at-f, at-g, new-at}
+use Rattle.rules.specs.With.{at-clock}
+use Rattle.rules.specs.Order.{highest-of}
 use Rattle.guarantees.specs.History.{completes}
 use Rattle.guarantees.proofs.Steps.{Sub, best-of, settles}
 use Rattle.guarantees.proofs.Cases.{held-at, d-cases, e-cases, copyin-cases, processor-cases}
@@ -59,7 +59,7 @@ no-copyout i o =
 
 module _ (present : ℕ) (tasks : present < 2 ^ 32) where
   -- a pending job is ready or in one stage of one unit, and in no second one
-  pub record Parted (d : Dispatcher) (p : Phase) : Type 0 where
+  pub record Parted (d : State) (p : Phase) : Type 0 where
     pub few : d .jobs .pending < 2 ^ 32
     pub marks : Sub (d .marked) present
     pub pending : Sub (d .jobs .pending) present
@@ -68,11 +68,11 @@ module _ (present : ℕ) (tasks : present < 2 ^ 32) where
     pub parts : (k : ℕ) → k < 32 → bit (member k (d .jobs .pending)) ≡ bit (member k (d .jobs .ready)) + stage k p
 
   -- from a dispatcher in a phase to another, with c jobs completed and n taken
-  pub record Moves (d : Dispatcher) (p : Phase) (d′ : Dispatcher) (p′ : Phase) (c n : ℕ) : Type 0 where
+  pub record Moves (d : State) (p : Phase) (d′ : State) (p′ : Phase) (c n : ℕ) : Type 0 where
     pub parted : Parted d′ p′
     pub sizes : size (d′ .jobs .pending) + c ≡ size (d .jobs .pending) + n
 
-  back : (d : Dispatcher) (p : Phase) → d .phase ≡ p → Parted d p → Moves d p d (d .phase) 0 0
+  back : (d : State) (p : Phase) → d .phase ≡ p → Parted d p → Moves d p d (d .phase) 0 0
   back d p e h = subst (λ (x : Phase). Moves d p d x 0 0) (sym e) (record { parted = h; sizes = refl })
 
   -- a
@@ -128,7 +128,7 @@ module _ (present : ℕ) (tasks : present < 2 ^ 32) where
       }))
       (λ e. rw e (record { few = f; pending = λ k l m. m; known = h; parts = λ k l r e. e; sizes = omega arith }))
 
-  pub a-moves : (d : Dispatcher) (t : ℕ) (p : Phase) → d .phase ≡ p → Parted d p
+  pub a-moves : (d : State) (t : ℕ) (p : Phase) → d .phase ≡ p → Parted d p
       → Moves d p (step-a d t p .state) (step-a d t p .state .phase) (total is-completion (completes (step-a d t p .done))) 0
   unfolding step-a without-done ended
   a-moves d t (Between next outgoing) e h = unfold completes total in back d (Between next outgoing) e h
@@ -181,12 +181,12 @@ module _ (present : ℕ) (tasks : present < 2 ^ 32) where
   chosen-bit : (ready q k : ℕ) → k < 32 → member q ready ≡ true → bit (member k ready) ≡ bit (member k (remove q ready)) + bit (eqb k q)
   chosen-bit ready q k l h = rw (removed q ready k l) (choose-bit (eqb k q) (member k ready) (λ e. ap (λ (x : ℕ). member x ready) (eqb-true k q e) ∙ h))
 
-  pub record HandedOn (d : Dispatcher) (c : CopyIn) (ready : ℕ) (next : Next) : Type 0 where
+  pub record HandedOn (d : State) (c : CopyIn) (ready : ℕ) (next : Next) : Type 0 where
     pub ready-known : Sub ready present
     pub known : next-known present next
     pub parts : (k : ℕ) → k < 32 → bit (member k (d .jobs .ready)) + copyin-bit k c ≡ bit (member k ready) + next-bit k next
 
-  promote : (d : Dispatcher) (pr : List ℕ) (s : ℕ) (q : MaybeTask) → Sub (d .jobs .ready) present → Best pr s q → Sub s (d .jobs .ready)
+  promote : (d : State) (pr : List ℕ) (s : ℕ) (q : MaybeTask) → Sub (d .jobs .ready) present → Best pr s q → Sub s (d .jobs .ready)
       → HandedOn d NoneChosen (without-promoted (d .jobs .ready) q) (next-of NoneChosen q)
   promote d pr s NoTask h b f = record { ready-known = h; known = tt; parts = λ k l. refl }
   promote d pr s (Task q) h b f =
@@ -201,7 +201,7 @@ module _ (present : ℕ) (tasks : present < 2 ^ 32) where
   next-same c NoTask = refl
   next-same c (Task q) = refl
 
-  b-handed-on : (d : Dispatcher) (i : Interval) (c : CopyIn) → settled c ≡ true → Sub (d .jobs .ready) present → copyin-known present c
+  b-handed-on : (d : State) (i : Interval) (c : CopyIn) → settled c ≡ true → Sub (d .jobs .ready) present → copyin-known present c
       → HandedOn d c (without-promoted (d .jobs .ready) (promoted d i c)) (next-of c (promoted d i c))
   unfolding promoted
   b-handed-on d i Unchosen s h n = absurd (false≢true s)
@@ -241,12 +241,12 @@ module _ (present : ℕ) (tasks : present < 2 ^ 32) where
           }
 
   -- c
-  c-stage : (d : Dispatcher) (new k : ℕ) (p : Phase) → stage k (with-candidates d new p) ≡ stage k p
+  c-stage : (d : State) (new k : ℕ) (p : Phase) → stage k (with-candidates d new p) ≡ stage k p
   unfolding with-candidates
   c-stage d new k (Between next outgoing) = refl
   c-stage d new k (Within i) = refl
 
-  c-known : (d : Dispatcher) (new : ℕ) (p : Phase) → Sub (d .marked) present → phase-known present p → phase-known present (with-candidates d new p)
+  c-known : (d : State) (new : ℕ) (p : Phase) → Sub (d .marked) present → phase-known present p → phase-known present (with-candidates d new p)
   unfolding with-candidates
   c-known d new (Between next outgoing) m h = h
   c-known d new (Within i) m h =
@@ -259,7 +259,7 @@ module _ (present : ℕ) (tasks : present < 2 ^ 32) where
   release-bit false true n s h f = absurd (omega arith)
   release-bit false false n s h f = omega arith
 
-  pub c-moves : (d : Dispatcher) (t new : ℕ) → Parted d (d .phase) → Sub new present → ((k : ℕ) → member k new ≡ true → member k (d .jobs .pending) ≡ false)
+  pub c-moves : (d : State) (t new : ℕ) → Parted d (d .phase) → Sub new present → ((k : ℕ) → member k new ≡ true → member k (d .jobs .pending) ≡ false)
       → Moves d (d .phase) (step-c d t new) (step-c d t new .phase) 0 (size new)
   unfolding step-c
   c-moves d t new h n f = record {
@@ -286,7 +286,7 @@ module _ (present : ℕ) (tasks : present < 2 ^ 32) where
   cancel-bit true p false s h = omega arith
   cancel-bit false p r s h = omega arith
 
-  d-cancel : (d : Dispatcher) (i : Interval) (c until : ℕ) → i .copyin ≡ Copying c until → Parted d (Within i) → Moves d (Within i) (cancel d i c true) (cancel d i c true .phase) 0 0
+  d-cancel : (d : State) (i : Interval) (c until : ℕ) → i .copyin ≡ Copying c until → Parted d (Within i) → Moves d (Within i) (cancel d i c true) (cancel d i c true .phase) 0 0
   unfolding cancel
   d-cancel d i c until s h =
       let n : Known present c = subst (copyin-known present) s (h .known .0) in
@@ -306,13 +306,13 @@ module _ (present : ℕ) (tasks : present < 2 ^ 32) where
         sizes = refl;
       }
 
-  pub d-moves : (d : Dispatcher) (new : ℕ) → Parted d (d .phase) → Moves d (d .phase) (step-d d new (d .phase)) (step-d d new (d .phase) .phase) 0 0
+  pub d-moves : (d : State) (new : ℕ) → Parted d (d .phase) → Moves d (d .phase) (step-d d new (d .phase)) (step-d d new (d .phase) .phase) 0 0
   d-moves d new h =
       d-cases (λ x. Moves d (d .phase) x (x .phase) 0 0) d new (record { parted = h; sizes = refl })
       (λ i c u e s b. subst (λ (p : Phase). Moves d p (cancel d i c true) (cancel d i c true .phase) 0 0) (sym e) (d-cancel d i c u s (subst (Parted d) e h)))
 
   -- e
-  choose-moves : (d : Dispatcher) (t : ℕ) (i : Interval) (q : MaybeTask) → i .copyin ≡ Unchosen → Parted d (Within i) → Best (d .table .priority) (d .jobs .ready) q
+  choose-moves : (d : State) (t : ℕ) (i : Interval) (q : MaybeTask) → i .copyin ≡ Unchosen → Parted d (Within i) → Best (d .table .priority) (d .jobs .ready) q
       → Moves d (Within i) (choose d t i q) (choose d t i q .phase) 0 0
   unfolding choose
   choose-moves d t i NoTask s h b = record {
@@ -341,7 +341,7 @@ module _ (present : ℕ) (tasks : present < 2 ^ 32) where
     sizes = refl;
   }
 
-  e-moves : (d : Dispatcher) (t : ℕ) → Parted d (d .phase) → Moves d (d .phase) (step-e d t (d .phase)) (step-e d t (d .phase) .phase) 0 0
+  e-moves : (d : State) (t : ℕ) → Parted d (d .phase) → Moves d (d .phase) (step-e d t (d .phase)) (step-e d t (d .phase) .phase) 0 0
   e-moves d t h =
       let q : MaybeTask = highest-of d (d .jobs .ready) in
       e-cases (λ x. Moves d (d .phase) x (x .phase) 0 0) d t (record { parted = h; sizes = refl })
@@ -366,12 +366,12 @@ module _ (present : ℕ) (tasks : present < 2 ^ 32) where
   g-copyout-known table t NoneOutgoing h = h
   g-copyout-known table t (AwaitsCopyOut n start) h = h
 
-  pub g-moves : (f : Dispatcher) (t new : ℕ) (p : Phase) → f .phase ≡ p → Parted f p → Moves f p (step-g f t new p) (step-g f t new p .phase) 0 0
+  pub g-moves : (f : State) (t new : ℕ) (p : Phase) → f .phase ≡ p → Parted f p → Moves f p (step-g f t new p) (step-g f t new p .phase) 0 0
   unfolding step-g begin
   g-moves f t new (Within i) e h = back f (Within i) e h
   g-moves f t new (Between next outgoing) e h = go (wanted next outgoing (f .jobs .ready))
     where
-      b : Dispatcher
+      b : State
       b = begin f t new next outgoing
 
       b-parted : Parted b (b .phase)
@@ -393,7 +393,7 @@ module _ (present : ℕ) (tasks : present < 2 ^ 32) where
       go false = back f (Between next outgoing) e h
 
   -- ---- the steps together
-  pub to-b : (d : Dispatcher) (t : ℕ) → Parted d (d .phase) → Moves d (d .phase) (at-b d t .state) (at-b d t .state .phase) (total is-completion (completes (at-a d t .done))) 0
+  pub to-b : (d : State) (t : ℕ) → Parted d (d .phase) → Moves d (d .phase) (at-b d t .state) (at-b d t .state .phase) (total is-completion (completes (at-a d t .done))) 0
   unfolding at-b at-a
   to-b d t h =
       let a : Stage = at-a d t in
@@ -402,33 +402,33 @@ module _ (present : ℕ) (tasks : present < 2 ^ 32) where
       let y : Moves (a .state) (a .state .phase) (at-b d t .state) (at-b d t .state .phase) 0 0 = b-moves a t (a .state .phase) refl (x .parted) in
       record { parted = y .parted; sizes = omega (arith, x .sizes, y .sizes) }
 
-  pub to-e : (d : Dispatcher) (t set : ℕ) → Sub set present → Parted (at-b d t .state) (at-b d t .state .phase)
+  pub to-e : (d : State) (t set : ℕ) → Sub set present → Parted (at-b d t .state) (at-b d t .state .phase)
       → Moves (at-b d t .state) (at-b d t .state .phase) (at-e d t set) (at-e d t set .phase) 0 (size (new-at d t set))
   unfolding at-e new-at taken
   to-e d t set f h =
-      let b : Dispatcher = at-b d t .state in
+      let b : State = at-b d t .state in
       let new : ℕ = new-at d t set in
-      let c : Dispatcher = step-c b t new in
-      let x : Dispatcher = step-d c new (c .phase) in
-      let e : Dispatcher = step-e x t (x .phase) in
+      let c : State = step-c b t new in
+      let x : State = step-d c new (c .phase) in
+      let e : State = step-e x t (x .phase) in
       let l1 : Moves b (b .phase) c (c .phase) 0 (size new) =
       c-moves b t new h (λ k l m. f k l (difference-left set (b .jobs .pending) k m)) (λ k m. difference-right set (b .jobs .pending) k m) in
       let l2 : Moves c (c .phase) x (x .phase) 0 0 = d-moves c new (l1 .parted) in
       let l3 : Moves x (x .phase) e (e .phase) 0 0 = e-moves x t (l2 .parted) in
       record { parted = l3 .parted; sizes = omega (arith, l1 .sizes, l2 .sizes, l3 .sizes) }
 
-  pub to-g : (d : Dispatcher) (t set : ℕ) → Parted (at-e d t set) (at-e d t set .phase)
+  pub to-g : (d : State) (t set : ℕ) → Parted (at-e d t set) (at-e d t set .phase)
       → Moves (at-e d t set) (at-e d t set .phase) (at-g d t set) (at-g d t set .phase) 0 0
   unfolding at-f at-g
   to-g d t set h =
-      let e : Dispatcher = at-e d t set in
-      let f : Dispatcher = at-f d t set .state in
-      let g : Dispatcher = at-g d t set in
+      let e : State = at-e d t set in
+      let f : State = at-f d t set .state in
+      let g : State = at-g d t set in
       let x : Moves e (e .phase) f (f .phase) 0 0 = b-moves (record { state = e; done = at-b d t .done; closed = at-b d t .closed }) t (e .phase) refl h in
       let y : Moves f (f .phase) g (g .phase) 0 0 = g-moves f t (held-at d t set) (f .phase) refl (x .parted) in
       record { parted = y .parted; sizes = omega (arith, x .sizes, y .sizes) }
 
-  pub instant-moves : (d : Dispatcher) (t set : ℕ) → Sub set present → Parted d (d .phase)
+  pub instant-moves : (d : State) (t set : ℕ) → Sub set present → Parted d (d .phase)
       → Moves d (d .phase) (at-g d t set) (at-g d t set .phase) (total is-completion (completes (at-a d t .done))) (size (new-at d t set))
   instant-moves d t set f h =
       let x : Moves d (d .phase) (at-b d t .state) (at-b d t .state .phase) (total is-completion (completes (at-a d t .done))) 0 = to-b d t h in

@@ -1,5 +1,5 @@
 -- The tables that opening serves: they have a task, all priorities are different, and each length is in its range.
-use Rattle.guarantees.specs.Types.{_≡_, refl, sym, ap, _∙_, subst, Bool, true, false, cond, _&&_, _||_, List, _⊎_, inl, inr, ⊎-elim, ℕ, zero, suc, _+_, _^_, _≤_, _<_, Table, Dispatcher, Opening, Refusal, NoRefusal, Alone, AtEntry, Tasks}
+use Rattle.guarantees.specs.Types.{_≡_, refl, sym, ap, _∙_, subst, Bool, true, false, cond, _&&_, _||_, List, _⊎_, inl, inr, ⊎-elim, ℕ, zero, suc, _+_, _^_, _≤_, _<_, Table, State, Opening, Refusal, NoRefusal, Alone, AtEntry, Tasks}
 use Rattle.entries.specs.declared.TaskParameters.{TaskParameters}
 use Rattle.entries.specs.declared.Entry.{Entry}
 use Rattle.entries.specs.declared.Entry.the-variants.{Malformed, TaskEntry, ReleaseEntry}
@@ -13,7 +13,7 @@ use Rattle.sets.specs.Sets.{member, insert}
 use Rattle.sets.specs.Laws.{by-test, below-suc, clash, both, none, insert-same, insert-other, insert-out, insert-small, member-task}
 use Rattle.entries.specs.Entries.{entry-at}
 use Rattle.table.specs.Tasks.{no-table, given, outside, number-refused, mark-or-length-refusal, task-refusal, with-task, with-marked, refused-at, read-to, behind-tasks, tasks-from, tasks-of}
-use Rattle.dispatcher.specs.Calls.{opened, not-opened, opened-behind, opening}
+use Rattle.rules.specs.Calls.{opened, not-opened, opened-behind, opening}
 
 -- ---- tests in a row
 
@@ -246,7 +246,7 @@ pub record Proper (table : Table) (marked : ℕ) : Type 0 where
   pub fair : Fair table marked
 
 -- the state that opening returns has a proper table, and no job
-pub record Opens (d : Dispatcher) : Type 0 where
+pub record Opens (d : State) : Type 0 where
   pub proper : Proper (d .table) (d .marked)
   pub fresh : d ≡ opened (d .table) (d .marked)
 

@@ -1,20 +1,20 @@
 -- What an instant that is served tells: its set is of the table's tasks, its releases come early, and no phase ends before it; and how far the
 -- phases that end at it bring the end nearer.
-use Rattle.guarantees.specs.Types.{_≡_, refl, sym, ap, _∙_, subst, true, false, not, _&&_, _⊎_, inl, inr, ⊎-elim, ℕ, _+_, _*_, _≤_, min, Table, Clock, Unset, At, Processor, Idle, CopyingIn, Executing, Finished, CopyOut, NoCopyOut, CopyingOut, CopiedOut, CopyIn, Unchosen, NoneChosen, Copying, Loaded, Cancelled, Phase, Between, Within, Dispatcher, Due, Never, Tick, Stage}
+use Rattle.guarantees.specs.Types.{_≡_, refl, sym, ap, _∙_, subst, true, false, not, _&&_, _⊎_, inl, inr, ⊎-elim, ℕ, _+_, _*_, _≤_, min, Table, Clock, Unset, At, Processor, Idle, CopyingIn, Executing, Finished, CopyOut, NoCopyOut, CopyingOut, CopiedOut, CopyIn, Unchosen, NoneChosen, Copying, Loaded, Cancelled, Phase, Between, Within, State, Due, Never, Tick, Stage}
 use native.Mathlib.Omega.{arith}
 use borrow.Author.Tests.{eqb-true, eq-eqb, ltb-false, le-ltb, leb-false, leb-true, not-false}
 use lib.Dec.{eqb, ltb, leb}
 use Rattle.sets.specs.Sets.{member, difference}
 use Rattle.sets.specs.Laws.{bit, difference-in, none, by-test, clash, size}
-use Rattle.dispatcher.specs.Calls.{unknown, not-after, before-now, refusal}
-use Rattle.dispatcher.specs.Instant.{step-a, without-done, ended, copyin-at, copyout-at, processor-at, due, sooner, processor-due, copyout-due, copyin-due, at-a, at-b, at-e, at-g, new-at}
-use Rattle.dispatcher.specs.State.{at-clock}
+use Rattle.rules.specs.Calls.{unknown, not-after, before-now, refusal}
+use Rattle.rules.specs.Instant.{step-a, without-done, ended, copyin-at, copyout-at, processor-at, due, sooner, processor-due, copyout-due, copyin-due, at-a, at-b, at-e, at-g, new-at}
+use Rattle.rules.specs.With.{at-clock}
 use Rattle.guarantees.proofs.Count.{Sound, Leads, weight, rank, phase-debt, a-leads, b-leads, a-weight, a-debt, a-processor, copyin-rank, copyout-rank, processor-rank}
 use Rattle.guarantees.proofs.Times.{Times, processor-times, copyout-times, copyin-times, drop, processor-drop, copyout-drop, copyin-drop}
 use Rattle.guarantees.proofs.Proper.{none-passed}
 use Rattle.guarantees.proofs.Steps.{Sub}
 use Rattle.guarantees.proofs.Count
-use Rattle.dispatcher.specs.Instant
+use Rattle.rules.specs.Instant
 
 -- ---- the phases that end at t
 
@@ -38,7 +38,7 @@ copyin-sinks t (Copying n until) = by-test (eqb until t) (λ e. rw e (omega arit
 copyin-sinks t (Loaded n) = omega arith
 copyin-sinks t (Cancelled n) = omega arith
 
-a-sinks : (d : Dispatcher) (t : ℕ) (p : Phase) → d .phase ≡ p
+a-sinks : (d : State) (t : ℕ) (p : Phase) → d .phase ≡ p
     → 8 * weight (step-a d t p .state) (step-a d t p .state .phase) + rank (step-a d t p .state .phase) + 8 * phase-debt p + drop t p
     ≤ 8 * weight d p + rank p + 8 * phase-debt (step-a d t p .state .phase)
 unfolding step-a without-done ended
@@ -55,23 +55,23 @@ a-sinks d t (Within i) e =
       copyin-sinks t (i .copyin),
     )
 
-pub instant-sinks : (d : Dispatcher) (t set : ℕ) → Sound d (d .phase) → let g : Dispatcher = at-g d t set in
+pub instant-sinks : (d : State) (t set : ℕ) → Sound d (d .phase) → let g : State = at-g d t set in
     8 * weight g (g .phase) + rank (g .phase) + 8 * phase-debt (d .phase) + drop t (d .phase)
     ≤ 8 * weight d (d .phase) + rank (d .phase) + 8 * phase-debt (g .phase) + 24 * size (new-at d t set)
 instant-sinks d t set h =
-    let b : Dispatcher = at-b d t .state in
-    let e : Dispatcher = at-e d t set in
+    let b : State = at-b d t .state in
+    let e : State = at-e d t set in
     let hb : Sound b (b .phase) = Count.to-b d t h .sound in
     let he : Leads b (b .phase) e (e .phase) 0 (size (new-at d t set)) = Count.to-e d t set hb in
     omega (arith, sinks-b d t h, he .sink, Count.to-g d t set (he .sound) .sink)
   where
-    sinks-b : (d : Dispatcher) (t : ℕ) → Sound d (d .phase) → let b : Dispatcher = at-b d t .state in
+    sinks-b : (d : State) (t : ℕ) → Sound d (d .phase) → let b : State = at-b d t .state in
         8 * weight b (b .phase) + rank (b .phase) + 8 * phase-debt (d .phase) + drop t (d .phase) ≤ 8 * weight d (d .phase) + rank (d .phase) + 8 * phase-debt (b .phase)
     sinks-b d t h =
         unfold at-b at-a in
-        let d0 : Dispatcher = at-clock d t in
+        let d0 : State = at-clock d t in
         let a : Stage = at-a d t in
-        let b : Dispatcher = at-b d t .state in
+        let b : State = at-b d t .state in
         let x : Leads d0 (d .phase) (a .state) (a .state .phase) 0 0 = a-leads d0 t (d .phase) refl (record { few = h .few; paid = h .paid }) in
         let y : Leads (a .state) (a .state .phase) b (b .phase) 0 0 = b-leads a t (a .state .phase) refl (x .sound) in
         omega (arith, a-sinks d0 t (d .phase) refl, y .sink)
@@ -173,7 +173,7 @@ abbrev pub last : Clock → ℕ
 last Unset = 0
 last (At t) = t
 
-pub record Served-at (d : Dispatcher) (t set : ℕ) : Type 0 where
+pub record Served-at (d : State) (t set : ℕ) : Type 0 where
   pub known : Sub set (d .table .present)
   pub early : eqb set 0 ≡ false → t ≤ 1000000000
   pub onward : last (d .clock) ≤ t
@@ -183,7 +183,7 @@ clock-onward : (c : Clock) (t : ℕ) → not-after c t ≡ false → last c ≤ 
 clock-onward Unset t h = omega arith
 clock-onward (At x) t h = omega (arith, leb-false t x h)
 
-pub served-at : (d : Dispatcher) (t set : ℕ) → eqb (refusal d t set) 0 ≡ true → Served-at d t set
+pub served-at : (d : State) (t set : ℕ) → eqb (refusal d t set) 0 ≡ true → Served-at d t set
 unfolding refusal unknown
 served-at d t set h =
     let f : (not (eqb (difference set (d .table .present)) 0) ≡ false) × ((not (eqb set 0) && ltb 1000000000 t) ≡ false) × (not-after (d .clock) t ≡ false) × (before-now (Instant.due (d .phase)) t ≡ false) =

@@ -1,13 +1,13 @@
 -- Small facts on single steps, which several of the proofs use.
-use Rattle.guarantees.specs.Types.{_≡_, refl, sym, ap, subst, true, not, _&&_, ℕ, _<_, Table, MaybeTask, NoTask, Task, Processor, Interval, Phase, Between, Within, Dispatcher}
+use Rattle.guarantees.specs.Types.{_≡_, refl, sym, ap, subst, true, not, _&&_, ℕ, _<_, Table, MaybeTask, NoTask, Task, Processor, Interval, Phase, Between, Within, State}
 use Rattle.sets.specs.Sets.{member, intersection}
 use Rattle.sets.specs.Laws.{right, union-right, intersection-in}
-use Rattle.dispatcher.specs.Order.{highest-of}
-use Rattle.dispatcher.specs.Instant.{processor-at, processor-task, resting, settled, step-c, step-e, over, with-candidates, choose, copying-out}
+use Rattle.rules.specs.Order.{highest-of}
+use Rattle.rules.specs.Instant.{processor-at, processor-task, resting, settled, step-c, step-e, over, with-candidates, choose, copying-out}
 use Rattle.guarantees.proofs.Highest.{Best, best}
 use Rattle.guarantees.proofs.Cases.{processor-cases, e-cases}
 
-pub best-of : (d : Dispatcher) (s : ℕ) → Best (d .table .priority) s (highest-of d s)
+pub best-of : (d : State) (s : ℕ) → Best (d .table .priority) s (highest-of d s)
 best-of d s = best (d .table .priority) s
 
 -- an interval is open, and its processor is this one
@@ -15,12 +15,12 @@ abbrev pub Opened : Processor → Phase → Type 0
 Opened q (Between next outgoing) = ⊥
 Opened q (Within j) = j .processor ≡ q
 
-pub choose-opens : (d : Dispatcher) (t : ℕ) (i : Interval) (q : MaybeTask) → Opened (i .processor) (choose d t i q .phase)
+pub choose-opens : (d : State) (t : ℕ) (i : Interval) (q : MaybeTask) → Opened (i .processor) (choose d t i q .phase)
 unfolding choose
 choose-opens d t i NoTask = refl
 choose-opens d t i (Task q) = refl
 
-pub e-opens : (d : Dispatcher) (t : ℕ) (q : Processor) → Opened q (d .phase) → Opened q (step-e d t (d .phase) .phase)
+pub e-opens : (d : State) (t : ℕ) (q : Processor) → Opened q (d .phase) → Opened q (step-e d t (d .phase) .phase)
 e-opens d t q h =
     e-cases (λ x. Opened q (x .phase)) d t h
     (λ i e s u. subst (λ (z : Processor). Opened z (choose d t i (highest-of d (d .jobs .ready)) .phase)) (subst (Opened q) e h) (choose-opens d t i (highest-of d (d .jobs .ready))))
@@ -35,15 +35,15 @@ settles i o =
     (right (resting (i .processor)) (not (copying-out (i .copyout)) && settled (i .copyin)) o)
 
 -- what is taken at an instant is in the sets
-pub record NewIn (d : Dispatcher) (new : ℕ) (i : Interval) : Type 0 where
+pub record NewIn (d : State) (new : ℕ) (i : Interval) : Type 0 where
   pub ready : Sub new (d .jobs .ready)
   pub candidates : (k : ℕ) → k < 32 → member k new ≡ true → member k (d .marked) ≡ true → member k (i .candidates) ≡ true
 
-abbrev pub NewAt : Dispatcher → ℕ → Phase → Type 0
+abbrev pub NewAt : State → ℕ → Phase → Type 0
 NewAt d new (Between next outgoing) = Unit {0}
 NewAt d new (Within i) = NewIn d new i
 
-pub c-new : (d : Dispatcher) (t new : ℕ) → NewAt (step-c d t new) new (step-c d t new .phase)
+pub c-new : (d : State) (t new : ℕ) → NewAt (step-c d t new) new (step-c d t new .phase)
 unfolding step-c
 c-new d t new = go (d .phase)
   where

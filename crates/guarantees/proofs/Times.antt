@@ -1,6 +1,6 @@
 -- When the phases under way end: a property of their end times, for any property, that each step keeps if what starts has it. And an instant
 -- at which nothing ends and nothing is released leaves them.
-use Rattle.guarantees.specs.Types.{_≡_, refl, sym, ap, _∙_, subst, Bool, true, false, ℕ, _+_, _^_, _<_, Table, MaybeTask, NoTask, Task, Processor, Idle, CopyingIn, Executing, Finished, CopyOut, NoCopyOut, CopyingOut, CopiedOut, CopyIn, Unchosen, NoneChosen, Copying, Loaded, Cancelled, Interval, Next, NoneNext, LoadedNext, PromotedNext, Outgoing, NoneOutgoing, AwaitsCopyOut, Phase, Between, Within, Dispatcher, Stage}
+use Rattle.guarantees.specs.Types.{_≡_, refl, sym, ap, _∙_, subst, Bool, true, false, ℕ, _+_, _^_, _<_, Table, MaybeTask, NoTask, Task, Processor, Idle, CopyingIn, Executing, Finished, CopyOut, NoCopyOut, CopyingOut, CopiedOut, CopyIn, Unchosen, NoneChosen, Copying, Loaded, Cancelled, Interval, Next, NoneNext, LoadedNext, PromotedNext, Outgoing, NoneOutgoing, AwaitsCopyOut, Phase, Between, Within, State, Stage}
 use native.Mathlib.Omega.{arith}
 use borrow.Author.Tests.{eqb-false}
 use lib.Dec.{eqb}
@@ -8,9 +8,9 @@ use lib.ListN.{getD}
 use Rattle.sets.specs.Sets.{member, union, intersection}
 use Rattle.sets.specs.Laws.{bit, united, difference-right, none, by-test, clash, intersection-left, difference-left, empty, union-small}
 use Rattle.guarantees.proofs.Highest.{Best}
-use Rattle.dispatcher.specs.Instant.{step-a, step-b, step-c, step-d, step-e, step-g, close, over, with-candidates, cancel, choose, begin, begin-processor, begin-copyout, copying-out, wanted, taken, without-done, ended, copyin-at, copyout-at, processor-at, at-a, at-b, at-e, at-f, at-g, new-at}
-use Rattle.dispatcher.specs.State.{at-clock, later}
-use Rattle.dispatcher.specs.Order.{highest-of, outranks}
+use Rattle.rules.specs.Instant.{step-a, step-b, step-c, step-d, step-e, step-g, close, over, with-candidates, cancel, choose, begin, begin-processor, begin-copyout, copying-out, wanted, taken, without-done, ended, copyin-at, copyout-at, processor-at, at-a, at-b, at-e, at-f, at-g, new-at}
+use Rattle.rules.specs.With.{at-clock, later}
+use Rattle.rules.specs.Order.{highest-of, outranks}
 use Rattle.guarantees.proofs.Frames.{Frame, b-frame, c-frame, d-frame, table-b, table-e}
 use Rattle.guarantees.proofs.Settled.{Decided, DecidedAt, OpenAt, RestAt}
 use Rattle.guarantees.proofs.Places.{Parted}
@@ -100,7 +100,7 @@ module _ (table : Table) (tasks : table .present < 2 ^ 32) (t : ℕ) (P : ℕ �
     a-copyin (Loaded n) h = tt
     a-copyin (Cancelled n) h = tt
 
-    a-times : (d : Dispatcher) (p : Phase) → d .phase ≡ p → d .table ≡ table → Parted (table .present) tasks d p → Times Later p → Times P (step-a d t p .state .phase)
+    a-times : (d : State) (p : Phase) → d .phase ≡ p → d .table ≡ table → Parted (table .present) tasks d p → Times Later p → Times P (step-a d t p .state .phase)
     unfolding step-a ended
     a-times d (Between next outgoing) e x k h = subst (Times P) (sym e) tt
     a-times d (Within i) e x k h =
@@ -112,26 +112,26 @@ module _ (table : Table) (tasks : table .present < 2 ^ 32) (t : ℕ) (P : ℕ �
     b-times z h = b-cases (λ x. Times P (x .phase)) z t (λ i e o. h) (λ next outgoing e. h) (λ i e o. tt)
 
     -- c
-    c-times : (d : Dispatcher) (new : ℕ) (p : Phase) → Times P p → Times P (with-candidates d new p)
+    c-times : (d : State) (new : ℕ) (p : Phase) → Times P p → Times P (with-candidates d new p)
     unfolding with-candidates
     c-times d new (Between next outgoing) h = tt
     c-times d new (Within i) h = h
 
     -- d
-    d-times : (d : Dispatcher) (new : ℕ) → Times P (d .phase) → Times P (step-d d new (d .phase) .phase)
+    d-times : (d : State) (new : ℕ) → Times P (d .phase) → Times P (step-d d new (d .phase) .phase)
     unfolding cancel
     d-times d new h =
         d-cases (λ x. Times P (x .phase)) d new h (λ i n u e s b. (subst (Times P) e h .0, subst (Times P) e h .1, tt))
 
     -- e
-    choose-times : (d : Dispatcher) (i : Interval) (q : MaybeTask) → d .table ≡ table → Sub (d .jobs .ready) (table .present) → Best (d .table .priority) (d .jobs .ready) q
+    choose-times : (d : State) (i : Interval) (q : MaybeTask) → d .table ≡ table → Sub (d .jobs .ready) (table .present) → Best (d .table .priority) (d .jobs .ready) q
         → Times P (Within i) → Times P (choose d t i q .phase)
     unfolding choose
     choose-times d i NoTask x k b h = (h .0, h .1, tt)
     choose-times d i (Task q) x k b h =
         (h .0, h .1, subst (λ (y : Table). P (later t (getD (y .copyin) q 0))) (sym x) (s .copyin q (k q (b .0) (b .1))))
 
-    e-times : (d : Dispatcher) → d .table ≡ table → Sub (d .jobs .ready) (table .present) → Times P (d .phase) → Times P (step-e d t (d .phase) .phase)
+    e-times : (d : State) → d .table ≡ table → Sub (d .jobs .ready) (table .present) → Times P (d .phase) → Times P (step-e d t (d .phase) .phase)
     e-times d x k h =
         e-cases (λ y. Times P (y .phase)) d t h
         (λ i e s u. choose-times d i (highest-of d (d .jobs .ready)) x k (best-of d (d .jobs .ready)) (subst (Times P) e h))
@@ -146,7 +146,7 @@ module _ (table : Table) (tasks : table .present < 2 ^ 32) (t : ℕ) (P : ℕ �
     g-copyout NoneOutgoing k = tt
     g-copyout (AwaitsCopyOut n start) k = s .copyout n k
 
-    g-times : (f : Dispatcher) (new : ℕ) → f .table ≡ table → Parted (table .present) tasks f (f .phase) → Times P (f .phase) → Times P (step-g f t new (f .phase) .phase)
+    g-times : (f : State) (new : ℕ) → f .table ≡ table → Parted (table .present) tasks f (f .phase) → Times P (f .phase) → Times P (step-g f t new (f .phase) .phase)
     unfolding begin
     g-times f new x k h =
         g-cases (λ y. Times P (y .phase)) f t new (λ i e. h) (λ next outgoing e w. h)
@@ -159,20 +159,20 @@ module _ (table : Table) (tasks : table .present < 2 ^ 32) (t : ℕ) (P : ℕ �
         ))
 
     -- the steps together
-    pub instant-times : (d : Dispatcher) (set : ℕ) → d .table ≡ table → Sub set (table .present) → Parted (table .present) tasks d (d .phase) → Times Later (d .phase)
+    pub instant-times : (d : State) (set : ℕ) → d .table ≡ table → Sub set (table .present) → Parted (table .present) tasks d (d .phase) → Times Later (d .phase)
         → Times P (at-g d t set .phase)
     unfolding at-g at-f at-e at-b at-a new-at taken
     instant-times d set x f k h =
         let pr : ℕ = table .present in
-        let d0 : Dispatcher = at-clock d t in
+        let d0 : State = at-clock d t in
         let a : Stage = at-a d t in
-        let b : Dispatcher = at-b d t .state in
+        let b : State = at-b d t .state in
         let new : ℕ = new-at d t set in
-        let c : Dispatcher = step-c b t new in
-        let y : Dispatcher = step-d c new (c .phase) in
-        let e : Dispatcher = at-e d t set in
+        let c : State = step-c b t new in
+        let y : State = step-d c new (c .phase) in
+        let e : State = at-e d t set in
         let z : Stage = record { state = e; done = at-b d t .done; closed = at-b d t .closed } in
-        let ff : Dispatcher = at-f d t set .state in
+        let ff : State = at-f d t set .state in
         let k0 : Parted pr tasks d0 (d .phase) = record { few = k .few; marks = k .marks; pending = k .pending; ready = k .ready; known = k .known; parts = k .parts } in
         let kb : Parted pr tasks b (b .phase) = Places.to-b pr tasks d t k .parted in
         let ky : Parted pr tasks y (y .phase) = to-y b set f kb in
@@ -182,23 +182,23 @@ module _ (table : Table) (tasks : table .present < 2 ^ 32) (t : ℕ) (P : ℕ �
         let he : Times P (e .phase) = e-times y (to-table b set (table-b d t ∙ x)) (ky .ready) (d-times c new (to-c b set hb)) in
         g-times ff (held-at d t set) (ap (λ (y : Frame). y .table) (b-frame z t) ∙ table-e d t set ∙ x) kf (b-times z he)
       where
-        to-c : (b : Dispatcher) (set : ℕ) → Times P (b .phase) → Times P (step-c b t (taken b set) .phase)
+        to-c : (b : State) (set : ℕ) → Times P (b .phase) → Times P (step-c b t (taken b set) .phase)
         to-c b set h = unfold step-c in c-times b (taken b set) (b .phase) h
 
-        to-y : (b : Dispatcher) (set : ℕ) → Sub set (table .present) → Parted (table .present) tasks b (b .phase)
-            → let c : Dispatcher = step-c b t (taken b set) in
-            let y : Dispatcher = step-d c (taken b set) (c .phase) in Parted (table .present) tasks y (y .phase)
+        to-y : (b : State) (set : ℕ) → Sub set (table .present) → Parted (table .present) tasks b (b .phase)
+            → let c : State = step-c b t (taken b set) in
+            let y : State = step-d c (taken b set) (c .phase) in Parted (table .present) tasks y (y .phase)
         to-y b set g k =
             let new : ℕ = taken b set in
-            let c : Dispatcher = step-c b t new in
+            let c : State = step-c b t new in
             Places.d-moves (table .present) tasks c new
             (Places.c-moves (table .present) tasks b t new k (λ j l m. g j l (difference-left set (b .jobs .pending) j m)) (λ j m. difference-right set (b .jobs .pending) j m) .parted) .parted
 
-        to-table : (b : Dispatcher) (set : ℕ) → b .table ≡ table
-            → let c : Dispatcher = step-c b t (taken b set) in
-            let y : Dispatcher = step-d c (taken b set) (c .phase) in y .table ≡ table
+        to-table : (b : State) (set : ℕ) → b .table ≡ table
+            → let c : State = step-c b t (taken b set) in
+            let y : State = step-d c (taken b set) (c .phase) in y .table ≡ table
         to-table b set x =
-            let c : Dispatcher = step-c b t (taken b set) in
+            let c : State = step-c b t (taken b set) in
             ap (λ (y : Frame). y .table) (d-frame c (taken b set) ∙ c-frame b t (taken b set)) ∙ x
 
 -- ---- an instant at which nothing ends and nothing is released
@@ -252,16 +252,16 @@ still-copyin t (Cancelled n) h = refl
 
 module _ (P : ℕ → Type 0) (t : ℕ) where
   -- the times of a phase that is settled
-  pub record Still (d : Dispatcher) (p : Phase) : Type 0 where
+  pub record Still (d : State) (p : Phase) : Type 0 where
     pub times : Times P p
     pub decided : DecidedAt p
     pub open-yet : OpenAt p
     pub rests : RestAt (d .jobs .ready) p
 
-  back : (d : Dispatcher) {p : Phase} → d .phase ≡ p → Still d p → Still d (d .phase)
+  back : (d : State) {p : Phase} → d .phase ≡ p → Still d p → Still d (d .phase)
   back d e h = subst (λ (x : Phase). Still d x) (sym e) h
 
-  a-still : (d : Dispatcher) (p : Phase) → d .phase ≡ p → drop t p ≡ 0 → Still d p → Still (step-a d t p .state) (step-a d t p .state .phase)
+  a-still : (d : State) (p : Phase) → d .phase ≡ p → drop t p ≡ 0 → Still d p → Still (step-a d t p .state) (step-a d t p .state .phase)
   unfolding step-a without-done
   a-still d (Between next outgoing) e z h = back d e h
   a-still d (Within i) e z h = record {
@@ -276,14 +276,14 @@ module _ (P : ℕ → Type 0) (t : ℕ) where
           unfold ended in
           rw (still-processor (d .table) t (i .processor) (omega arith), still-copyout t (i .copyout) (omega arith), still-copyin t (i .copyin) (omega arith))
 
-  abbrev Stays-still : Dispatcher → Type 0
+  abbrev Stays-still : State → Type 0
   Stays-still d = Still d (d .phase)
 
   b-still : (s : Stage) → Stays-still (s .state) → Stays-still (step-b s t (s .state .phase) .state)
   b-still s h =
       b-cases Stays-still s t (λ i e o. h) (λ next outgoing e. h) (λ i e o. clash (over i) o (subst OpenAt e (h .open-yet)))
 
-  c-still : (d : Dispatcher) (new : ℕ) (p : Phase) → ((k : ℕ) → k < 32 → member k new ≡ false) → Still d p → Still (step-c d t new) (with-candidates d new p)
+  c-still : (d : State) (new : ℕ) (p : Phase) → ((k : ℕ) → k < 32 → member k new ≡ false) → Still d p → Still (step-c d t new) (with-candidates d new p)
   unfolding with-candidates step-c
   c-still d new (Between next outgoing) n h = record {
     times = tt;
@@ -293,20 +293,20 @@ module _ (P : ℕ → Type 0) (t : ℕ) where
   }
   c-still d new (Within i) n h = record { times = h .times; decided = h .decided; open-yet = h .open-yet; rests = tt }
 
-  not-outranked : (d : Dispatcher) (new c : ℕ) (q : MaybeTask) → ((k : ℕ) → k < 32 → member k new ≡ false) → Best (d .table .priority) (intersection new (d .marked)) q → outranks d c q ≡ false
+  not-outranked : (d : State) (new c : ℕ) (q : MaybeTask) → ((k : ℕ) → k < 32 → member k new ≡ false) → Best (d .table .priority) (intersection new (d .marked)) q → outranks d c q ≡ false
   not-outranked d new c NoTask n b = refl
   not-outranked d new c (Task q) n b = clash (member q new) (intersection-left new (d .marked) q (b .1)) (n q (b .0))
 
-  d-still : (d : Dispatcher) (new : ℕ) → ((k : ℕ) → k < 32 → member k new ≡ false) → Stays-still d → Stays-still (step-d d new (d .phase))
+  d-still : (d : State) (new : ℕ) → ((k : ℕ) → k < 32 → member k new ≡ false) → Stays-still d → Stays-still (step-d d new (d .phase))
   d-still d new n h =
       let q : MaybeTask = highest-of d (intersection new (d .marked)) in
       d-cases Stays-still d new h (λ i c u e s b. clash (outranks d c q) b (not-outranked d new c q n (best-of d (intersection new (d .marked)))))
 
-  e-still : (d : Dispatcher) → Stays-still d → Stays-still (step-e d t (d .phase))
+  e-still : (d : State) → Stays-still d → Stays-still (step-e d t (d .phase))
   e-still d h =
       e-cases Stays-still d t h (λ i e s u. clash (copying-out (i .copyout)) (subst (λ (c : CopyIn). Decided c (i .copyout)) s (subst DecidedAt e (h .decided))) u)
 
-  g-still : (f : Dispatcher) (new : ℕ) → Stays-still f → Stays-still (step-g f t new (f .phase))
+  g-still : (f : State) (new : ℕ) → Stays-still f → Stays-still (step-g f t new (f .phase))
   g-still f new h =
       g-cases Stays-still f t new (λ i e. h) (λ next outgoing e w. h)
       (λ next outgoing e w. clash (wanted next outgoing (f .jobs .ready)) w (unwanted next outgoing (f .jobs .ready) (subst (RestAt (f .jobs .ready)) e (h .rests))))
@@ -314,17 +314,17 @@ module _ (P : ℕ → Type 0) (t : ℕ) where
       unwanted : (next : Next) (outgoing : Outgoing) (ready : ℕ) → (next ≡ NoneNext) × (outgoing ≡ NoneOutgoing) × (ready ≡ 0) → wanted next outgoing ready ≡ false
       unwanted next outgoing ready h = rw (h .0, h .1, h .2)
 
-  pub instant-still : (d : Dispatcher) (set : ℕ) → drop t (d .phase) ≡ 0 → ((k : ℕ) → k < 32 → member k set ≡ false) → Still d (d .phase) → Still (at-g d t set) (at-g d t set .phase)
+  pub instant-still : (d : State) (set : ℕ) → drop t (d .phase) ≡ 0 → ((k : ℕ) → k < 32 → member k set ≡ false) → Still d (d .phase) → Still (at-g d t set) (at-g d t set .phase)
   unfolding at-g at-f at-e at-b at-a new-at taken
   instant-still d set z n h =
       let a : Stage = at-a d t in
-      let b : Dispatcher = at-b d t .state in
+      let b : State = at-b d t .state in
       let new : ℕ = new-at d t set in
-      let c : Dispatcher = step-c b t new in
-      let y : Dispatcher = step-d c new (c .phase) in
-      let e : Dispatcher = at-e d t set in
+      let c : State = step-c b t new in
+      let y : State = step-d c new (c .phase) in
+      let e : State = at-e d t set in
       let s : Stage = record { state = e; done = at-b d t .done; closed = at-b d t .closed } in
-      let f : Dispatcher = at-f d t set .state in
+      let f : State = at-f d t set .state in
       let m : (k : ℕ) → k < 32 → member k new ≡ false =
       λ k l. by-test (member k new) (λ x. clash (member k set) (difference-left set (b .jobs .pending) k x) (n k l)) (λ x. x) in
       let hb : Still b (b .phase) = b-still a (a-still (at-clock d t) (d .phase) refl z (record { times = h .times; decided = h .decided; open-yet = h .open-yet; rests = h .rests })) in
@@ -332,5 +332,5 @@ module _ (P : ℕ → Type 0) (t : ℕ) where
       let he : Still e (e .phase) = e-still y (d-still c new m hc) in
       g-still f (held-at d t set) (b-still s he)
     where
-      to-c : (b : Dispatcher) (new : ℕ) → ((k : ℕ) → k < 32 → member k new ≡ false) → Still b (b .phase) → Still (step-c b t new) (step-c b t new .phase)
+      to-c : (b : State) (new : ℕ) → ((k : ℕ) → k < 32 → member k new ≡ false) → Still b (b .phase) → Still (step-c b t new) (step-c b t new .phase)
       to-c b new m h = unfold step-c in c-still b new (b .phase) m h

@@ -1,9 +1,9 @@
 -- How many events of a kind an instant has.
-use Rattle.guarantees.specs.Types.{_≡_, refl, ap, _∙_, Bool, true, false, cond, List, [], _∷_, _++_, append-assoc, ℕ, zero, suc, _+_, _*_, MaybeTask, Dispatcher}
+use Rattle.guarantees.specs.Types.{_≡_, refl, ap, _∙_, Bool, true, false, cond, List, [], _∷_, _++_, append-assoc, ℕ, zero, suc, _+_, _*_, MaybeTask, State}
 use native.Mathlib.Omega.{arith}
 use Rattle.sets.specs.Sets.{member}
 use Rattle.sets.specs.Laws.{count, size}
-use Rattle.dispatcher.specs.Instant.{at-a, at-b, at-e, at-f, at-g, new-at}
+use Rattle.rules.specs.Instant.{at-a, at-b, at-e, at-f, at-g, new-at}
 use Rattle.guarantees.specs.History.{Event, Comes, Finishes, Completes, Ends, Takes, Begins, happens, finishes-in, completes, ends, takes, begins}
 use Rattle.guarantees.specs.Reading.{total, is-take, is-begin, is-completion}
 use Rattle.guarantees.proofs.Events.{by-finishes, by-ends, by-takes, by-begins, by-front, tail-of, front-of, happens-parts}
@@ -33,7 +33,7 @@ module _ (f : Event → ℕ) where
       go true x y e = omega (arith, h k t (member k marked))
       go false x y e = omega arith
 
-module _ (d : Dispatcher) (t set : ℕ) (h : List Event) where
+module _ (d : State) (t set : ℕ) (h : List Event) where
   abbrev new : ℕ
   new = new-at d t set
 

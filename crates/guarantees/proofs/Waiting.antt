@@ -2,7 +2,7 @@
 -- the copy-in of the open interval, and each step keeps it. A job of an earlier interval: the copy-in is not chosen yet, or is of a task
 -- not lower than n, or, where none was chosen or it was cancelled, some task released and marked in this interval and ready is not lower
 -- than n. A job of this interval: the same, or whatever is to be shown of the next interval holds of any task or of the loaded one.
-use Rattle.guarantees.specs.Types.{Table, _≡_, refl, sym, _∙_, subst, true, false, false≢true, List, [], _∷_, _++_, ℕ, _≤_, _<_, MaybeTask, NoTask, Task, Processor, CopyIn, Unchosen, NoneChosen, Copying, Loaded, Cancelled, Interval, Next, NoneNext, LoadedNext, PromotedNext, Outgoing, Phase, Between, Within, Dispatcher, Stage}
+use Rattle.guarantees.specs.Types.{Table, _≡_, refl, sym, _∙_, subst, true, false, false≢true, List, [], _∷_, _++_, ℕ, _≤_, _<_, MaybeTask, NoTask, Task, Processor, CopyIn, Unchosen, NoneChosen, Copying, Loaded, Cancelled, Interval, Next, NoneNext, LoadedNext, PromotedNext, Outgoing, Phase, Between, Within, State, Stage}
 use native.Mathlib.Omega.{arith}
 use borrow.Author.Tests.{ltb-true}
 use lib.Dec.{eqb}
@@ -12,9 +12,9 @@ use Rattle.sets.specs.Laws.{none, by-test, clash, union-left, intersection-in, 
 use Rattle.guarantees.proofs.Highest.{Best}
 use Rattle.guarantees.proofs.Walk.{walk}
 use Rattle.guarantees.specs.History.{history, Event, Call, begins, happens}
-use Rattle.dispatcher.specs.Instant.{settled, step-a, step-b, step-c, step-d, step-e, step-g, promoted, next-of, without-promoted, close, with-candidates, cancel, choose, begin, begin-processor, without-done, ended, processor-task, at-a, at-b, at-e, at-f, at-g, new-at}
-use Rattle.dispatcher.specs.State.{at-clock, later}
-use Rattle.dispatcher.specs.Order.{highest-of, outranks}
+use Rattle.rules.specs.Instant.{settled, step-a, step-b, step-c, step-d, step-e, step-g, promoted, next-of, without-promoted, close, with-candidates, cancel, choose, begin, begin-processor, without-done, ended, processor-task, at-a, at-b, at-e, at-f, at-g, new-at}
+use Rattle.rules.specs.With.{at-clock, later}
+use Rattle.rules.specs.Order.{highest-of, outranks}
 use Rattle.guarantees.specs.Reading.{intervals}
 use Rattle.guarantees.specs.Claim.{executes}
 use Rattle.guarantees.proofs.Steps.{Sub, NewIn, NewAt, c-new, best-of, settles, Opened, e-opens}
@@ -68,22 +68,22 @@ module _ (pr : List ℕ) (n : ℕ) where
     Fate ready (Within i) = F ready (i .candidates) (i .copyin)
 
     -- n's job awaits its execution, and F holds of what the next interval will run
-    pub record Waiting (d : Dispatcher) : Type 0 where
+    pub record Waiting (d : State) : Type 0 where
       pub table : d .table .priority ≡ pr
       pub ready : executes n (up-next (d .phase)) ≡ false → member n (d .jobs .ready) ≡ true
       pub fate : Fate (d .jobs .ready) (d .phase)
 
     module _ (rule : Rule F Q) (small : n < 32) where
-      pub ready-at : (d : Dispatcher) {p : Phase} → d .phase ≡ p → Waiting d → executes n (up-next p) ≡ false → member n (d .jobs .ready) ≡ true
+      pub ready-at : (d : State) {p : Phase} → d .phase ≡ p → Waiting d → executes n (up-next p) ≡ false → member n (d .jobs .ready) ≡ true
       ready-at d e h = subst (λ (x : Phase). executes n (up-next x) ≡ false → member n (d .jobs .ready) ≡ true) e (h .ready)
 
-      pub fate-at : (d : Dispatcher) {p : Phase} → d .phase ≡ p → Waiting d → Fate (d .jobs .ready) p
+      pub fate-at : (d : State) {p : Phase} → d .phase ≡ p → Waiting d → Fate (d .jobs .ready) p
       fate-at d e h = subst (Fate (d .jobs .ready)) e (h .fate)
 
-      best-at : (d : Dispatcher) (s : ℕ) → Waiting d → Best pr s (highest-of d s)
+      best-at : (d : State) (s : ℕ) → Waiting d → Best pr s (highest-of d s)
       best-at d s h = subst (λ (x : List ℕ). Best x s (highest-of d s)) (h .table) (best-of d s)
 
-      pub a-waiting : (t : ℕ) (d : Dispatcher) → Waiting d → Waiting (step-a d t (d .phase) .state)
+      pub a-waiting : (t : ℕ) (d : State) → Waiting d → Waiting (step-a d t (d .phase) .state)
       unfolding without-done ended
       a-waiting t d h =
           a-cases Waiting d t (λ next outgoing e. h)
@@ -95,10 +95,10 @@ module _ (pr : List ℕ) (n : ℕ) where
           })
 
       -- what an interval that is over leaves
-      unfoldable pub Left : Dispatcher → CopyIn → MaybeTask → Type 0
+      unfoldable pub Left : State → CopyIn → MaybeTask → Type 0
       Left d c q = (executes n (next-task (next-of c q)) ≡ false → member n (without-promoted (d .jobs .ready) q) ≡ true) × Q (next-task (next-of c q))
 
-      pub closed : (d : Dispatcher) (i : Interval) (c : CopyIn) → settled c ≡ true → Waiting d
+      pub closed : (d : State) (i : Interval) (c : CopyIn) → settled c ≡ true → Waiting d
           → (executes n (held-task c) ≡ false → member n (d .jobs .ready) ≡ true) → F (d .jobs .ready) (i .candidates) c → Left d c (promoted d i c)
       unfolding promoted Left
       closed d i Unchosen s h w f = absurd (false≢true s)
@@ -123,7 +123,7 @@ module _ (pr : List ℕ) (n : ℕ) where
           let z : Left (s .state) (i .copyin) (promoted (s .state) i (i .copyin)) = closed (s .state) i (i .copyin) (settles i o) h (ready-at (s .state) e h) (fate-at (s .state) e h) in
           record { table = h .table; ready = z .0; fate = z .1 })
 
-      pub c-waiting : (t new : ℕ) (d : Dispatcher) → Waiting d → Waiting (step-c d t new)
+      pub c-waiting : (t new : ℕ) (d : State) → Waiting d → Waiting (step-c d t new)
       unfolding step-c
       c-waiting t new d h = record {
         table = h .table;
@@ -141,7 +141,7 @@ module _ (pr : List ℕ) (n : ℕ) where
               rule .more (d .jobs .ready) (i .candidates) (union (d .jobs .ready) new) (union (i .candidates) (intersection new (d .marked))) (i .copyin)
               (λ k l m. union-left (d .jobs .ready) new k l m) (λ k l m. union-left (i .candidates) (intersection new (d .marked)) k l m) f
 
-      pub d-waiting : (new : ℕ) (d : Dispatcher) → NewAt d new (d .phase) → Waiting d → Waiting (step-d d new (d .phase))
+      pub d-waiting : (new : ℕ) (d : State) → NewAt d new (d .phase) → Waiting d → Waiting (step-d d new (d .phase))
       unfolding cancel
       d-waiting new d new-in h =
           d-cases Waiting d new h
@@ -162,7 +162,7 @@ module _ (pr : List ℕ) (n : ℕ) where
               less : d .table .priority ≡ pr → outranks d c (Task q) ≡ true → getD pr q 0 < getD pr c 0
               less e b = rw e at (ltb-true (getD (d .table .priority) q 0) (getD (d .table .priority) c 0) b)
 
-      pub e-waiting : (t : ℕ) (d : Dispatcher) → Waiting d → Waiting (step-e d t (d .phase))
+      pub e-waiting : (t : ℕ) (d : State) → Waiting d → Waiting (step-e d t (d .phase))
       unfolding choose
       e-waiting t d h =
           e-cases Waiting d t h
@@ -254,7 +254,7 @@ module _ (pr : List ℕ) (n : ℕ) where
         go ready candidates ready′ candidates′ (Loaded c) h = h
         go ready candidates ready′ candidates′ (Cancelled c) h = h
 
-  abbrev pub Old : Dispatcher → Type 0
+  abbrev pub Old : State → Type 0
   Old d = Waiting pr n Bound (NotLower pr n) d
 
   -- the intervals to come run none that is lower, up to the one that executes n's job
@@ -270,10 +270,10 @@ module _ (pr : List ℕ) (n : ℕ) where
   -- ---- an interval begins, and the calls to come
 
   module _ (F : ℕ → ℕ → CopyIn → Type 0) (Q : MaybeTask → Type 0) (rule : Rule pr n F Q) (small : n < 32) where
-    abbrev W : Dispatcher → Type 0
+    abbrev W : State → Type 0
     W d = Waiting pr n F Q d
 
-    unfoldable pub Forth : List MaybeTask → Dispatcher → Type 0
+    unfoldable pub Forth : List MaybeTask → State → Type 0
     Forth [] d = W d
     Forth (r ∷ rs) d = (rs ≡ []) × Q r × (executes n r ≡ false → Old d)
 
@@ -282,21 +282,21 @@ module _ (pr : List ℕ) (n : ℕ) where
     begins-same t (Between next outgoing) = refl
     begins-same t (Within i) = refl
 
-    stays : (t : ℕ) (d : Dispatcher) → W d → Forth (intervals (begins t (d .phase) (d .phase))) d
+    stays : (t : ℕ) (d : State) → W d → Forth (intervals (begins t (d .phase) (d .phase))) d
     stays t d h = rw (begins-same t (d .phase)) (unfold intervals Forth in h)
 
-    begun : (t : ℕ) (p q : Phase) (next : Next) (outgoing : Outgoing) (x : Processor) (d : Dispatcher) → p ≡ Between next outgoing → Opened x q
+    begun : (t : ℕ) (p q : Phase) (next : Next) (outgoing : Outgoing) (x : Processor) (d : State) → p ≡ Between next outgoing → Opened x q
         → Q (processor-task x) → (executes n (processor-task x) ≡ false → Old d) → Forth (intervals (begins t p q)) d
     unfolding begins intervals Forth
     begun t p (Between y z) next outgoing x d e o h k = absurd o
     begun t p (Within j) next outgoing x d e o h k = subst (λ (p : Phase). Forth (intervals (begins t p (Within j))) d) (sym e) (refl, rw o h, λ y. k (rw o at y))
 
-    g-waiting : (t new : ℕ) (f : Dispatcher) → W f → Forth (intervals (begins t (f .phase) (step-g f t new (f .phase) .phase))) (step-g f t new (f .phase))
+    g-waiting : (t new : ℕ) (f : State) → W f → Forth (intervals (begins t (f .phase) (step-g f t new (f .phase) .phase))) (step-g f t new (f .phase))
     unfolding begin
     g-waiting t new f h =
         g-cases (λ x. Forth (intervals (begins t (f .phase) (x .phase))) x) f t new (λ i e. stays t f h) (λ next outgoing e w. stays t f h)
         (λ next outgoing e w.
-        let b : Dispatcher = begin f t new next outgoing in
+        let b : State = begin f t new next outgoing in
         let r : processor-task (begin-processor (f .table) t next) ≡ next-task next = runs (f .table) t next in
         begun t (f .phase) (step-e b t (b .phase) .phase) next outgoing (begin-processor (f .table) t next) (step-e b t (b .phase)) e
         (e-opens b t (begin-processor (f .table) t next) refl)
@@ -305,34 +305,34 @@ module _ (pr : List ℕ) (n : ℕ) where
         (record { table = h .table; ready = λ z. ready-at pr n F Q rule small f e h (rw r at y); fate = tt })))
 
     -- the steps together
-    from-e : (d : Dispatcher) (t set : ℕ) → W (at-e d t set) → Forth (intervals (begins t (at-f d t set .state .phase) (at-g d t set .phase))) (at-g d t set)
+    from-e : (d : State) (t set : ℕ) → W (at-e d t set) → Forth (intervals (begins t (at-f d t set .state .phase) (at-g d t set .phase))) (at-g d t set)
     unfolding at-f at-g
     from-e d t set h =
         g-waiting t (held-at d t set) (at-f d t set .state) (b-waiting pr n F Q rule small t (record { state = at-e d t set; done = at-b d t .done; closed = at-b d t .closed }) h)
 
-    pub from-c : (d : Dispatcher) (t set : ℕ) → W (step-c (at-b d t .state) t (new-at d t set)) → W (at-e d t set)
+    pub from-c : (d : State) (t set : ℕ) → W (step-c (at-b d t .state) t (new-at d t set)) → W (at-e d t set)
     unfolding at-e
     from-c d t set h =
         let new : ℕ = new-at d t set in
-        let c : Dispatcher = step-c (at-b d t .state) t new in
+        let c : State = step-c (at-b d t .state) t new in
         e-waiting pr n F Q rule small t (step-d c new (c .phase)) (d-waiting pr n F Q rule small new c (c-new (at-b d t .state) t new) h)
 
-    instant : (d : Dispatcher) (t set : ℕ) → W d → Forth (intervals (begins t (at-f d t set .state .phase) (at-g d t set .phase))) (at-g d t set)
+    instant : (d : State) (t set : ℕ) → W d → Forth (intervals (begins t (at-f d t set .state .phase) (at-g d t set .phase))) (at-g d t set)
     unfolding at-b at-a
     instant d t set h =
         from-e d t set (from-c d t set (c-waiting pr n F Q rule small t (new-at d t set) (at-b d t .state)
         (b-waiting pr n F Q rule small t (at-a d t) (a-waiting pr n F Q rule small t (at-clock d t) (record { table = h .table; ready = h .ready; fate = h .fate })))))
 
-    join : (rs later : List MaybeTask) (g : Dispatcher) → Forth rs g → (W g → Then Q later) → (Old g → Ahead later) → Then Q (rs ++ later)
+    join : (rs later : List MaybeTask) (g : State) → Forth rs g → (W g → Then Q later) → (Old g → Ahead later) → Then Q (rs ++ later)
     unfolding Forth Then
     join [] later g h k a = k h
     join (r ∷ rs) later g h k a = (h .1, λ e. subst (λ (x : List MaybeTask). Ahead (x ++ later)) (sym (h .0)) (a (h .2 e)))
 
-    pub to-come : (d : Dispatcher) (t set : ℕ) (rest : List Event) → W (at-e d t set) → (W (at-g d t set) → Then Q (intervals rest)) → (Old (at-g d t set) → Ahead (intervals rest))
+    pub to-come : (d : State) (t set : ℕ) (rest : List Event) → W (at-e d t set) → (W (at-g d t set) → Then Q (intervals rest)) → (Old (at-g d t set) → Ahead (intervals rest))
         → Then Q (intervals (begins t (at-f d t set .state .phase) (at-g d t set .phase)) ++ intervals rest)
     to-come d t set rest h k a = join (intervals (begins t (at-f d t set .state .phase) (at-g d t set .phase))) (intervals rest) (at-g d t set) (from-e d t set h) k a
 
-    step : (d : Dispatcher) (t set : ℕ) (rest : List Event) → W d → (W (at-g d t set) → Then Q (intervals rest)) → (Old (at-g d t set) → Ahead (intervals rest))
+    step : (d : State) (t set : ℕ) (rest : List Event) → W d → (W (at-g d t set) → Then Q (intervals rest)) → (Old (at-g d t set) → Ahead (intervals rest))
         → Then Q (intervals (happens d t set ++ rest))
     step d t set rest h k a =
         rw (happens-intervals d t set rest)
@@ -349,13 +349,13 @@ module _ (pr : List ℕ) (n : ℕ) where
     ahead-then [] h = tt
     ahead-then (r ∷ rs) h = h
 
-    old-step : (d : Dispatcher) (t set : ℕ) (rest : List Event) → (Old (at-g d t set) → Ahead (intervals rest)) → Old d → Ahead (intervals (happens d t set ++ rest))
+    old-step : (d : State) (t set : ℕ) (rest : List Event) → (Old (at-g d t set) → Ahead (intervals rest)) → Old d → Ahead (intervals (happens d t set ++ rest))
     old-step d t set rest k o =
         then-ahead (intervals (happens d t set ++ rest))
         (step Bound (NotLower pr n) (rule-old small) small d t set rest o (λ g. ahead-then (intervals rest) (k g)) k)
 
     -- a job that was released in an interval before the open one
-    pub ahead : (d : Dispatcher) (cs : List Call) → Old d → Ahead (intervals (history d cs))
+    pub ahead : (d : State) (cs : List Call) → Old d → Ahead (intervals (history d cs))
     ahead d cs =
         walk (λ d h. Old d → Ahead (intervals h)) (λ d o. unfold Ahead intervals in tt)
         (λ d t set cs e k o. old-step d t set (history (at-g d t set) cs) k o)
@@ -363,7 +363,7 @@ module _ (pr : List ℕ) (n : ℕ) where
         cs d
 
     -- and one of the open interval
-    pub soon : (F : ℕ → ℕ → CopyIn → Type 0) (Q : MaybeTask → Type 0) (rule : Rule pr n F Q) (d : Dispatcher) (cs : List Call) → Waiting pr n F Q d → Then Q (intervals (history d cs))
+    pub soon : (F : ℕ → ℕ → CopyIn → Type 0) (Q : MaybeTask → Type 0) (rule : Rule pr n F Q) (d : State) (cs : List Call) → Waiting pr n F Q d → Then Q (intervals (history d cs))
     soon F Q rule d cs =
         walk (λ d h. Waiting pr n F Q d → Then Q (intervals h)) (λ d o. unfold Then intervals in tt)
         (λ d t set cs e k o. step F Q rule small d t set (history (at-g d t set) cs) o k (ahead (at-g d t set) cs))

@@ -1,9 +1,11 @@
 -- Demand 3: the claim about a whole list of instants and mark calls. What stands between quotation marks is the demand, or document 01, "The
 -- dispatcher by instants", second paragraph; below each quotation stands what it says of a history (History, Reading).
-use Rattle.guarantees.specs.Types.{_≡_, Bool, true, false, cond, List, [], _∷_, _++_, _⊎_, _↔_, ℕ, _+_, _*_, _≤_, _<_, Table, MaybeTask, NoTask, Task, Dispatcher, Due, Never, Tick, NoRefusal, Opening}
+use Rattle.guarantees.specs.Types.{_≡_, Bool, true, false, cond, List, [], _∷_, _++_, _⊎_, _↔_, ℕ, _+_, _*_, _≤_, _<_, Table, MaybeTask, NoTask, Task, State, Due, Never, Tick, NoRefusal}
 use lib.Dec.{eqb, leb}
 use lib.ListN.{getD, length}
-use Rattle.dispatcher.specs.Calls.{opening}
+use Rattle.rules.specs.Calls.{opening}
+use Rattle.dispatcher.specs.declared.Opening.{Opening}
+use Rattle.dispatcher.specs.Reading.{state-of, opening-of}
 use Rattle.guarantees.specs.History.{Event, Completes, Takes, Begins, Call, history, after-calls, EmptySets}
 use Rattle.guarantees.specs.Reading.{Situation, NoneOpen, Open, situation, Latest, none-yet, latest, intervals, end-tick, begin-tick, copied-out, completion, last-instant, is-take, is-begin, is-completion, total}
 
@@ -97,7 +99,7 @@ pub record AllCompleted (history : List Event) : Type 0 where
 -- ---- The claim
 
 -- of a list of calls, instants and mark calls, refused ones included, that starts from a state that opening returned
-pub record Claim (d : Dispatcher) (calls : List Call) : Type 0 where
+pub record Claim (d : State) (calls : List Call) : Type 0 where
   pub of-the-list : Holds (d .table) (history d calls)
   -- "empty sets at the due times that follow": these come to an end
   pub come-to-an-end : (rest : List Call) × EmptySets (after-calls d calls) rest
@@ -117,7 +119,8 @@ Demand3 = (bytes : List ℕ) → opening bytes .refusal ≡ NoRefusal → (calls
 
 -- ---- The claim on a promise
 
--- what opening from bytes returns, and, where it serves them, the claim for every list of calls from the state returned
+-- what opening from bytes returns, and, where it serves them, the claim for every list of calls from the state returned, each read as
+-- the rules have it
 pub record OpenedWithClaim (bytes : List ℕ) (r : Opening) : Type 0 where
-  pub opens : r ≡ opening bytes
-  pub claim : r .refusal ≡ NoRefusal → (calls : List Call) → Claim (r .state) calls
+  pub opens : opening-of r ≡ opening bytes
+  pub claim : r .refusal ≡ NoRefusal → (calls : List Call) → Claim (state-of (r .state)) calls

@@ -1,10 +1,10 @@
 -- What the instant list makes of the task entries and of the calls that meet no refusal: the history of a run, event by event,
 -- in the order in which the events occur. Each event is read off the steps a to g of an instant. A refused call leaves none.
-use Rattle.guarantees.specs.Types.{_≡_, Bool, cond, List, [], _∷_, _++_, ℕ, zero, suc, MaybeTask, CopyIn, Unchosen, NoneChosen, Copying, Loaded, Cancelled, Phase, Between, Within, Dispatcher, Done, NoJob, Job, Never, Tick}
+use Rattle.guarantees.specs.Types.{_≡_, Bool, cond, List, [], _∷_, _++_, ℕ, zero, suc, MaybeTask, CopyIn, Unchosen, NoneChosen, Copying, Loaded, Cancelled, Phase, Between, Within, State, Done, NoJob, Job, Never, Tick}
 use lib.Dec.{eqb}
 use Rattle.sets.specs.Sets.{member}
-use Rattle.dispatcher.specs.Instant.{at-a, at-b, at-e, at-f, at-g, new-at, due, processor-task, copyout-task}
-use Rattle.dispatcher.specs.Calls.{refusal, instant, mark}
+use Rattle.rules.specs.Instant.{at-a, at-b, at-e, at-f, at-g, new-at, due, processor-task, copyout-task}
+use Rattle.rules.specs.Calls.{refusal, instant, mark}
 
 pub data Event : Type 0 where
   Comes : ℕ → Event  -- an instant that is served, at a time
@@ -51,7 +51,7 @@ begins t (Between next outgoing) (Between next′ outgoing′) = []
 begins t (Between next outgoing) (Within j) = Begins t (processor-task (j .processor)) (copyout-task (j .copyout)) ∷ []
 
 -- what occurs at an instant that is served
-unfoldable pub happens : Dispatcher → ℕ → ℕ → List Event
+unfoldable pub happens : State → ℕ → ℕ → List Event
 happens d t set =
     Comes t
     ∷ (finishes-in t (d .phase)
@@ -68,24 +68,24 @@ pub data Call : Type 0 where
   Mark : ℕ → ℕ → Call  -- a task, and its mark from now on
 
 -- the state that a call, served or refused, hands back
-unfoldable pub after-call : Dispatcher → Call → Dispatcher
+unfoldable pub after-call : State → Call → State
 after-call d (Instant t set) = instant d t set .state
 after-call d (Mark n m) = mark d n m .state
 
-unfoldable pub by-call : Dispatcher → Call → List Event
+unfoldable pub by-call : State → Call → List Event
 by-call d (Instant t set) = cond (eqb (refusal d t set) 0) (happens d t set) []
 by-call d (Mark n m) = []
 
 -- each call gets the state that the call before it handed back
-unfoldable pub after-calls : Dispatcher → List Call → Dispatcher
+unfoldable pub after-calls : State → List Call → State
 after-calls d [] = d
 after-calls d (c ∷ cs) = after-calls (after-call d c) cs
 
-unfoldable pub history : Dispatcher → List Call → List Event
+unfoldable pub history : State → List Call → List Event
 history d [] = []
 history d (c ∷ cs) = by-call d c ++ history (after-call d c) cs
 
 -- the calls hand in an empty set at each due time until none is left
-unfoldable pub EmptySets : Dispatcher → List Call → Type 0
+unfoldable pub EmptySets : State → List Call → Type 0
 EmptySets d [] = due (d .phase) ≡ Never
 EmptySets d (c ∷ cs) = ((t : ℕ) × (due (d .phase) ≡ Tick t) × (c ≡ Instant t 0)) × EmptySets (after-call d c) cs

@@ -1,12 +1,12 @@
 -- Every state that calls made: it names only tasks of the table, and no time and no count of it comes near the end of its type. The
 -- definitions hold a time at the last tick of a u64 (`later`) and a count at 255 (`counted`), so that every state has an answer; here it
 -- is claimed that no run gets there: on every state that calls made they are document 01's, with plain arithmetic.
-use Rattle.guarantees.specs.Types.{_≡_, true, List, _⊎_, ℕ, _+_, _≤_, _<_, min, Table, Processor, Idle, CopyingIn, Executing, Finished, CopyOut, NoCopyOut, CopyingOut, CopiedOut, CopyIn, Unchosen, NoneChosen, Copying, Loaded, Cancelled, Next, NoneNext, LoadedNext, PromotedNext, Outgoing, NoneOutgoing, AwaitsCopyOut, Phase, Between, Within, Dispatcher, NoRefusal}
+use Rattle.guarantees.specs.Types.{_≡_, true, List, _⊎_, ℕ, _+_, _≤_, _<_, min, Table, Processor, Idle, CopyingIn, Executing, Finished, CopyOut, NoCopyOut, CopyingOut, CopiedOut, CopyIn, Unchosen, NoneChosen, Copying, Loaded, Cancelled, Next, NoneNext, LoadedNext, PromotedNext, Outgoing, NoneOutgoing, AwaitsCopyOut, Phase, Between, Within, State, NoRefusal}
 use lib.ListN.{getD}
 use Rattle.sets.specs.Sets.{member}
-use Rattle.dispatcher.specs.State.{later, at-clock}
-use Rattle.dispatcher.specs.Instant.{at-a, at-e, at-g}
-use Rattle.dispatcher.specs.Calls.{opening, refusal}
+use Rattle.rules.specs.With.{later, at-clock}
+use Rattle.rules.specs.Instant.{at-a, at-e, at-g}
+use Rattle.rules.specs.Calls.{opening, refusal}
 use Rattle.guarantees.specs.History.{Call, after-calls}
 
 -- ---- The tasks that a state names
@@ -51,7 +51,7 @@ module _ (present : ℕ) where
   phase-known (Within i) = copyin-known (i .copyin) × processor-known (i .processor) × copyout-known (i .copyout) × set-known (i .candidates)
 
 -- the table has tasks below 32 alone, and every task that the state names is one of them
-pub record Named (table : Table) (d : Dispatcher) : Type 0 where
+pub record Named (table : Table) (d : State) : Type 0 where
   pub numbers : (n : ℕ) → Known (table .present) n → n < 32
   pub marked : set-known (table .present) (d .marked)
   pub pending : set-known (table .present) (d .jobs .pending)
@@ -72,7 +72,7 @@ PlainCounts blocked = (n : ℕ) → n < 32 → min (getD blocked n 0 + 1) 255 �
 
 -- An instant adds a length to its own time alone, where a phase begins, and one to a count where an interval ends: in step b, after
 -- step a, or in step f, after step e.
-pub record PlainInstant (d : Dispatcher) (t set : ℕ) : Type 0 where
+pub record PlainInstant (d : State) (t set : ℕ) : Type 0 where
   -- an empty set is served at any time while nothing is due: then nothing begins, and the clock alone moves
   pub times : PlainTime (d .table) t ⊎ (at-g d t set ≡ at-clock d t)
   pub counts-b : PlainCounts (at-a d t .state .jobs .blocked)
@@ -80,7 +80,7 @@ pub record PlainInstant (d : Dispatcher) (t set : ℕ) : Type 0 where
 
 -- ---- The claim
 
-pub record PlainState (d : Dispatcher) : Type 0 where
+pub record PlainState (d : State) : Type 0 where
   pub named : Named (d .table) d
   -- no job is blocked in more than two intervals
   pub counts : (n : ℕ) → n < 32 → getD (d .jobs .blocked) n 0 ≤ 2

@@ -1,43 +1,41 @@
 -- The names that the definitions and the laws share: the declared types and their variants, and the library's.
 pub use Rattle.table.specs.declared.Table.{Table}
-pub use Rattle.dispatcher.specs.declared.Jobs.{Jobs}
-pub use Rattle.dispatcher.specs.declared.Clock.{Clock}
-pub use Rattle.dispatcher.specs.declared.Clock.the-variants.{Unset, At}
+pub use Rattle.rules.specs.declared.Jobs.{Jobs}
+pub use Rattle.rules.specs.declared.Clock.{Clock}
+pub use Rattle.rules.specs.declared.Clock.the-variants.{Unset, At}
 pub use Rattle.entries.specs.declared.MaybeTask.{MaybeTask}
 pub use Rattle.entries.specs.declared.MaybeTask.the-variants.{NoTask, Task}
-pub use Rattle.dispatcher.specs.declared.Processor.{Processor}
-pub use Rattle.dispatcher.specs.declared.Processor.the-variants.{Idle, CopyingIn, Executing, Finished}
-pub use Rattle.dispatcher.specs.declared.CopyOut.{CopyOut}
-pub use Rattle.dispatcher.specs.declared.CopyOut.the-variants.{NoCopyOut, CopyingOut, CopiedOut}
-pub use Rattle.dispatcher.specs.declared.CopyIn.{CopyIn}
-pub use Rattle.dispatcher.specs.declared.CopyIn.the-variants.{Unchosen, NoneChosen, Copying, Loaded, Cancelled}
-pub use Rattle.dispatcher.specs.declared.Interval.{Interval}
-pub use Rattle.dispatcher.specs.declared.Next.{Next}
-pub use Rattle.dispatcher.specs.declared.Next.the-variants.{NoneNext, LoadedNext, PromotedNext}
-pub use Rattle.dispatcher.specs.declared.Outgoing.{Outgoing}
-pub use Rattle.dispatcher.specs.declared.Outgoing.the-variants.{NoneOutgoing, AwaitsCopyOut}
-pub use Rattle.dispatcher.specs.declared.Phase.{Phase}
-pub use Rattle.dispatcher.specs.declared.Phase.the-variants.{Between, Within}
-pub use Rattle.dispatcher.specs.declared.Dispatcher.{Dispatcher}
+pub use Rattle.rules.specs.declared.Processor.{Processor}
+pub use Rattle.rules.specs.declared.Processor.the-variants.{Idle, CopyingIn, Executing, Finished}
+pub use Rattle.rules.specs.declared.CopyOut.{CopyOut}
+pub use Rattle.rules.specs.declared.CopyOut.the-variants.{NoCopyOut, CopyingOut, CopiedOut}
+pub use Rattle.rules.specs.declared.CopyIn.{CopyIn}
+pub use Rattle.rules.specs.declared.CopyIn.the-variants.{Unchosen, NoneChosen, Copying, Loaded, Cancelled}
+pub use Rattle.rules.specs.declared.Interval.{Interval}
+pub use Rattle.rules.specs.declared.Next.{Next}
+pub use Rattle.rules.specs.declared.Next.the-variants.{NoneNext, LoadedNext, PromotedNext}
+pub use Rattle.rules.specs.declared.Outgoing.{Outgoing}
+pub use Rattle.rules.specs.declared.Outgoing.the-variants.{NoneOutgoing, AwaitsCopyOut}
+pub use Rattle.rules.specs.declared.Phase.{Phase}
+pub use Rattle.rules.specs.declared.Phase.the-variants.{Between, Within}
+pub use Rattle.rules.specs.declared.State.{State}
 pub use Rattle.entries.specs.declared.JobEntry.{JobEntry}
 pub use Rattle.entries.specs.declared.IntervalEntry.{IntervalEntry}
-pub use Rattle.dispatcher.specs.declared.Done.{Done}
-pub use Rattle.dispatcher.specs.declared.Done.the-variants.{NoJob, Job}
-pub use Rattle.dispatcher.specs.declared.Closed.{Closed}
-pub use Rattle.dispatcher.specs.declared.Closed.the-variants.{NoInterval, Span}
-pub use Rattle.dispatcher.specs.declared.Closing.{Closing}
-pub use Rattle.dispatcher.specs.declared.Closing.the-variants.{Unclosed, BeforeReleases, AfterReleases}
-pub use Rattle.dispatcher.specs.declared.Due.{Due}
-pub use Rattle.dispatcher.specs.declared.Due.the-variants.{Never, Tick}
-pub use Rattle.dispatcher.specs.declared.Occurred.{Occurred}
-pub use Rattle.dispatcher.specs.declared.Answer.{Answer}
-pub use Rattle.dispatcher.specs.declared.Answer.the-variants.{Refused, Served}
-pub use Rattle.dispatcher.specs.declared.Step.{Step}
-pub use Rattle.dispatcher.specs.declared.Stage.{Stage}
-pub use Rattle.dispatcher.specs.declared.MarkAnswer.{MarkAnswer}
-pub use Rattle.dispatcher.specs.declared.MarkAnswer.the-variants.{MarkRefused, MarkServed}
-pub use Rattle.dispatcher.specs.declared.MarkStep.{MarkStep}
-pub use Rattle.dispatcher.specs.declared.Opening.{Opening}
+pub use Rattle.rules.specs.declared.Done.{Done}
+pub use Rattle.rules.specs.declared.Done.the-variants.{NoJob, Job}
+pub use Rattle.rules.specs.declared.Closed.{Closed}
+pub use Rattle.rules.specs.declared.Closed.the-variants.{NoInterval, Span}
+pub use Rattle.rules.specs.declared.Closing.{Closing}
+pub use Rattle.rules.specs.declared.Closing.the-variants.{Unclosed, BeforeReleases, AfterReleases}
+pub use Rattle.rules.specs.declared.Due.{Due}
+pub use Rattle.rules.specs.declared.Due.the-variants.{Never, Tick}
+pub use Rattle.rules.specs.declared.Occurred.{Occurred}
+pub use Rattle.rules.specs.declared.Answer.{Answer}
+pub use Rattle.rules.specs.declared.Answer.the-variants.{Refused, Served}
+pub use Rattle.rules.specs.declared.Stage.{Stage}
+pub use Rattle.rules.specs.declared.MarkAnswer.{MarkAnswer}
+pub use Rattle.rules.specs.declared.MarkAnswer.the-variants.{MarkRefused, MarkServed}
+pub use Rattle.rules.specs.Calls.{Step, MarkStep, Opening}
 pub use Rattle.table.specs.declared.Refusal.{Refusal}
 pub use Rattle.table.specs.declared.Refusal.the-variants.{NoRefusal, Alone, AtEntry}
 pub use Rattle.table.specs.declared.Tasks.{Tasks}

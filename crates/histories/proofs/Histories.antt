@@ -5,7 +5,7 @@ use mathlib.Core.Bool.{true, false}
 use mathlib.Core.List.{List, []}
 use Rattle.table.specs.declared.Table.{Table}
 use Rattle.entries.specs.declared.MaybeTask.the-variants.{NoTask, Task}
-use Rattle.dispatcher.specs.declared.Due.the-variants.{Never, Tick}
+use Rattle.rules.specs.declared.Due.the-variants.{Never, Tick}
 use Rattle.table.specs.declared.Refusal.the-variants.{NoRefusal}
 use mathlib.Core.List.{append-nil}
 use native.Mathlib.Omega.{arith}
@@ -14,11 +14,11 @@ use Rattle.words.specs.Words
 use Rattle.sets.specs.Sets
 use Rattle.entries.specs.Entries
 use Rattle.table.specs.Tasks
-use Rattle.dispatcher.specs.Order
-use Rattle.dispatcher.specs.Instant
-use Rattle.dispatcher.specs.Calls
-use Rattle.dispatcher.specs.Instant.{due}
-use Rattle.dispatcher.specs.Calls.{opening}
+use Rattle.rules.specs.Order
+use Rattle.rules.specs.Instant
+use Rattle.rules.specs.Calls
+use Rattle.rules.specs.Instant.{due}
+use Rattle.rules.specs.Calls.{opening}
 use Rattle.guarantees.specs.History
 use Rattle.guarantees.specs.History.{Event, Call, history, after-calls, EmptySets}
 use Rattle.guarantees.specs.Reading.{latest, situation, intervals, end-tick, begin-tick, copied-out, completion, last-instant, total}

@@ -7,7 +7,7 @@ use Prim.Native.Nat.{ℕ}
 use Rattle.table.specs.declared.Table.{Table}
 use Rattle.entries.specs.declared.MaybeTask.the-variants.{NoTask, Task}
 use lib.ListN.{replicate}
-use Rattle.dispatcher.specs.Calls.{opening}
+use Rattle.rules.specs.Calls.{opening}
 use Rattle.guarantees.specs.History.{Event, Comes, Finishes, Completes, Ends, Takes, Begins, Call, Instant, history}
 use Rattle.guarantees.specs.Claim.{Holds, AllCompleted}
 

@@ -5,15 +5,15 @@ pub use Rattle.entries.specs.declared.JobEntry.{JobEntry}
 pub use Rattle.entries.specs.declared.IntervalEntry.{IntervalEntry}
 pub use Rattle.table.specs.declared.Refusal.{Refusal}
 pub use Rattle.table.specs.declared.Refusal.the-variants.{NoRefusal, Alone, AtEntry}
-pub use Rattle.dispatcher.specs.declared.Done.{Done}
-pub use Rattle.dispatcher.specs.declared.Done.the-variants.{NoJob, Job}
-pub use Rattle.dispatcher.specs.declared.Closing.{Closing}
-pub use Rattle.dispatcher.specs.declared.Closing.the-variants.{Unclosed, BeforeReleases, AfterReleases}
-pub use Rattle.dispatcher.specs.declared.Due.{Due}
-pub use Rattle.dispatcher.specs.declared.Due.the-variants.{Never, Tick}
-pub use Rattle.dispatcher.specs.declared.Occurred.{Occurred}
-pub use Rattle.dispatcher.specs.declared.Answer.{Answer}
-pub use Rattle.dispatcher.specs.declared.Answer.the-variants.{Refused, Served}
-pub use Rattle.dispatcher.specs.declared.MarkAnswer.{MarkAnswer}
-pub use Rattle.dispatcher.specs.declared.MarkAnswer.the-variants.{MarkRefused, MarkServed}
+pub use Rattle.rules.specs.declared.Done.{Done}
+pub use Rattle.rules.specs.declared.Done.the-variants.{NoJob, Job}
+pub use Rattle.rules.specs.declared.Closing.{Closing}
+pub use Rattle.rules.specs.declared.Closing.the-variants.{Unclosed, BeforeReleases, AfterReleases}
+pub use Rattle.rules.specs.declared.Due.{Due}
+pub use Rattle.rules.specs.declared.Due.the-variants.{Never, Tick}
+pub use Rattle.rules.specs.declared.Occurred.{Occurred}
+pub use Rattle.rules.specs.declared.Answer.{Answer}
+pub use Rattle.rules.specs.declared.Answer.the-variants.{Refused, Served}
+pub use Rattle.rules.specs.declared.MarkAnswer.{MarkAnswer}
+pub use Rattle.rules.specs.declared.MarkAnswer.the-variants.{MarkRefused, MarkServed}
 pub use Rattle.lines.specs.declared.Text.{Text}

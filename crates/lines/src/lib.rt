@@ -1,19 +1,19 @@
 // The printed lines: a letter, the fields in decimal with a space before each, a newline.
-use dispatcher::Answer;
-use dispatcher::Closing;
-use dispatcher::Done;
-use dispatcher::Due;
-use dispatcher::MarkAnswer;
-use dispatcher::Occurred;
 use entries::IntervalEntry;
 use entries::JobEntry;
 use entries::MaybeTask;
+use rules::Answer;
+use rules::Closing;
+use rules::Done;
+use rules::Due;
+use rules::MarkAnswer;
+use rules::Occurred;
 use table::Refusal;
 ghost use mathlib.Core.Path.{_≡_};
 ghost use mathlib.Core.List.{[], _∷_};
 ghost use Prim.Native.Nat.{_+_, _≤_, _<_};
 ghost use lib.ListN.{length};
-ghost use Rattle.dispatcher.specs.Answers.{refusal-number, refusal-place};
+ghost use Rattle.rules.specs.Answers.{refusal-number, refusal-place};
 ghost use Rattle.lines.specs.Lines.{decimal, field, task-field, due-field, no-field, newline, job-line, interval-line, skipped-line, done-lines, closing-lines, answer-line, served-lines, refused-input-line, refused-call-line, cut-short-line, instant-lines, mark-lines, opening-lines};
 ghost use Rattle.lines.specs.Text.{text-of, shown, room, written, Appended, Prints};
 

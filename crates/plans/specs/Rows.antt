@@ -2,12 +2,9 @@
 use mathlib.Core.List.{List, [], _∷_, _++_}
 use Prim.Native.Nat.{ℕ}
 use lib.ListN.{replicate}
-use Rattle.dispatcher.specs.declared.Dispatcher.{Dispatcher}
-use Rattle.dispatcher.specs.declared.Step.{Step}
-use Rattle.dispatcher.specs.declared.MarkStep.{MarkStep}
-use Rattle.dispatcher.specs.declared.Opening.{Opening}
-use Rattle.dispatcher.specs.Calls.{opening, instant, mark}
-use Rattle.dispatcher.specs.Answers.{answer-values, mark-number, refusal-number, refusal-place}
+use Rattle.rules.specs.declared.State.{State}
+use Rattle.rules.specs.Calls.{Step, MarkStep, Opening, opening, instant, mark}
+use Rattle.rules.specs.Answers.{answer-values, mark-number, refusal-number, refusal-place}
 use Rattle.record.specs.Run.{Moment, moment, record-bytes, Written, file, outcome-number, outcome-value}
 
 -- ---- What is handed in
@@ -35,13 +32,13 @@ pub record Row : Type 0 where
 
 -- ---- The definitions' answer
 
-unfoldable pub called : Dispatcher → List Call → List ℕ
+unfoldable pub called : State → List Call → List ℕ
 called d [] = []
 called d (AtInstant t set ∷ cs) = let s : Step = instant d t set in answer-values (s .answer) ++ called (s .state) cs
 called d (ToMark n m ∷ cs) = let s : MarkStep = mark d n m in mark-number (s .answer) ∷ called (s .state) cs
 
 -- the record of the jobs done and the intervals closed by the calls
-unfoldable pub called-moments : Dispatcher → List Call → List Moment
+unfoldable pub called-moments : State → List Call → List Moment
 called-moments d [] = []
 called-moments d (AtInstant t set ∷ cs) = let s : Step = instant d t set in moment t (s .answer) ++ called-moments (s .state) cs
 called-moments d (ToMark n m ∷ cs) = called-moments (mark d n m .state) cs

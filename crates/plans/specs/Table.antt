@@ -5,10 +5,10 @@ use Rattle.words.specs.Words
 use Rattle.sets.specs.Sets
 use Rattle.entries.specs.Entries
 use Rattle.table.specs.Tasks
-use Rattle.dispatcher.specs.State
-use Rattle.dispatcher.specs.Order
-use Rattle.dispatcher.specs.Instant
-use Rattle.dispatcher.specs.Calls
+use Rattle.rules.specs.With
+use Rattle.rules.specs.Order
+use Rattle.rules.specs.Instant
+use Rattle.rules.specs.Calls
 use Rattle.record.specs.Files
 use Rattle.record.specs.Run
 use Rattle.plans.specs.Rows.{all-found, all-expected}

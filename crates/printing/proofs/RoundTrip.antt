@@ -11,11 +11,11 @@ use Rattle.sets.specs.Sets.{member}
 use Rattle.words.specs.Words.{bytesOf, numberAt}
 use Rattle.words.specs.Laws.{behind, one-byte, round-trip-at}
 use Rattle.entries.specs.Entries.{release-at, task-byte, job-bytes, choice-bytes, interval-bytes, skipped-bytes}
-use Rattle.dispatcher.specs.declared.Occurred.{Occurred}
-use Rattle.dispatcher.specs.declared.Done.{Done}
-use Rattle.dispatcher.specs.declared.Done.the-variants.{NoJob, Job}
-use Rattle.dispatcher.specs.declared.Closing.{Closing}
-use Rattle.dispatcher.specs.declared.Closing.the-variants.{Unclosed, BeforeReleases, AfterReleases}
+use Rattle.rules.specs.declared.Occurred.{Occurred}
+use Rattle.rules.specs.declared.Done.{Done}
+use Rattle.rules.specs.declared.Done.the-variants.{NoJob, Job}
+use Rattle.rules.specs.declared.Closing.{Closing}
+use Rattle.rules.specs.declared.Closing.the-variants.{Unclosed, BeforeReleases, AfterReleases}
 use Rattle.lines.specs.Lines.{job-line, interval-line, skipped-line, done-lines}
 use Rattle.record.specs.Run.{Moment, done-bytes, skips-bytes, closed-bytes, moment-bytes, record-bytes}
 use Rattle.printing.specs.Types.{MaybeTask, NoTask, Task, Release, JobEntry, IntervalEntry, Found, JobDone, IntervalEnded, ReleaseSkipped}

@@ -4,11 +4,11 @@ use mathlib.Core.Bool.{cond}
 use mathlib.Core.List.{List, [], _∷_, _++_}
 use Prim.Native.Nat.{ℕ, zero, suc, _^_, _<_}
 use Rattle.sets.specs.Sets.{member}
-use Rattle.dispatcher.specs.declared.Occurred.{Occurred}
-use Rattle.dispatcher.specs.declared.Done.{Done}
-use Rattle.dispatcher.specs.declared.Done.the-variants.{NoJob, Job}
-use Rattle.dispatcher.specs.declared.Closing.{Closing}
-use Rattle.dispatcher.specs.declared.Closing.the-variants.{Unclosed, BeforeReleases, AfterReleases}
+use Rattle.rules.specs.declared.Occurred.{Occurred}
+use Rattle.rules.specs.declared.Done.{Done}
+use Rattle.rules.specs.declared.Done.the-variants.{NoJob, Job}
+use Rattle.rules.specs.declared.Closing.{Closing}
+use Rattle.rules.specs.declared.Closing.the-variants.{Unclosed, BeforeReleases, AfterReleases}
 use Rattle.lines.specs.Lines.{interval-line, skipped-line, done-lines}
 use Rattle.record.specs.Run.{Moment}
 use Rattle.printing.specs.Types.{MaybeTask, NoTask, Task, JobEntry, IntervalEntry}

@@ -6,8 +6,8 @@ use Prim.Native.Nat.{ℕ, _*_, _≤_}
 use native.Mathlib.Omega.{arith}
 use lib.ListN.{length}
 use Rattle.table.specs.Tasks.{tasks-of}
-use Rattle.dispatcher.specs.Calls.{opened}
-use Rattle.guarantees.specs.Types.{Table, Dispatcher}
+use Rattle.rules.specs.Calls.{opened}
+use Rattle.guarantees.specs.Types.{Table, State}
 use Rattle.guarantees.proofs.Count.{at-most-three}
 use Rattle.record.specs.Types.{Release}
 use Rattle.record.specs.Files.{Releases, releases-of}
@@ -25,7 +25,7 @@ none-open table marks = refl
 pub record-bound : (s : List ℕ) (rs : List Release) → releases-of s ≡ Releases rs → length (record-bytes (moments-of s rs)) ≤ 99 * length rs
 record-bound s rs h =
     let a : Accepted s rs = accepted s rs h in
-    let d : Dispatcher = opened (tasks-of s .table) (tasks-of s .marked) in
+    let d : State = opened (tasks-of s .table) (tasks-of s .marked) in
     let f : Fed (budget (length rs)) d rs (moments-of s rs) = fed s rs a in
     omega (
       arith,

@@ -4,10 +4,10 @@ use mathlib.Core.Path.{_≡_, refl, sym, ap, _∙_, subst}
 use mathlib.Core.Bool.{Bool, true, false}
 use Prim.Native.Nat.{ℕ, _+_, _≤_}
 use native.Mathlib.Omega.{arith}
-use Rattle.dispatcher.specs.State.{at-clock}
-use Rattle.dispatcher.specs.Order.{highest-of}
-use Rattle.dispatcher.specs.Instant.{step-a, step-b, step-c, step-d, step-e, close, close-stage, over, closing, with-candidates, cancel, choose, at-a, at-b, at-e, at-f, at-g, new-at, occurred}
-use Rattle.guarantees.specs.Types.{MaybeTask, NoTask, Task, Interval, Phase, Between, Within, Dispatcher, Done, NoJob, Job, Closed, NoInterval, Span, Stage}
+use Rattle.rules.specs.With.{at-clock}
+use Rattle.rules.specs.Order.{highest-of}
+use Rattle.rules.specs.Instant.{step-a, step-b, step-c, step-d, step-e, close, close-stage, over, closing, with-candidates, cancel, choose, at-a, at-b, at-e, at-f, at-g, new-at, occurred}
+use Rattle.guarantees.specs.Types.{MaybeTask, NoTask, Task, Interval, Phase, Between, Within, State, Done, NoJob, Job, Closed, NoInterval, Span, Stage}
 use Rattle.guarantees.specs.History.{completes, begins}
 use Rattle.guarantees.specs.Reading.{total, is-begin, is-completion}
 use Rattle.guarantees.proofs.Cases.{d-cases, e-cases}
@@ -32,12 +32,12 @@ one-span NoInterval = refl
 one-span (Span e) = refl
 
 -- a
-a-open : (d : Dispatcher) (t : ℕ) (p : Phase) → d .phase ≡ p → is-open (step-a d t p .state .phase) ≡ is-open p
+a-open : (d : State) (t : ℕ) (p : Phase) → d .phase ≡ p → is-open (step-a d t p .state .phase) ≡ is-open p
 unfolding step-a
 a-open d t (Between next outgoing) e = ap is-open e
 a-open d t (Within i) e = refl
 
-a-closed : (d : Dispatcher) (t : ℕ) (p : Phase) → step-a d t p .closed ≡ NoInterval
+a-closed : (d : State) (t : ℕ) (p : Phase) → step-a d t p .closed ≡ NoInterval
 unfolding step-a
 a-closed d t (Between next outgoing) = refl
 a-closed d t (Within i) = refl
@@ -56,21 +56,21 @@ b-ends s t (Within i) e = go (over i) (s .closed) refl
     go false c x = unfold close-stage in omega (arith, same-span (s .closed), ap is-open e)
 
 -- c, d, e
-c-open : (d : Dispatcher) (new : ℕ) (p : Phase) → is-open (with-candidates d new p) ≡ is-open p
+c-open : (d : State) (new : ℕ) (p : Phase) → is-open (with-candidates d new p) ≡ is-open p
 unfolding with-candidates
 c-open d new (Between next outgoing) = refl
 c-open d new (Within i) = refl
 
-d-open : (d : Dispatcher) (new : ℕ) → is-open (step-d d new (d .phase) .phase) ≡ is-open (d .phase)
+d-open : (d : State) (new : ℕ) → is-open (step-d d new (d .phase) .phase) ≡ is-open (d .phase)
 unfolding cancel
 d-open d new = d-cases (λ x. is-open (x .phase) ≡ is-open (d .phase)) d new refl (λ i n u e s b. ap is-open (sym e))
 
-choose-open : (d : Dispatcher) (t : ℕ) (i : Interval) (q : MaybeTask) → is-open (choose d t i q .phase) ≡ 1
+choose-open : (d : State) (t : ℕ) (i : Interval) (q : MaybeTask) → is-open (choose d t i q .phase) ≡ 1
 unfolding choose
 choose-open d t i NoTask = refl
 choose-open d t i (Task q) = refl
 
-e-open : (d : Dispatcher) (t : ℕ) → is-open (step-e d t (d .phase) .phase) ≡ is-open (d .phase)
+e-open : (d : State) (t : ℕ) → is-open (step-e d t (d .phase) .phase) ≡ is-open (d .phase)
 e-open d t =
     e-cases (λ x. is-open (x .phase) ≡ is-open (d .phase)) d t refl (λ i e s u. choose-open d t i (highest-of d (d .jobs .ready)) ∙ ap is-open (sym e))
 
@@ -82,7 +82,7 @@ g-open t (Within i) (Within j) = omega arith
 g-open t (Between next outgoing) (Between x y) = omega arith
 g-open t (Between next outgoing) (Within j) = omega arith
 
-module _ (d : Dispatcher) (t set : ℕ) where
+module _ (d : State) (t set : ℕ) where
   to-b : is-span (at-b d t .closed) + is-open (at-b d t .state .phase) ≤ is-open (d .phase)
   unfolding at-b
   to-b = unfold at-a in omega (
@@ -96,17 +96,17 @@ module _ (d : Dispatcher) (t set : ℕ) where
   to-e : is-open (at-e d t set .phase) ≡ is-open (at-b d t .state .phase)
   unfolding at-e
   to-e =
-      let b : Dispatcher = at-b d t .state in
+      let b : State = at-b d t .state in
       let new : ℕ = new-at d t set in
-      let c : Dispatcher = step-c b t new in
-      let x : Dispatcher = step-d c new (c .phase) in
+      let c : State = step-c b t new in
+      let x : State = step-d c new (c .phase) in
       e-open x t ∙ d-open c new ∙ (unfold step-c in c-open b new (b .phase))
 
   pub ends-paid : is-interval (occurred d t set .closed) + is-open (at-g d t set .phase)
       ≤ is-open (d .phase) + total is-begin (begins t (at-f d t set .state .phase) (at-g d t set .phase))
   unfolding occurred at-f
   ends-paid =
-      let e : Dispatcher = at-e d t set in
+      let e : State = at-e d t set in
       omega (
         arith,
         to-b,
@@ -131,6 +131,6 @@ unfolding completes total
 is-job-total NoJob = refl
 is-job-total (Job e) = refl
 
-pub job-completes : (d : Dispatcher) (t set : ℕ) → is-job (occurred d t set .done) ≡ total is-completion (completes (at-a d t .done))
+pub job-completes : (d : State) (t set : ℕ) → is-job (occurred d t set .done) ≡ total is-completion (completes (at-a d t .done))
 unfolding occurred at-b
 job-completes d t set = ap is-job (b-done (at-a d t) t (at-a d t .state .phase)) ∙ is-job-total (at-a d t .done)

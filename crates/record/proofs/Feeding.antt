@@ -10,9 +10,9 @@ use lib.Dec.{eqb, ltb}
 use lib.ListN.{length}
 use Rattle.sets.specs.Sets.{member, difference}
 use Rattle.sets.specs.Laws.{by-test, clash, none, empty, difference-left, difference-right, difference-small, size-none}
-use Rattle.dispatcher.specs.Instant.{due, sooner, at-g, occurred}
-use Rattle.dispatcher.specs.Calls.{refusal, unknown, not-after, before-now, instant, served}
-use Rattle.guarantees.specs.Types.{Table, Clock, Unset, At, Dispatcher, Due, Never, Tick, Served, Step}
+use Rattle.rules.specs.Instant.{due, sooner, at-g, occurred}
+use Rattle.rules.specs.Calls.{refusal, unknown, not-after, before-now, instant, served}
+use Rattle.guarantees.specs.Types.{Table, Clock, Unset, At, State, Due, Never, Tick, Served, Step}
 use Rattle.guarantees.specs.History.{Event, Call, Instant, after-call, by-call, after-calls, history}
 use Rattle.guarantees.specs.Reading.{total, is-take, is-begin, is-completion}
 use Rattle.guarantees.proofs.Proper.{Fair}
@@ -25,6 +25,7 @@ use Rattle.guarantees.proofs.Totals.{begins-of, takes-of, completes-of}
 use Rattle.record.specs.Types.{Release}
 use Rattle.record.specs.Run.{Moment, moment, first-time, released-at, released-after, run}
 use Rattle.record.specs.FileClaim.{Feeds, answers, AllServed, jobs-done, intervals-ended, releases-skipped}
+use Rattle.record.specs.Advance.{AllEarly}
 use Rattle.record.proofs.Accepted.{Sorted}
 use Rattle.record.proofs.Released.{taken-or-skipped, NotBefore, After, fewer, Split, split, early}
 use Rattle.record.proofs.Ends.{is-open, ends-paid, job-completes}
@@ -47,6 +48,11 @@ first-ahead Unset rs t h e = refl
 first-ahead (At u) [] t h e = absurd (let z : _≡_ {A = ℕ} 0 1 = cc in omega arith)
 first-ahead (At u) (r ∷ rs) t h e = let x : r .time ≡ t = cc in lt-leb t u (omega arith)
 
+first-early : (present : ℕ) (rs : List Release) (t : ℕ) → Sorted present rs → first-time rs ≡ Tick t → t ≤ 2000000000
+unfolding Sorted
+first-early present [] t h e = absurd (let z : _≡_ {A = ℕ} 0 1 = cc in omega arith)
+first-early present (r ∷ rs) t h e = let x : r .time ≡ t = cc in omega (arith, h .1)
+
 first-fewer : (rs : List Release) (t : ℕ) → first-time rs ≡ Tick t → length (released-after t rs) < length rs
 first-fewer [] t e = absurd (let z : _≡_ {A = ℕ} 0 1 = cc in omega arith)
 first-fewer (r ∷ rs) t e = fewer t r rs (let x : r .time ≡ t = cc in x)
@@ -55,10 +61,11 @@ no-test : (w x y z : ℕ) (a b c e : Bool) → a ≡ false → b ≡ false → c
 no-test w x y z a b c e f g h i = rw (f, g, h, i)
 
 -- what a run of at most k instants has: its calls, what they answer, and how many events of a kind they have
-pub record Fed (k : ℕ) (d : Dispatcher) (rs : List Release) (ms : List Moment) : Type 0 where
+pub record Fed (k : ℕ) (d : State) (rs : List Release) (ms : List Moment) : Type 0 where
   pub calls : List Call
   pub feeds : Feeds d rs calls
   pub all-served : AllServed d calls
+  pub early : AllEarly calls
   pub gives : answers d calls ≡ ms
   pub within : length calls < k
   pub rests : due (after-calls d calls .phase) ≡ Never
@@ -66,16 +73,17 @@ pub record Fed (k : ℕ) (d : Dispatcher) (rs : List Release) (ms : List Moment)
   pub jobs : jobs-done ms ≡ total is-completion (history d calls)
   pub intervals : intervals-ended ms ≤ is-open (d .phase) + total is-begin (history d calls)
 
-run-end : (k : ℕ) (d : Dispatcher) (rs : List Release) → sooner (first-time rs) (due (d .phase)) ≡ Never → run (suc k) d rs ≡ []
+run-end : (k : ℕ) (d : State) (rs : List Release) → sooner (first-time rs) (due (d .phase)) ≡ Never → run (suc k) d rs ≡ []
 unfolding run
 run-end k d rs e = rw (e, run)
 
-fed-none : (k : ℕ) (d : Dispatcher) → due (d .phase) ≡ Never → Fed (suc k) d [] []
-unfolding Feeds AllServed answers after-calls history total jobs-done intervals-ended releases-skipped
+fed-none : (k : ℕ) (d : State) → due (d .phase) ≡ Never → Fed (suc k) d [] []
+unfolding Feeds AllServed AllEarly answers after-calls history total jobs-done intervals-ended releases-skipped
 fed-none k d e = record {
   calls = [];
   feeds = (refl, e);
   all-served = tt;
+  early = tt;
   gives = refl;
   within = omega arith;
   rests = e;
@@ -84,22 +92,22 @@ fed-none k d e = record {
   intervals = omega arith;
 }
 
-fed-end : (k : ℕ) (d : Dispatcher) (rs : List Release) → sooner (first-time rs) (due (d .phase)) ≡ Never → Fed (suc k) d rs (run (suc k) d rs)
+fed-end : (k : ℕ) (d : State) (rs : List Release) → sooner (first-time rs) (due (d .phase)) ≡ Never → Fed (suc k) d rs (run (suc k) d rs)
 fed-end k d rs e =
     let x : (first-time rs ≡ Never) × (due (d .phase) ≡ Never) = sooner-never (first-time rs) (due (d .phase)) e in
     subst (Fed (suc k) d rs) (sym (run-end k d rs e)) (subst (λ (qs : List Release). Fed (suc k) d qs []) (sym (none-first rs (x .0))) (fed-none k d (x .1)))
 
 module _ (table : Table) (marks : ℕ) (fair : Fair table marks) where
-  abbrev G : Dispatcher → Type 0
+  abbrev G : State → Type 0
   G d = Good table marks fair d
 
   -- a dispatcher that calls made, and the releases that are left
-  pub record Fit (d : Dispatcher) (rs : List Release) : Type 0 where
+  pub record Fit (d : State) (rs : List Release) : Type 0 where
     pub good : G d
     pub sorted : Sorted (table .present) rs
     pub ahead : Ahead (d .clock) rs
 
-  module _ (d : Dispatcher) (rs : List Release) (t : ℕ) (fit : Fit d rs) (next : sooner (first-time rs) (due (d .phase)) ≡ Tick t) where
+  module _ (d : State) (rs : List Release) (t : ℕ) (fit : Fit d rs) (next : sooner (first-time rs) (due (d .phase)) ≡ Tick t) where
     abbrev set : ℕ
     set = released-at t rs
 
@@ -133,6 +141,13 @@ module _ (table : Table) (marks : ℕ) (fair : Fair table marks) where
     after-last =
         ⊎-elim (first-ahead (d .clock) rs t (fit .ahead))
         (λ e. not-late table marks fair (d .clock) t (due-times table marks fair d t (fit .good) e .after))
+        (sooner-is (first-time rs) (due (d .phase)) t next)
+
+    -- nor is an instant late
+    not-far : t ≤ 2000000000
+    not-far =
+        ⊎-elim (first-early (table .present) rs t (fit .sorted))
+        (λ e. omega (arith, due-times table marks fair d t (fit .good) e .bound, debt-less d (fit .good .sound)))
         (sooner-is (first-time rs) (due (d .phase)) t next)
 
     -- and 15: no row is met
@@ -175,32 +190,33 @@ module _ (table : Table) (marks : ℕ) (fair : Fair table marks) where
 
     fed-more : (k : ℕ) (ms : List Moment) → Fed k (at-g d t (released-at t rs)) (released-after t rs) ms
         → Fed (suc k) d rs (record { time = t; occurred = occurred d t (released-at t rs) } ∷ ms)
-    unfolding Feeds AllServed answers after-calls history by-call jobs-done intervals-ended releases-skipped
+    unfolding Feeds AllServed AllEarly answers after-calls history by-call jobs-done intervals-ended releases-skipped
     fed-more k ms h =
-        let g : Dispatcher = at-g d t set in
+        let g : State = at-g d t set in
         let es : List Event = history g (h .calls) in
         record {
           calls = Instant t set ∷ h .calls;
-          feeds = (t, next, refl, subst (λ (x : Dispatcher). Feeds x rest (h .calls)) (sym state-is) (h .feeds));
-          all-served = (no-row, subst (λ (x : Dispatcher). AllServed x (h .calls)) (sym state-is) (h .all-served));
+          feeds = (t, next, refl, subst (λ (x : State). Feeds x rest (h .calls)) (sym state-is) (h .feeds));
+          all-served = (no-row, subst (λ (x : State). AllServed x (h .calls)) (sym state-is) (h .all-served));
+          early = (not-far, h .early);
           gives = rw (ap (λ (s : Step). s .answer) step-is, state-is) (ap (λ (l : List Moment). record { time = t; occurred = occurred d t set } ∷ l) (h .gives));
           within = omega (arith, h .within);
-          rests = ap (λ (x : Dispatcher). due (after-calls x (h .calls) .phase)) state-is ∙ h .rests;
+          rests = ap (λ (x : State). due (after-calls x (h .calls) .phase)) state-is ∙ h .rests;
           releases = rw (is-served, state-is) (omega (arith, takes-of d t set es, taken-or-skipped d t set, parts .sizes, size-none, h .releases));
           jobs = rw (is-served, state-is) (omega (arith, completes-of d t set es, job-completes d t set, h .jobs));
           intervals = rw (is-served, state-is) (omega (arith, begins-of d t set es, ends-paid d t set, h .intervals));
         }
 
-  pub feeding : (k : ℕ) (d : Dispatcher) (rs : List Release) → Fit d rs → mass d + 25 * length rs < k + debt d → Fed k d rs (run k d rs)
+  pub feeding : (k : ℕ) (d : State) (rs : List Release) → Fit d rs → mass d + 25 * length rs < k + debt d → Fed k d rs (run k d rs)
   feeding zero d rs f l = absurd (omega (arith, debt-less d (f .good .sound)))
   feeding (suc k) d rs f l = go (sooner (first-time rs) (due (d .phase))) refl
       (λ t e. feeding k (at-g d t (released-at t rs)) (released-after t rs) (fit-next d rs t f e) (omega (arith, nearer d rs t f e)))
     where
       go : (x : Due) → sooner (first-time rs) (due (d .phase)) ≡ x
           → ((t : ℕ) → sooner (first-time rs) (due (d .phase)) ≡ Tick t
-          → let g : Dispatcher = at-g d t (released-at t rs) in Fed k g (released-after t rs) (run k g (released-after t rs)))
+          → let g : State = at-g d t (released-at t rs) in Fed k g (released-after t rs) (run k g (released-after t rs)))
           → Fed (suc k) d rs (run (suc k) d rs)
       go Never e h = fed-end k d rs e
       go (Tick t) e h =
-          let g : Dispatcher = at-g d t (released-at t rs) in
+          let g : State = at-g d t (released-at t rs) in
           subst (Fed (suc k) d rs) (sym (run-next d rs t f e k)) (fed-more d rs t f e k (run k g (released-after t rs)) (h t e))

@@ -6,13 +6,14 @@ use native.Mathlib.Omega.{arith}
 use lib.ListN.{length}
 use Rattle.sets.specs.Laws.{size-none}
 use Rattle.table.specs.Tasks.{tasks-of}
-use Rattle.dispatcher.specs.Instant.{due, sooner}
-use Rattle.dispatcher.specs.Calls.{opened}
-use Rattle.guarantees.specs.Types.{Dispatcher, Due, Never, Tick}
+use Rattle.rules.specs.Instant.{due, sooner}
+use Rattle.rules.specs.Calls.{opened}
+use Rattle.guarantees.specs.Types.{State, Due, Never, Tick}
 use Rattle.guarantees.specs.History.{Call, Instant, after-call, after-calls, history, EmptySets}
 use Rattle.guarantees.specs.Claim.{AllCompleted}
 use Rattle.guarantees.proofs.Invariant.{mass, good-opened}
 use Rattle.record.specs.Types.{Release}
+use Rattle.record.specs.Files.{Releases, releases-of}
 use Rattle.record.specs.Run.{first-time, released-at, released-after, budget, moments-of}
 use Rattle.record.specs.FileClaim.{Feeds, FedClaim, Demand3Files}
 use Rattle.record.proofs.Accepted.{Accepted, accepted}
@@ -21,14 +22,14 @@ use Rattle.record.proofs.Feeding.{Fit, Fed, feeding}
 
 -- ---- there is one way to feed a file
 
-not-over : (d : Dispatcher) (rs : List Release) (t : ℕ) → rs ≡ [] → due (d .phase) ≡ Never → sooner (first-time rs) (due (d .phase)) ≡ Tick t → ⊥
+pub not-over : (d : State) (rs : List Release) (t : ℕ) → rs ≡ [] → due (d .phase) ≡ Never → sooner (first-time rs) (due (d .phase)) ≡ Tick t → ⊥
 unfolding sooner
 not-over d rs t e h x =
     let y : Never ≡ Tick t = subst (λ (u : Due). sooner Never u ≡ Tick t) h (subst (λ (qs : List Release). sooner (first-time qs) (due (d .phase)) ≡ Tick t) e x) in
     let z : _≡_ {A = ℕ} 0 1 = cc in
     omega arith
 
-one-feed : (cs es : List Call) (d : Dispatcher) (rs : List Release) → Feeds d rs cs → Feeds d rs es → cs ≡ es
+one-feed : (cs es : List Call) (d : State) (rs : List Release) → Feeds d rs cs → Feeds d rs es → cs ≡ es
 unfolding Feeds
 one-feed [] [] d rs h g = refl
 one-feed [] (e ∷ es) d rs h g = absurd (not-over d rs (g .0) (h .0) (h .1) (g .1))
@@ -47,7 +48,7 @@ one-feed (c ∷ cs) (e ∷ es) d rs h g =
 -- ---- the file's run
 
 module _ (s : List ℕ) (rs : List Release) (a : Accepted s rs) where
-  abbrev d : Dispatcher
+  abbrev d : State
   d = opened (tasks-of s .table) (tasks-of s .marked)
 
   fit : Fit (tasks-of s .table) (tasks-of s .marked) (fair s rs a) (opened (tasks-of s .table) (tasks-of s .marked)) rs
@@ -81,11 +82,15 @@ module _ (s : List ℕ) (rs : List Release) (a : Accepted s rs) where
     an-entry-each = fed .jobs ∙ completed .as-many;
   }
 
+pub fed-file : (s : List ℕ) (rs : List Release) → releases-of s ≡ Releases rs
+    → Fed (budget (length rs)) (opened (tasks-of s .table) (tasks-of s .marked)) rs (moments-of s rs)
+fed-file s rs h = fed s rs (accepted s rs h)
+
 pub demand-3-files : Demand3Files
 unfolding Demand3Files
 demand-3-files s rs h =
     let a : Accepted s rs = accepted s rs h in
-    let d : Dispatcher = opened (tasks-of s .table) (tasks-of s .marked) in
+    let d : State = opened (tasks-of s .table) (tasks-of s .marked) in
     let f : Fed (budget (length rs)) d rs (moments-of s rs) = fed s rs a in
     record {
       opens = opens s rs a;

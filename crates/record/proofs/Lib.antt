@@ -1,7 +1,11 @@
 pub mod Reading
 pub mod Cursor
 pub mod Writing
+pub mod Testing
+pub mod Laying
+pub mod Occurring
 pub mod Running
+pub mod Parts
 pub mod Accepted
 pub mod Released
 pub mod Lengths

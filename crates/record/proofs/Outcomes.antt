@@ -13,16 +13,17 @@ use Rattle.words.specs.Words.{numberAt}
 use Rattle.entries.specs.Entries.{laid, entry-at, release-at}
 use Rattle.table.specs.Tasks.{behind-tasks, task-refusal, with-task, with-marked, tasks-from, tasks-of}
 use Rattle.table.proofs.Laws.{task-whole}
-use Rattle.dispatcher.specs.Calls.{opened}
+use Rattle.rules.specs.Calls.{opened}
 use Rattle.table.specs.declared.Table.{Table}
-use Rattle.record.specs.Types.{TaskParameters, Release, Entry, Malformed, TaskEntry, ReleaseEntry, Last, NoneBefore, Before, Cursor, Tasks, Refusal, NoRefusal, Alone, AtEntry, RefusedInput, TooShort, Recorded}
+use Rattle.record.specs.Types.{TaskParameters, Release, Entry, Malformed, TaskEntry, ReleaseEntry, Last, NoneBefore, Before, Tasks, Refusal, NoRefusal, Alone, AtEntry, RefusedInput, TooShort, Recorded}
 use Rattle.record.specs.Files.{Checked, Rejected, Releases, refusal-of, with-release, release-refusal, releases-from, releases-behind, releases-of}
 use Rattle.record.specs.Listed.{listed, releases-at}
 use Rattle.record.specs.Run.{Written, Wrote, written, written-of, file, moments-of, record-bytes, run, budget}
-use Rattle.record.specs.Advance.{run-bytes, budget-at, Runs, ReadWhole}
+use Rattle.record.specs.Advance.{start, Served, run-bytes, budget-at, Runs, ReadWhole}
 use Rattle.record.proofs.Reading.{release-whole, few, passed-on, takes}
 use Rattle.record.proofs.Cursor.{here, none}
 use Rattle.record.proofs.Bound.{record-bound}
+use Rattle.record.proofs.FileClaim.{fed-file}
 
 -- ---- the outcomes
 
@@ -108,6 +109,13 @@ module _ (s : List ℕ) (present : ℕ) where
           record { list = rw (e, releases-from) (ap Releases (sym (none s at (omega arith)))); small = omega arith }
       go-end false e rec = go-entry (entry-at s at) (leb-false (length s) at e) refl rec
 
+-- ---- no instant of its run is refused, and none is late
+
+all-served : (s : List ℕ) → releases-of s ≡ Releases (releases-at s (tasks-of s .end)) → Served s (start (tasks-of s))
+all-served s h =
+    let f = fed-file s (releases-at s (tasks-of s .end)) h in
+    record { calls = f .calls; feeds = f .feeds; all-served = f .all-served; early = f .early }
+
 -- ---- an input whose task entries were read
 
 -- the task entries end within the input
@@ -142,9 +150,6 @@ module _ (s : List ℕ) (k : Tasks) (read : ReadWhole s k) where
       rw (ne-eqb (length s) 0 (read .some), sym (read .tasks))
       (ap (releases-behind s k) (read .none-refused))
 
-  abbrev start : Cursor
-  start = record { state = opened (k .table) (k .marked); at = k .end }
-
   module _ (h : refusal-of (releases-from (length s) s (k .end) (k .table .present) NoneBefore 0) ≡ NoRefusal) where
     all : Accepted s (k .end) 0 (releases-from (length s) s (k .end) (k .table .present) NoneBefore 0)
     all = accepted s (k .table .present) (length s) (k .end) NoneBefore 0 (omega arith) (omega arith) h
@@ -152,19 +157,20 @@ module _ (s : List ℕ) (k : Tasks) (read : ReadWhole s k) where
     listed-all : releases-of s ≡ Releases (releases-at s (k .end))
     listed-all = checked-from ∙ all .list
 
-    same-run : record-bytes (moments-of s (releases-at s (k .end))) ≡ run-bytes s start (budget-at s start)
+    same-run : record-bytes (moments-of s (releases-at s (k .end))) ≡ run-bytes s (start k) (budget-at s (start k))
     unfolding moments-of
     same-run = rw (sym (read .tasks), releases-length s (k .end))
 
-    pub runs : Runs s start
+    pub runs : Runs s (start k)
     unfolding tasks-of
     runs = record {
       within = rw (read .tasks) (tasks-within (length s) s 0 _ 0 (omega arith));
       few = omega (arith, all .small);
       short = omega (arith, ap length same-run, releases-length s (k .end), record-bound s (releases-at s (k .end)) listed-all);
+      served = subst (λ (x : Tasks). Served s (start x)) (sym (read .tasks)) (all-served s (subst (λ (x : Tasks). releases-of s ≡ Releases (releases-at s (x .end))) (read .tasks) listed-all));
     }
 
-    pub whole-file : (lent : List ℕ) → file s lent ≡ written (run-bytes s start (budget-at s start)) lent
+    pub whole-file : (lent : List ℕ) → file s lent ≡ written (run-bytes s (start k) (budget-at s (start k))) lent
     unfolding file
     whole-file lent = ap (written-of s lent) listed-all ∙ ap (λ (b : List ℕ). written b lent) same-run
 

@@ -1,16 +1,18 @@
 -- `releases-from` by cases, one law for each way that a turn of the reading goes. Assumes nothing.
-use mathlib.Core.Path.{_≡_, refl, sym, ap, _∙_}
-use mathlib.Core.Bool.{true, false}
+use mathlib.Core.Path.{_≡_, refl, sym, ap, ap₂, _∙_}
+use mathlib.Core.Bool.{Bool, true, false, _&&_}
 use mathlib.Core.List.{List}
 use Prim.Native.Nat.{ℕ, zero, suc, _+_, _-_, _≤_, _<_}
 use native.Mathlib.Omega.{arith}
-use borrow.Author.Tests.{leb-true, leb-false, le-leb, lt-leb}
+use native.Mathlib.Nat.{add-zero}
+use borrow.Author.Tests.{eqb-true, eq-eqb, leb-true, leb-false, le-leb, lt-leb}
 use lib.Dec.{eqb, leb, ltb}
-use lib.ListN.{length}
+use lib.ListN.{length, take, drop, length-drop}
 use Rattle.sets.specs.Sets.{member}
-use Rattle.sets.specs.Laws.{by-test}
+use Rattle.sets.specs.Laws.{by-test, both, left, right, clash}
 use Rattle.words.specs.Words.{numberAt}
-use Rattle.entries.specs.Entries.{entry-at, task-at}
+use Rattle.words.specs.Laws.{rest-whole, read-in-rest}
+use Rattle.entries.specs.Entries.{entry-at, task-at, release-at}
 use Rattle.record.specs.Types.{TaskParameters, Release, Entry, Malformed, TaskEntry, ReleaseEntry, Last, NoneBefore, Before, Refusal, NoRefusal, AtEntry}
 use Rattle.record.specs.Files.{Checked, Rejected, Releases, rises, refusal-of, with-release, release-refusal, releases-from}
 
@@ -29,6 +31,56 @@ release-whole s at r e =
 
     task : (p : TaskParameters) → TaskEntry p ≡ ReleaseEntry r → ⊥
     task p h = let z : _≡_ {A = ℕ} 0 1 = cc in omega arith
+
+-- and its kind is 2
+pub release-kind : (s : List ℕ) (at : ℕ) (r : Release) → entry-at s at ≡ ReleaseEntry r → numberAt 1 s at ≡ 2
+unfolding entry-at
+release-kind s at r e =
+    by-test (eqb (numberAt 1 s at) 1)
+    (λ a. by-test (leb 16 (length s - at)) (λ b. absurd (task (task-at s at) (rw (a, b) at e))) (λ b. absurd (other 1 (rw (a, b) at e))))
+    (λ a. by-test (eqb (numberAt 1 s at) 2)
+    (λ b. eqb-true (numberAt 1 s at) 2 b)
+    (λ b. absurd (other 2 (rw (a, b) at e))))
+  where
+    other : (n : ℕ) → Malformed n ≡ ReleaseEntry r → ⊥
+    other n h = let z : _≡_ {A = ℕ} 0 1 = cc in omega arith
+
+    task : (p : TaskParameters) → TaskEntry p ≡ ReleaseEntry r → ⊥
+    task p h = let z : _≡_ {A = ℕ} 0 1 = cc in omega arith
+
+-- a whole release at the front of a slice
+abbrev pub release-front : List ℕ → Bool
+release-front s = leb 10 (length s) && eqb (numberAt 1 s 0) 2
+
+-- the rest of a slice from a place on
+abbrev rest-from : List ℕ → ℕ → List ℕ
+rest-from s at = take (length s - at) (drop at s)
+
+module _ (s : List ℕ) (at : ℕ) where
+  front-is : release-front (rest-from s at) ≡ (leb 10 (length s - at) && eqb (numberAt 1 s at) 2)
+  front-is =
+      ap₂ (λ (n k : ℕ). leb 10 n && eqb k 2) (ap length (rest-whole at s) ∙ length-drop at s)
+      (read-in-rest 1 at 0 s ∙ ap (numberAt 1 s) (add-zero at))
+
+  pub front-whole : release-front (rest-from s at) ≡ true → 10 ≤ length s - at
+  front-whole h = leb-true 10 (length s - at) (left (leb 10 (length s - at)) (eqb (numberAt 1 s at) 2) (sym front-is ∙ h))
+
+  pub front-release : release-front (rest-from s at) ≡ true → entry-at s at ≡ ReleaseEntry (release-at s at)
+  unfolding entry-at
+  front-release h =
+      let kind : numberAt 1 s at ≡ 2 = eqb-true (numberAt 1 s at) 2 (right (leb 10 (length s - at)) (eqb (numberAt 1 s at) 2) (sym front-is ∙ h)) in
+      rw (kind, left (leb 10 (length s - at)) (eqb (numberAt 1 s at) 2) (sym front-is ∙ h))
+
+  pub front-other : release-front (rest-from s at) ≡ false → (r : Release) → entry-at s at ≡ ReleaseEntry r → ⊥
+  front-other h r e =
+      clash (leb 10 (length s - at) && eqb (numberAt 1 s at) 2)
+      (both (leb 10 (length s - at)) (eqb (numberAt 1 s at) 2) (le-leb 10 (length s - at) (release-whole s at r e)) (eq-eqb (numberAt 1 s at) 2 (release-kind s at r e)))
+      (sym front-is ∙ h)
+
+  -- the release, read from the rest
+  pub release-read : (r : Release) → r .task ≡ numberAt 1 (rest-from s at) 1 → r .time ≡ numberAt 8 (rest-from s at) 2 → r ≡ release-at s at
+  unfolding release-at
+  release-read r e f = ap₂ (λ (n t : ℕ). record { task = n; time = t }) (e ∙ read-in-rest 1 at 1 s) (f ∙ read-in-rest 8 at 2 s)
 
 module _ (s : List ℕ) (at present : ℕ) (last : Last) (count : ℕ) where
   pub at-end : (k : ℕ) → length s ≤ at → refusal-of (releases-from k s at present last count) ≡ NoRefusal

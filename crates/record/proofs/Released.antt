@@ -11,8 +11,8 @@ use lib.Dec.{eqb, ltb}
 use lib.ListN.{length}
 use Rattle.sets.specs.Sets.{member, difference, intersection, insert}
 use Rattle.sets.specs.Laws.{bit, by-test, clash, left, right, one-of, count-sum, count-one, none, size, inserted, insert-out, difference-member, intersection-member, member-task}
-use Rattle.dispatcher.specs.Instant.{at-b, new-at, taken, skipped, occurred}
-use Rattle.guarantees.specs.Types.{Dispatcher}
+use Rattle.rules.specs.Instant.{at-b, new-at, taken, skipped, occurred}
+use Rattle.guarantees.specs.Types.{State}
 use Rattle.record.specs.Types.{Release, Before}
 use Rattle.record.specs.Files.{rises}
 use Rattle.record.specs.Run.{released-from, released-at, released-after}
@@ -35,7 +35,7 @@ one-more n s l h =
     apart true b h = rw (h refl)
     apart false b h = omega arith
 
-pub taken-or-skipped : (d : Dispatcher) (t set : ℕ) → size set ≡ size (new-at d t set) + size (occurred d t set .skipped)
+pub taken-or-skipped : (d : State) (t set : ℕ) → size set ≡ size (new-at d t set) + size (occurred d t set .skipped)
 unfolding occurred new-at taken skipped size
 taken-or-skipped d t set =
     let p : ℕ = at-b d t .state .jobs .pending in

@@ -1,5 +1,5 @@
 -- A run along its instants: what is laid so far and what is to come make the whole record. Assumes nothing.
-use mathlib.Core.Path.{_≡_, refl, sym, ap, _∙_}
+use mathlib.Core.Path.{_≡_, refl, sym, ap, _∙_, subst}
 use mathlib.Core.Bool.{Bool, true, false, cond, false≢true}
 use mathlib.Core.List.{List, [], _∷_, _++_, append-assoc, append-nil}
 use Prim.Native.Nat.{ℕ, zero, suc, _+_, _-_, _*_, _≤_, _<_}
@@ -7,14 +7,18 @@ use native.Mathlib.Omega.{arith}
 use lib.ListN.{length, length-append}
 use Rattle.sets.specs.Sets.{member}
 use Rattle.sets.specs.Laws.{by-test}
-use Rattle.entries.specs.Entries.{laid, skipped-bytes}
-use Rattle.dispatcher.specs.Instant.{due, sooner}
-use Rattle.dispatcher.specs.Calls.{instant}
-use Rattle.record.specs.Types.{Cursor, Advanced, Release, Step, Dispatcher, Due, Never, Tick, Done, NoJob, Job, Closing, Unclosed, BeforeReleases, AfterReleases, Answer, Refused, Served}
+use Rattle.entries.specs.Entries.{laid, skipped-bytes, interval-bytes}
+use Rattle.rules.specs.Instant.{due, sooner, at-g, occurred}
+use Rattle.rules.specs.Calls.{refusal, instant, served}
+use Rattle.guarantees.specs.History.{Call, Instant, after-call}
+use Rattle.record.specs.Types.{Release, State, Never, Tick, Done, NoJob, Job, Closing, Unclosed, BeforeReleases, AfterReleases, Occurred}
 use Rattle.record.specs.Listed.{releases-at}
-use Rattle.record.specs.Run.{Moment, moment, moment-bytes, record-bytes, done-bytes, skips-bytes, run, first-time, released-at, released-after}
-use Rattle.record.specs.Advance.{AdvancedTo, Laid, before-bytes, after-bytes, answer-bytes, run-bytes, most, Room, Ran}
-use Rattle.record.proofs.Writing.{laid-none, laid-both, served-size, job-size, interval-size, skipped-size}
+use Rattle.record.specs.Run.{Moment, moment-bytes, record-bytes, done-bytes, skips-bytes, closed-bytes, run, first-time, released-at, released-after}
+use Rattle.record.specs.FileClaim.{Feeds, AllServed}
+use Rattle.record.specs.Advance.{Cursor, AllEarly, Served, Laid, run-bytes, most}
+use Rattle.record.specs.Moments.{served-bytes}
+use Rattle.record.proofs.FileClaim.{not-over}
+use Rattle.record.proofs.Writing.{laid-none, laid-both, job-size, interval-size, skipped-size}
 
 -- ---- what one instant leaves at most
 
@@ -23,11 +27,11 @@ unfolding done-bytes
 done-most NoJob = omega arith
 done-most (Job e) = omega (arith, job-size e)
 
-closed-most : (c : Closing) → length (before-bytes c) + length (after-bytes c) ≤ 24
-unfolding before-bytes after-bytes
-closed-most Unclosed = omega arith
-closed-most (BeforeReleases e) = omega (arith, interval-size e)
-closed-most (AfterReleases e) = omega (arith, interval-size e)
+closed-most : (c : Closing) (skips : List ℕ) → length (closed-bytes c skips) ≤ 24 + length skips
+unfolding closed-bytes
+closed-most Unclosed skips = omega arith
+closed-most (BeforeReleases e) skips = omega (arith, interval-size e, length-append (interval-bytes e) skips)
+closed-most (AfterReleases e) skips = omega (arith, interval-size e, length-append skips (interval-bytes e))
 
 skips-most : (k set t : ℕ) → length (skips-bytes k set t) ≤ 10 * k
 unfolding skips-bytes
@@ -37,17 +41,13 @@ skips-most (suc k) set t =
     (λ e. rw e (omega (arith, skips-most k set t, length-append (skips-bytes k set t) (skipped-bytes k t), skipped-size k t)))
     (λ e. rw e (omega (arith, skips-most k set t, length-append (skips-bytes k set t) [])))
 
-pub answer-most : (t : ℕ) (a : Answer) → length (answer-bytes t a) ≤ most
-answer-most t (Refused n) = unfold answer-bytes record-bytes in omega arith
-answer-most t (Served o) =
-    omega (arith, served-size t o, done-most (o .done), closed-most (o .closed), skips-most 32 (o .skipped) t)
+pub served-most : (t : ℕ) (o : Occurred) → length (served-bytes t o) ≤ most
+unfolding served-bytes moment-bytes
+served-most t o =
+    let skips : List ℕ = skips-bytes 32 (o .skipped) t in
+    omega (arith, length-append (done-bytes (o .done)) (closed-bytes (o .closed) skips), done-most (o .done), closed-most (o .closed) skips, skips-most 32 (o .skipped) t)
 
 -- ---- one instant of a run
-
-record-append : (a b : List Moment) → record-bytes (a ++ b) ≡ record-bytes a ++ record-bytes b
-unfolding record-bytes
-record-append [] b = refl
-record-append (m ∷ a) b = ap (λ (x : List ℕ). moment-bytes m ++ x) (record-append a b) ∙ sym (append-assoc (moment-bytes m) (record-bytes a) (record-bytes b))
 
 module _ (s : List ℕ) (c : Cursor) where
   pub over : (k : ℕ) → sooner (first-time (releases-at s (c .at))) (due (c .state .phase)) ≡ Never → run-bytes s c k ≡ []
@@ -55,20 +55,22 @@ module _ (s : List ℕ) (c : Cursor) where
   over zero e = refl
   over (suc k) e = rw (e, run)
 
-  pub goes-on : (k t : ℕ) (a : Advanced) → sooner (first-time (releases-at s (c .at))) (due (c .state .phase)) ≡ Tick t → AdvancedTo s c t a
-      → run-bytes s c (suc k) ≡ answer-bytes t (a .answer) ++ run-bytes s (a .cursor) k
-  unfolding answer-bytes
-  goes-on k t a e h =
-      let d : Dispatcher = c .state in
+  -- the cursor after an instant that is served
+  abbrev pub next-cursor : ℕ → ℕ → Cursor
+  next-cursor t at = record { state = at-g (c .state) t (released-at t (releases-at s (c .at))); at = at }
+
+  pub goes-on : (k t at : ℕ) → sooner (first-time (releases-at s (c .at))) (due (c .state .phase)) ≡ Tick t
+      → refusal (c .state) t (released-at t (releases-at s (c .at))) ≡ 0 → releases-at s at ≡ released-after t (releases-at s (c .at))
+      → run-bytes s c (suc k) ≡ served-bytes t (occurred (c .state) t (released-at t (releases-at s (c .at)))) ++ run-bytes s (next-cursor t at) k
+  unfolding served-bytes record-bytes instant served
+  goes-on k t at e f h =
+      let d : State = c .state in
       let rs : List Release = releases-at s (c .at) in
-      let x : Step = instant d t (released-at t rs) in
-      ap record-bytes (one d rs k t e)
-      ∙ record-append (moment t (x .answer)) (run k (x .state) (released-after t rs))
-      ∙ rw (sym (h .step), sym (h .rest))
+      ap record-bytes (one d rs k t e f) ∙ rw (sym h)
     where
-      one : (d : Dispatcher) (rs : List Release) (k t : ℕ) → sooner (first-time rs) (due (d .phase)) ≡ Tick t
-          → run (suc k) d rs ≡ moment t (instant d t (released-at t rs) .answer) ++ run k (instant d t (released-at t rs) .state) (released-after t rs)
-      one d rs k t e = unfold run in rw (e, run)
+      one : (d : State) (rs : List Release) (k t : ℕ) → sooner (first-time rs) (due (d .phase)) ≡ Tick t → refusal d t (released-at t rs) ≡ 0
+          → run (suc k) d rs ≡ record { time = t; occurred = occurred d t (released-at t rs) } ∷ run k (at-g d t (released-at t rs)) (released-after t rs)
+      one d rs k t e f = unfold run instant served in rw (e, run, f)
 
 -- ---- how far a run has come
 
@@ -89,40 +91,48 @@ module _ (s whole before : List ℕ) (keep : Bool) (c : Cursor) (size left : ℕ
       let w : p .done ≡ whole = sym (append-nil (p .done)) ∙ ap (λ (x : List ℕ). p .done ++ x) (sym e) ∙ p .rest in
       (p .size-is ∙ ap length w, λ k. p .kept k ∙ ap (λ (x : List ℕ). laid 0 x before) w)
 
-  module _ (t : ℕ) (a : Advanced) (some : left ≡ 0 → ⊥) (next : sooner (first-time (releases-at s (c .at))) (due (c .state .phase)) ≡ Tick t) (h : AdvancedTo s c t a) where
-    parts : p .done ++ (answer-bytes t (a .answer) ++ run-bytes s (a .cursor) (left - 1)) ≡ whole
+  module _ (t at : ℕ) (some : left ≡ 0 → ⊥) (next : sooner (first-time (releases-at s (c .at))) (due (c .state .phase)) ≡ Tick t)
+      (served : refusal (c .state) t (released-at t (releases-at s (c .at))) ≡ 0) (h : releases-at s at ≡ released-after t (releases-at s (c .at))) where
+    abbrev bytes : List ℕ
+    bytes = served-bytes t (occurred (c .state) t (released-at t (releases-at s (c .at))))
+
+    abbrev after : Cursor
+    after = next-cursor s c t at
+
+    parts : p .done ++ (bytes ++ run-bytes s after (left - 1)) ≡ whole
     parts =
-        ap (λ (x : List ℕ). p .done ++ x) (sym (goes-on s c (left - 1) t a next h))
+        ap (λ (x : List ℕ). p .done ++ x) (sym (goes-on s c (left - 1) t at next served h))
         ∙ ap (λ (n : ℕ). p .done ++ run-bytes s c n) (less left some) ∙ p .rest
       where
         less : (n : ℕ) → (n ≡ 0 → ⊥) → suc (n - 1) ≡ n
         less n f = omega arith
 
     -- there is room behind what is laid
-    pub room : length whole ≤ length before → size + length (answer-bytes t (a .answer)) ≤ length out
+    pub room : length whole ≤ length before → size + length (served-bytes t (occurred (c .state) t (released-at t (releases-at s (c .at))))) ≤ length out
     room l =
         omega (
           arith,
           p .size-is,
           p .same,
           ap length parts,
-          length-append (p .done) (answer-bytes t (a .answer) ++ run-bytes s (a .cursor) (left - 1)),
-          length-append (answer-bytes t (a .answer)) (run-bytes s (a .cursor) (left - 1)),
+          length-append (p .done) (bytes ++ run-bytes s after (left - 1)),
+          length-append bytes (run-bytes s after (left - 1)),
         )
 
-    pub more : (place end : ℕ) (out′ : List ℕ) → Laid place (answer-bytes t (a .answer)) out end out′ → (keep ≡ true → place ≡ size) → (keep ≡ true → length whole ≤ length before)
-        → length out′ ≡ length out → Progress s whole before keep (a .cursor) (size + (end - place)) (left - 1) out′
+    pub more : (place end : ℕ) (out′ : List ℕ) → Laid place (served-bytes t (occurred (c .state) t (released-at t (releases-at s (c .at))))) out end out′
+        → (keep ≡ true → place ≡ size) → (keep ≡ true → length whole ≤ length before)
+        → length out′ ≡ length out → Progress s whole before keep (next-cursor s c t at) (size + (end - place)) (left - 1) out′
     more place end out′ x y fit same = record {
-      done = p .done ++ answer-bytes t (a .answer);
-      size-is = omega (arith, x .place-is, p .size-is, length-append (p .done) (answer-bytes t (a .answer)));
-      rest = append-assoc (p .done) (answer-bytes t (a .answer)) (run-bytes s (a .cursor) (left - 1)) ∙ parts;
+      done = p .done ++ bytes;
+      size-is = omega (arith, x .place-is, p .size-is, length-append (p .done) bytes);
+      rest = append-assoc (p .done) bytes (run-bytes s after (left - 1)) ∙ parts;
       kept = λ e.
           x .holds
-          ∙ ap (λ (n : ℕ). laid n (answer-bytes t (a .answer)) out) (y e ∙ p .size-is ∙ plus (length (p .done)))
-          ∙ ap (laid (0 + length (p .done)) (answer-bytes t (a .answer))) (p .kept e)
-          ∙ laid-both 0 (p .done) (answer-bytes t (a .answer)) before (omega arith);
+          ∙ ap (λ (n : ℕ). laid n bytes out) (y e ∙ p .size-is ∙ plus (length (p .done)))
+          ∙ ap (laid (0 + length (p .done)) bytes) (p .kept e)
+          ∙ laid-both 0 (p .done) bytes before (omega arith);
       same = same ∙ p .same;
-      few = omega (arith, x .place-is, answer-most t (a .answer), p .few, positive left some);
+      few = omega (arith, x .place-is, served-most t (occurred (c .state) t (released-at t (releases-at s (c .at)))), p .few, positive left some);
     }
       where
         plus : (n : ℕ) → n ≡ 0 + n
@@ -130,3 +140,57 @@ module _ (s whole before : List ℕ) (keep : Bool) (c : Cursor) (size left : ℕ
 
         positive : (n : ℕ) → (n ≡ 0 → ⊥) → most * (n - 1) + most ≤ most * n
         positive n f = omega arith
+
+-- ---- no instant of a run is refused, and none is late
+
+same : (a b : ℕ) → Tick a ≡ Tick b → a ≡ b
+same a b e = cc
+
+module _ (s : List ℕ) (c : Cursor) (v : Served s c) (t at : ℕ) (next : sooner (first-time (releases-at s (c .at))) (due (c .state .phase)) ≡ Tick t)
+    (h : releases-at s at ≡ released-after t (releases-at s (c .at))) where
+  abbrev d : State
+  d = c .state
+
+  abbrev set : ℕ
+  set = released-at t (releases-at s (c .at))
+
+  is-g : refusal (c .state) t (released-at t (releases-at s (c .at))) ≡ 0 → after-call (c .state) (Instant t (released-at t (releases-at s (c .at)))) ≡ at-g (c .state) t (released-at t (releases-at s (c .at)))
+  unfolding after-call instant served
+  is-g e = rw (e, after-call)
+
+  one : (cs : List Call) → AllServed (c .state) (Instant t (released-at t (releases-at s (c .at))) ∷ cs) → AllEarly cs
+      → Feeds (after-call (c .state) (Instant t (released-at t (releases-at s (c .at))))) (released-after t (releases-at s (c .at))) cs
+      → (refusal (c .state) t (released-at t (releases-at s (c .at))) ≡ 0) × Served s (next-cursor s c t at)
+  unfolding AllServed
+  one cs g l f = (
+    g .0,
+    record {
+      calls = cs;
+      feeds = subst (λ (rs : List Release). Feeds (at-g d t set) rs cs) (sym h) (subst (λ (q : State). Feeds q (released-after t (releases-at s (c .at))) cs) (is-g (g .0)) f);
+      all-served = subst (λ (q : State). AllServed q cs) (is-g (g .0)) (g .1);
+      early = l;
+    },
+  )
+
+  go : (cs : List Call) → Feeds (c .state) (releases-at s (c .at)) cs → AllServed (c .state) cs → AllEarly cs
+      → (refusal (c .state) t (released-at t (releases-at s (c .at))) ≡ 0) × Served s (next-cursor s c t at)
+  unfolding Feeds AllEarly
+  go [] f a l = absurd (not-over (c .state) (releases-at s (c .at)) t (f .0) (f .1) next)
+  go (x ∷ cs) f a l =
+      let u : f .0 ≡ t = same (f .0) t (sym (f .1) ∙ next) in
+      let y : x ≡ Instant t (released-at t (releases-at s (c .at))) = f .2 ∙ ap (λ (w : ℕ). Instant w (released-at w (releases-at s (c .at)))) u in
+      one cs (subst (λ (w : Call). AllServed (c .state) (w ∷ cs)) y a) (subst (λ (w : Call). AllEarly (w ∷ cs)) y l .1)
+      (subst (λ (w : Call). Feeds (after-call (c .state) w) (released-after t (releases-at s (c .at))) cs) y
+      (subst (λ (w : ℕ). Feeds (after-call (c .state) x) (released-after w (releases-at s (c .at))) cs) u (f .3)))
+
+  pub goes : (refusal (c .state) t (released-at t (releases-at s (c .at))) ≡ 0) × Served s (next-cursor s c t at)
+  goes = go (v .calls) (v .feeds) (v .all-served) (v .early)
+
+module _ (s : List ℕ) (c : Cursor) (v : Served s c) (t : ℕ) (next : sooner (first-time (releases-at s (c .at))) (due (c .state .phase)) ≡ Tick t) where
+  go-early : (cs : List Call) → Feeds (c .state) (releases-at s (c .at)) cs → AllEarly cs → t ≤ 2000000000
+  unfolding Feeds AllEarly
+  go-early [] f l = absurd (not-over (c .state) (releases-at s (c .at)) t (f .0) (f .1) next)
+  go-early (x ∷ cs) f l = omega (arith, subst (λ (w : Call). AllEarly (w ∷ cs)) (f .2) l .0, same (f .0) t (sym (f .1) ∙ next))
+
+  pub comes-early : t ≤ 2000000000
+  comes-early = go-early (v .calls) (v .feeds) (v .early)

@@ -16,7 +16,7 @@ use Rattle.words.specs.Words.{numberAt}
 use Rattle.entries.specs.Entries.{entry-at, task-at}
 use Rattle.table.specs.Tasks.{no-table, behind-tasks, task-refusal, with-task, with-marked, refused-at, read-to, tasks-from, tasks-of}
 use Rattle.table.proofs.Laws.{behind-end, behind-release, before-release, task-whole, at-end, malformed, released, refuses, takes}
-use Rattle.dispatcher.specs.Calls.{opened, not-opened, opened-behind, opening}
+use Rattle.rules.specs.Calls.{opened, not-opened, opened-behind, opening}
 use Rattle.guarantees.specs.Types.{Table, NoRefusal, Alone, AtEntry, Opening, Tasks}
 use Rattle.guarantees.specs.History.{Call}
 use Rattle.guarantees.specs.Claim.{Claim, Demand3}

@@ -11,14 +11,14 @@ use lib.ListN.{length, take, drop, length-append, length-drop, take-append-drop}
 use lib.Seq.{length-take-le, drop-drop}
 use Rattle.sets.specs.Sets.{member, lowest}
 use Rattle.sets.specs.Laws.{by-test, lowest-first, lowest-most}
-use Rattle.dispatcher.proofs.Members.{Turn}
+use Rattle.rules.proofs.Members.{Turn}
 use Rattle.words.specs.Words.{bytesOf}
 use Rattle.words.specs.Laws.{lent, rest-whole}
 use Rattle.entries.specs.Entries.{laid, Put, job-bytes, interval-bytes, choice-bytes, skipped-bytes}
 use Rattle.entries.proofs.Laws.{Front, next, up-to, behind}
-use Rattle.record.specs.Types.{JobEntry, IntervalEntry, Closing, Unclosed, BeforeReleases, AfterReleases, Occurred, Answer, Refused, Served}
-use Rattle.record.specs.Run.{done-bytes, skips-bytes, closed-bytes, moment-bytes, record-bytes}
-use Rattle.record.specs.Advance.{Laid, before-bytes, after-bytes, answer-bytes}
+use Rattle.record.specs.Types.{JobEntry, IntervalEntry}
+use Rattle.record.specs.Run.{skips-bytes}
+use Rattle.record.specs.Advance.{Laid}
 
 -- ---- the lengths of the entries
 
@@ -114,27 +114,3 @@ module _ (set left n after t : ℕ) (turn : Turn set left n after) where
         length-append (skips-bytes (lowest left) set t) (skipped-bytes n t),
         skipped-size n t,
       )
-
--- ---- the whole of an instant
-
-pub closed-parts : (c : Closing) (skips : List ℕ) → closed-bytes c skips ≡ before-bytes c ++ (skips ++ after-bytes c)
-unfolding closed-bytes before-bytes after-bytes
-closed-parts Unclosed skips = sym (append-nil skips)
-closed-parts (BeforeReleases e) skips = ap (λ (x : List ℕ). interval-bytes e ++ x) (sym (append-nil skips))
-closed-parts (AfterReleases e) skips = refl
-
-pub served-parts : (t : ℕ) (o : Occurred)
-    → answer-bytes t (Served o) ≡ done-bytes (o .done) ++ (before-bytes (o .closed) ++ (skips-bytes 32 (o .skipped) t ++ after-bytes (o .closed)))
-unfolding answer-bytes record-bytes moment-bytes
-served-parts t o =
-    append-nil (done-bytes (o .done) ++ closed-bytes (o .closed) (skips-bytes 32 (o .skipped) t))
-    ∙ ap (λ (x : List ℕ). done-bytes (o .done) ++ x) (closed-parts (o .closed) (skips-bytes 32 (o .skipped) t))
-
-pub served-size : (t : ℕ) (o : Occurred)
-    → length (answer-bytes t (Served o))
-    ≡ length (done-bytes (o .done)) + (length (before-bytes (o .closed)) + (length (skips-bytes 32 (o .skipped) t) + length (after-bytes (o .closed))))
-served-size t o = ap length (served-parts t o) ∙ simp length-append
-
-pub refused-none : (t n at : ℕ) (s : List ℕ) → Laid at (answer-bytes t (Refused n)) s at s
-unfolding answer-bytes record-bytes
-refused-none t n at s = none at s

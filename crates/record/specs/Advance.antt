@@ -1,43 +1,30 @@
 -- One instant of a file's run, read from the bytes.
 use mathlib.Core.Path.{_≡_}
 use lib.ListN.{length}
-use Rattle.entries.specs.Entries.{interval-bytes, laid}
+use Rattle.entries.specs.Entries.{laid}
 use Prim.Native.Nat.{_-_, _*_, _/_, _≤_}
 use Rattle.table.specs.Tasks.{tasks-of}
-use Rattle.dispatcher.specs.Calls.{instant}
-use Rattle.record.specs.Types.{Bool, true, false, List, [], ℕ, _+_, Tasks, NoRefusal, Batch, Cursor, Advanced, Step, Closing, Unclosed, BeforeReleases, AfterReleases, Answer}
+use Rattle.rules.specs.Calls.{opened}
+use Rattle.guarantees.specs.History.{Call, Instant, Mark}
+use Rattle.record.specs.Types.{Bool, true, false, List, [], _∷_, ℕ, _+_, Tasks, NoRefusal, Batch, State}
 use Rattle.record.specs.Listed.{releases-at}
-use Rattle.record.specs.Run.{moment, record-bytes, run, budget, released-at, released-after}
+use Rattle.record.specs.Run.{record-bytes, run, budget, released-at, released-after}
+use Rattle.record.specs.FileClaim.{Feeds, AllServed}
 
 -- the set released at a time, and the releases after it, of those from a place on
 pub record Released (s : List ℕ) (at t : ℕ) (b : Batch) : Type 0 where
   pub set-is : b .set ≡ released-at t (releases-at s at)
   pub rest : releases-at s (b .at) ≡ released-after t (releases-at s at)
 
--- a run after one instant more, and that instant's answer
-pub record AdvancedTo (s : List ℕ) (c : Cursor) (t : ℕ) (a : Advanced) : Type 0 where
-  pub step : _≡_ {A = Step} (record { state = a .cursor .state; answer = a .answer }) (instant (c .state) t (released-at t (releases-at s (c .at))))
-  pub rest : releases-at s (a .cursor .at) ≡ released-after t (releases-at s (c .at))
+-- how far a run has come: the dispatcher, and the place of the next release
+pub record Cursor : Type 0 where
+  pub state : State
+  pub at : ℕ
 
 -- bytes laid over a slice from a place on, and the place behind them
 pub record Laid (at : ℕ) (bytes before : List ℕ) (place : ℕ) (after : List ℕ) : Type 0 where
   pub place-is : place ≡ at + length bytes
   pub holds : after ≡ laid at bytes before
-
--- the interval that ended before the skipped releases, and the one that ended after them
-unfoldable pub before-bytes : Closing → List ℕ
-before-bytes Unclosed = []
-before-bytes (BeforeReleases e) = interval-bytes e
-before-bytes (AfterReleases e) = []
-
-unfoldable pub after-bytes : Closing → List ℕ
-after-bytes Unclosed = []
-after-bytes (BeforeReleases e) = []
-after-bytes (AfterReleases e) = interval-bytes e
-
--- the entries of an instant's answer
-unfoldable pub answer-bytes : ℕ → Answer → List ℕ
-answer-bytes t a = record-bytes (moment t a)
 
 -- ---- a whole run
 
@@ -48,11 +35,34 @@ run-bytes s c budget = record-bytes (run budget (c .state) (releases-at s (c .at
 abbrev pub most : ℕ
 most = 371
 
+-- where a file's run begins, its task entries read
+abbrev pub start : Tasks → Cursor
+start k = record { state = opened (k .table) (k .marked); at = k .end }
+
+-- no instant is past 2,000,000,000: none is at the last tick that a clock has
+unfoldable pub AllEarly : List Call → Type 0
+AllEarly [] = Unit {0}
+AllEarly (Instant t set ∷ cs) = (t ≤ 2000000000) × AllEarly cs
+AllEarly (Mark n m ∷ cs) = AllEarly cs
+
+-- no instant of a run is refused, and none is late
+pub record Served (s : List ℕ) (c : Cursor) : Type 0 where
+  pub calls : List Call
+  pub feeds : Feeds (c .state) (releases-at s (c .at)) calls
+  pub all-served : AllServed (c .state) calls
+  pub early : AllEarly calls
+
+-- a run whose instants can be counted
+pub record Measurable (s : List ℕ) (c : Cursor) (budget : ℕ) : Type 0 where
+  pub few : budget ≤ 131104
+  pub served : Served s c
+
 -- there is room for the record, or, where only its length counts, for what one instant leaves
 pub record Room (s : List ℕ) (c : Cursor) (budget : ℕ) (out : List ℕ) (keep : Bool) : Type 0 where
   pub kept : keep ≡ true → length (run-bytes s c budget) ≤ length out
   pub scratch : keep ≡ false → most ≤ length out
   pub few : budget ≤ 131104
+  pub served : Served s c
 
 pub record Ran (s : List ℕ) (c : Cursor) (budget : ℕ) (before : List ℕ) (keep : Bool) (size : ℕ) (after : List ℕ) : Type 0 where
   pub size-is : size ≡ length (run-bytes s c budget)
@@ -68,6 +78,7 @@ pub record Runs (s : List ℕ) (c : Cursor) : Type 0 where
   pub within : c .at ≤ length s
   pub few : (length s - c .at) / 10 ≤ 4096
   pub short : length (run-bytes s c (budget-at s c)) ≤ 99 * ((length s - c .at) / 10)
+  pub served : Served s c
 
 -- an input's task entries were read and none was refused
 pub record ReadWhole (s : List ℕ) (k : Tasks) : Type 0 where

@@ -3,11 +3,11 @@
 use mathlib.Core.Path.{_≡_}
 use Prim.Native.Nat.{_<_}
 use lib.ListN.{length, take}
-use Rattle.record.specs.Types.{List, [], _∷_, _++_, ℕ, _+_, Release, Tasks, NoRefusal, Dispatcher, Done, NoJob, Job, Closing, Unclosed, BeforeReleases, AfterReleases, Never, Tick, Outcome}
+use Rattle.record.specs.Types.{List, [], _∷_, _++_, ℕ, _+_, Release, Tasks, NoRefusal, State, Done, NoJob, Job, Closing, Unclosed, BeforeReleases, AfterReleases, Never, Tick, Outcome}
 use Rattle.sets.specs.Laws.{size}
 use Rattle.table.specs.Tasks.{tasks-of}
-use Rattle.dispatcher.specs.Instant.{due, sooner}
-use Rattle.dispatcher.specs.Calls.{opened, opening, refusal, instant}
+use Rattle.rules.specs.Instant.{due, sooner}
+use Rattle.rules.specs.Calls.{opened, opening, refusal, instant}
 use Rattle.guarantees.specs.History.{Call, Instant, Mark, after-call, after-calls, history}
 use Rattle.guarantees.specs.Reading.{total, is-take}
 use Rattle.guarantees.specs.Claim.{Claim, AllCompleted}
@@ -18,19 +18,19 @@ use Rattle.record.specs.Run.{Moment, moment, first-time, released-at, re
 
 -- "Feeding a file's releases and all due times, with no mark call": each call is an instant at the sooner of the next release and the next due
 -- time, with the set released then, until no release is left and nothing is due
-unfoldable pub Feeds : Dispatcher → List Release → List Call → Type 0
+unfoldable pub Feeds : State → List Release → List Call → Type 0
 Feeds d rs [] = (rs ≡ []) × (due (d .phase) ≡ Never)
 Feeds d rs (c ∷ cs) =
     (t : ℕ) × (sooner (first-time rs) (due (d .phase)) ≡ Tick t) × (c ≡ Instant t (released-at t rs)) × Feeds (after-call d c) (released-after t rs) cs
 
 -- what calls answer: the instants that are served, with what occurred
-unfoldable pub answers : Dispatcher → List Call → List Moment
+unfoldable pub answers : State → List Call → List Moment
 answers d [] = []
 answers d (Instant t set ∷ cs) = moment t (instant d t set .answer) ++ answers (after-call d (Instant t set)) cs
 answers d (Mark n m ∷ cs) = answers (after-call d (Mark n m)) cs
 
 -- each is an instant that meets no row of the refusals
-unfoldable pub AllServed : Dispatcher → List Call → Type 0
+unfoldable pub AllServed : State → List Call → Type 0
 AllServed d [] = Unit {0}
 AllServed d (Instant t set ∷ cs) = (refusal d t set ≡ 0) × AllServed (after-call d (Instant t set)) cs
 AllServed d (Mark n m ∷ cs) = ⊥
@@ -64,7 +64,7 @@ releases-skipped (m ∷ ms) = size (m .occurred .skipped) + releases-skipped ms
 -- ---- The claim
 
 -- of the calls that feed the releases rs to the dispatcher d, where the file's run has the moments ms
-pub record FedClaim (d : Dispatcher) (rs : List Release) (ms : List Moment) (calls : List Call) : Type 0 where
+pub record FedClaim (d : State) (rs : List Release) (ms : List Moment) (calls : List Call) : Type 0 where
   -- "A call that meets no row is served": every one of them is
   pub all-served : AllServed d calls
   -- "gives its record": what they answer is what the record is made of
@@ -83,7 +83,7 @@ pub record FedClaim (d : Dispatcher) (rs : List Release) (ms : List Moment) (cal
   pub an-entry-each : jobs-done ms ≡ total is-take (history d calls)
 
 -- of a file's bytes and its releases
-pub record FileClaim (s : List ℕ) (rs : List Release) (d : Dispatcher) : Type 0 where
+pub record FileClaim (s : List ℕ) (rs : List Release) (d : State) : Type 0 where
   -- "It opens from the task entries alone."
   pub opens : opening (take (tasks-of s .end) s) ≡ record { state = d; refusal = NoRefusal }
   pub come-to-an-end : (calls : List Call) × Feeds d rs calls

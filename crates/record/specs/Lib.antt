@@ -2,5 +2,6 @@ pub mod Types
 pub mod Files
 pub mod Listed
 pub mod Run
-pub mod Advance
 pub mod FileClaim
+pub mod Advance
+pub mod Moments

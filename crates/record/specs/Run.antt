@@ -1,15 +1,15 @@
 -- The run of a file: its releases and all due times handed to the dispatcher by instants, with no mark call, until nothing is
 -- pending; and its record, in the order in which things occur.
-use Rattle.record.specs.Types.{Bool, true, false, cond, List, [], _∷_, _++_, ℕ, zero, suc, _+_, _*_, Release, Tasks, Refusal, JobEntry, IntervalEntry, Dispatcher, Done, NoJob, Job, Closing, Unclosed, BeforeReleases, AfterReleases, Due, Never, Tick, Occurred, Answer, Refused, Served, Step, Outcome, RefusedInput, TooShort, Recorded}
+use Rattle.record.specs.Types.{Bool, true, false, cond, List, [], _∷_, _++_, ℕ, zero, suc, _+_, _*_, Release, Tasks, Refusal, JobEntry, IntervalEntry, State, Done, NoJob, Job, Closing, Unclosed, BeforeReleases, AfterReleases, Due, Never, Tick, Occurred, Answer, Refused, Served, Step, Outcome, RefusedInput, TooShort, Recorded}
 use mathlib.Core.Path.{_≡_}
 use lib.Dec.{leb, eqb}
 use lib.ListN.{length, drop}
 use Rattle.sets.specs.Sets.{member, insert}
 use Rattle.entries.specs.Entries.{job-bytes, interval-bytes, skipped-bytes}
 use Rattle.table.specs.Tasks.{tasks-of}
-use Rattle.dispatcher.specs.Instant.{due, sooner}
-use Rattle.dispatcher.specs.Calls.{opened, instant}
-use Rattle.dispatcher.specs.Answers.{refusal-number, refusal-place}
+use Rattle.rules.specs.Instant.{due, sooner}
+use Rattle.rules.specs.Calls.{opened, instant}
+use Rattle.rules.specs.Answers.{refusal-number, refusal-place}
 use Rattle.record.specs.Files.{Checked, Rejected, Releases, releases-of}
 
 -- ---- The run: a list of instants with what occurred
@@ -40,7 +40,7 @@ moment t (Refused n) = []
 moment t (Served o) = record { time = t; occurred = o } ∷ []
 
 -- at most k instants
-unfoldable pub run : ℕ → Dispatcher → List Release → List Moment
+unfoldable pub run : ℕ → State → List Release → List Moment
 run zero d rs = []
 run (suc k) d rs =
     elim (sooner (first-time rs) (due (d .phase))) [

@@ -1,21 +1,15 @@
-// One instant of a file's run: its releases are read from the bytes as their time comes.
-use dispatcher::Answer;
-use dispatcher::Dispatcher;
-use dispatcher::Due;
+// The releases of a file's run, read from the bytes as their time comes.
+use rules::Registers;
 ghost use mathlib.Core.Path.{_≡_};
 ghost use Prim.Native.Nat.{_-_};
 ghost use lib.Dec.{leb};
 ghost use lib.ListN.{length};
 ghost use Rattle.record.specs.Listed.{releases-at};
 ghost use Rattle.record.specs.Run as run;
-ghost use Rattle.dispatcher.specs.Instant.{due, sooner};
-ghost use Rattle.record.specs.Advance.{Released, AdvancedTo};
-
-// How far a run has come: the dispatcher, and the place of the next release.
-pub struct Cursor {
-    pub state: Dispatcher,
-    pub at: usize,
-}
+ghost use Rattle.rules.specs.Instant.{due, sooner};
+ghost use Rattle.rules.specs.Apart.{phase-in};
+ghost use Rattle.rules.specs.Steps.{Stands};
+ghost use Rattle.record.specs.Advance.{Released};
 
 // The set released at a time, and the place behind it.
 pub struct Batch {
@@ -27,19 +21,21 @@ pub struct Batch {
 fn more(s: &[u8], at: usize) -> bool
     ensures { λ r. ⌜ r ≡ leb 10 (length (now (s .entry)) - at) ⌝ }
 {
-    if at < s.len() {
-        return 10 <= s.len() - at;
+    if s.len() < 10 {
+        return false;
     }
-    false
+    at <= s.len() - 10
 }
 
-pub fn first_time(s: &[u8], at: usize) -> Due
-    ensures { λ r. ⌜ r ≡ run.first-time (releases-at (now (s .entry)) at) ⌝ }
+// The time of the next release; the last tick stands for none.
+pub fn first_tick(s: &[u8], at: usize) -> u64
+    ensures { λ x. ⌜ Stands x (run.first-time (releases-at (now (s .entry)) at)) ⌝ }
 {
     if more(s, at) {
-        return Due::Tick(words::get_u64(s, at + 2));
+        let rest = &s[at..];
+        return words::get_u64(rest, 2);
     }
-    Due::Never
+    u64::MAX
 }
 
 pub fn released(s: &[u8], start: usize, t: u64) -> Batch
@@ -48,44 +44,19 @@ pub fn released(s: &[u8], start: usize, t: u64) -> Batch
     let mut set: u32 = 0;
     let mut at = start;
     while more(s, at) {
-        if words::get_u64(s, at + 2) != t {
+        let rest = &s[at..];
+        if words::get_u64(rest, 2) != t {
             break;
         }
-        set = sets::insert(set, words::get_u8(s, at + 1));
+        set = sets::insert(set, words::get_u8(rest, 1));
         at += 10;
     }
     Batch { set, at }
 }
 
-// When the next instant of a run is: the sooner of its next release and the next due time.
-pub fn next_time(s: &[u8], c: Cursor) -> Due
-    ensures { λ r. ⌜ r ≡ sooner (run.first-time (releases-at (now (s .entry)) (c .at))) (due (c .state .phase)) ⌝ }
+// When the next instant of a run is: the sooner of its next release and the next due time; the last tick stands for none.
+pub fn next_tick(s: &[u8], at: usize, r: Registers) -> u64
+    ensures { λ x. ⌜ Stands x (sooner (run.first-time (releases-at (now (s .entry)) at)) (due (phase-in r))) ⌝ }
 {
-    let state = c.state;
-    let phase = state.phase;
-    dispatcher::sooner(first_time(s, c.at), dispatcher::due_time(phase))
-}
-
-// A run after one instant more, and that instant's answer.
-pub struct Advanced {
-    pub cursor: Cursor,
-    pub answer: Answer,
-}
-
-pub fn advance(s: &[u8], c: Cursor, t: u64) -> Advanced
-    ensures { λ r. ⌜ AdvancedTo (now (s .entry)) c t r ⌝ }
-{
-    let at = c.at;
-    let state = c.state;
-    let batch = released(s, at, t);
-    let step = state.instant(t, batch.set);
-    let next = step.state;
-    let answer = step.answer;
-    Advanced {
-        cursor: Cursor {
-            state: next,
-            at: batch.at,
-        },
-        answer,
-    }
+    rules::least(first_tick(s, at), rules::due_tick(r))
 }

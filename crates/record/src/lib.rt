@@ -1,6 +1,7 @@
 // A file's run and its record in a lent slice.
 mod advance;
 mod check;
+mod instant;
 mod moment;
 mod whole;
 

@@ -150,3 +150,47 @@ zeros-lowest (suc k) s = rw (digit s) (go (member 0 s) (zeros-lowest k (s / 2)))
 pub trailing-lowest : (s : ℕ) → trailingZeros 32 s ≡ lowest s
 unfolding lowest
 trailing-lowest s = zeros-lowest 32 s
+
+-- ---- without the lowest
+
+idem : (b : Bool) → (b && b) ≡ b
+idem true = refl
+idem false = refl
+
+never : (b : Bool) → (b && false) ≡ false
+never true = refl
+never false = refl
+
+odd-less : (s : ℕ) → s % 2 ≡ 1 → (member 0 (s - 1) ≡ false) × ((s - 1) / 2 ≡ s / 2)
+odd-less s e = apart false (s / 2) (s - 1) (let h : s - 1 ≡ s / 2 * 2 + 0 = omega arith in h)
+
+even-less : (s : ℕ) → s % 2 ≡ 0 → (s ≡ 0 → ⊥) → (s - 1) / 2 ≡ s / 2 - 1
+even-less s e h = omega arith
+
+-- one less has the members of s above its lowest, and not the lowest: what both have is s without its lowest
+without-lowest : (w k s : ℕ) → s < 2 ^ w → (s ≡ 0 → ⊥) → (member k s && member k (s - 1)) ≡ (not (eqb k (lowestIn w s)) && member k s)
+unfolding lowestIn
+without-lowest zero k s l h = absurd (h (omega arith))
+without-lowest (suc w) zero s l h =
+    by-test (member 0 s)
+    (λ e. rw (e, odd-less s (rw e at (digit s)) .0))
+    (λ e. rw (e, never (not (eqb 0 (suc (lowestIn w (s / 2)))))))
+without-lowest (suc w) (suc k) s l h =
+    by-test (member 0 s)
+    (λ e. rw (e, eqb·suc-zero k, member-suc k s, member-suc k (s - 1), odd-less s (rw e at (digit s)) .1) (idem (member k (s / 2))))
+    (λ e. rw (e, eqb·suc-suc k (lowestIn w (s / 2)), member-suc k s, member-suc k (s - 1), even-less s (rw e at (digit s)) h)
+    (without-lowest w k (s / 2) (omega arith) (λ z. h (half s z (rw e at (digit s))))))
+  where
+    half : (s : ℕ) → s / 2 ≡ 0 → s % 2 ≡ 0 → s ≡ 0
+    half s z e = omega arith
+
+pub and-rest : (s : ℕ) → s < 2 ^ 32 → (s ≡ 0 → ⊥) → bitAnd s (s - 1) ≡ remove (lowest s) s
+unfolding remove lowest
+and-rest s l h =
+    collects (bitAnd s (s - 1)) (λ k. not (eqb k (lowestIn 32 s)) && member k s) (lt-of-le-of-lt (and-le-l s (s - 1)) l)
+    (λ k m. member-and k s (s - 1) ∙ without-lowest 32 k s l h)
+
+-- no task is left of none
+pub rest-none : 0 ≡ remove (lowest 0) 0
+unfolding remove
+rest-none = collects 0 (λ k. not (eqb k (lowest 0)) && member k 0) (omega arith) (λ k m. rw (none k) (sym (never (not (eqb k (lowest 0))))))

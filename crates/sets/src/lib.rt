@@ -50,3 +50,13 @@ pub fn lowest(set: u32) -> u8
 {
     u32::trailing_zeros(set) as u8
 }
+
+// `set` without its lowest task.
+pub fn rest(set: u32) -> u32
+    ensures { λ r. ⌜ r ≡ sets.remove (sets.lowest set) set ⌝ }
+{
+    if set == 0 {
+        return 0;
+    }
+    set & (set - 1)
+}

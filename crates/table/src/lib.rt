@@ -2,7 +2,6 @@
 use entries::Entry;
 use entries::TaskParameters;
 ghost use mathlib.Core.Path.{_≡_};
-ghost use Prim.Native.Nat.{_<_};
 ghost use Rattle.table.specs.Tasks as tasks;
 
 // The tasks by number: which there are, and each one's priority and lengths of copy-in (L), execution (C) and copy-out (U).
@@ -81,21 +80,6 @@ fn number_refused(present: u32, n: u8) -> bool
     sets::contains(present, n)
 }
 
-fn with_task(t: Table, p: TaskParameters) -> Table
-    requires { ⌜ p .number < 32 ⌝ }
-    ensures { λ r. ⌜ r ≡ tasks.with-task t p ⌝ }
-{
-    let n = p.number;
-    let i = n as usize;
-    let mut next = t;
-    next.present = sets::insert(t.present, n);
-    next.priority[i] = p.priority;
-    next.copyin[i] = p.copyin;
-    next.execution[i] = p.execution;
-    next.copyout[i] = p.copyout;
-    next
-}
-
 fn with_marked(marked: u32, p: TaskParameters) -> u32
     ensures { λ r. ⌜ r ≡ tasks.with-marked marked p ⌝ }
 {
@@ -159,13 +143,19 @@ pub fn read(s: &[u8]) -> Tasks
                     if t.priority[k as usize] == p.priority {
                         break 'entries refused_at(5, at);
                     }
-                    left = sets::remove(left, k);
+                    left = sets::rest(left);
                 }
                 let n = mark_or_length_refusal(p);
                 if n != 0 {
                     break 'entries refused_at(n, at);
                 }
-                t = with_task(t, p);
+                let n = p.number;
+                let i = n as usize;
+                t.present = sets::insert(t.present, n);
+                t.priority[i] = p.priority;
+                t.copyin[i] = p.copyin;
+                t.execution[i] = p.execution;
+                t.copyout[i] = p.copyout;
                 marked = with_marked(marked, p);
                 at += 16;
             }

@@ -9,7 +9,7 @@ use borrow.Author.Tests.{leb-true, leb-false, le-leb, lt-leb}
 use lib.Dec.{leb}
 use lib.Pow.{pow-add}
 use lib.ListN.{length, getD, take, drop, length-append, length-drop, drop-of-length-le, List·getD-eq-default}
-use lib.Seq.{getD-append-add, take-all, sets, sets-eq}
+use lib.Seq.{getD-append-add, getD-drop, take-all, sets, sets-eq}
 use Rattle.words.specs.Words.{bytesOf, numberAt, room, written, LeftAt}
 
 -- ---- the bytes of a number
@@ -57,6 +57,14 @@ behind zero front s at = refl
 behind (suc w) front s at =
     ap₂ (λ (x b : ℕ). x + 256 ^ w * b) (behind w front s at)
     (ap (λ (k : ℕ). getD (front ++ s) k 0) (add-assoc (length front) at w) ∙ getD-append-add front s (at + w) 0)
+
+-- a place in the rest of a slice is that place counted from where the rest begins
+pub in-rest : (w at k : ℕ) (s : List ℕ) → numberAt w (drop at s) k ≡ numberAt w s (at + k)
+unfolding numberAt
+in-rest zero at k s = refl
+in-rest (suc w) at k s =
+    ap₂ (λ (x b : ℕ). x + 256 ^ w * b) (in-rest w at k s)
+    (getD-drop at s (k + w) 0 ∙ ap (λ (i : ℕ). getD s i 0) (sym (add-assoc at k w)))
 
 -- ---- the round trip
 
@@ -124,6 +132,10 @@ too-short w v s h = rw (lt-leb w (length s) h) (refl, refl)
 
 pub rest-whole : (at : ℕ) (s : List ℕ) → take (length s - at) (drop at s) ≡ drop at s
 rest-whole at s = take-all (length s - at) (drop at s) (le-of-eq (length-drop at s))
+
+-- the rest, borrowed to be read
+pub read-in-rest : (w at k : ℕ) (s : List ℕ) → numberAt w (take (length s - at) (drop at s)) k ≡ numberAt w s (at + k)
+read-in-rest w at k s = ap (λ (t : List ℕ). numberAt w t k) (rest-whole at s) ∙ in-rest w at k s
 
 -- what a writer made of the rest from a place on, said of the whole slice
 pub lent : (writer : List ℕ → List ℕ) (at : ℕ) (s t : List ℕ) → t ≡ writer (take (length s - at) (drop at s))

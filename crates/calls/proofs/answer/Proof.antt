@@ -2,16 +2,16 @@
 use mathlib.Core.Path.{ap, ap₂, _∙_}
 use Rattle.lines.specs.Lines.{instant-lines, mark-lines}
 use Rattle.lines.specs.Text.{text-of}
-use Rattle.dispatcher.specs.declared.Step.{Step}
-use Rattle.dispatcher.specs.declared.MarkStep.{MarkStep}
+use Rattle.rules.specs.Calls.{Step, MarkStep}
 use Rattle.lines.specs.declared.Text.{Text}
-use Rattle.calls.specs.Types.{Dispatcher, Answered}
-use Rattle.calls.specs.Calls.{answered}
+use Rattle.dispatcher.specs.Reading.{state-of}
+use Rattle.calls.specs.Types.{State}
+use Rattle.calls.specs.Calls.{Reply, answered}
 use borrow.Author.Needs.{needs}
 use Rattle.calls.proofs.answer.Statement.{statement}
 use Rattle.calls.proofs.answer.Tie as tie
 
-abbrev reply : Dispatcher → Text → Answered
+abbrev reply : State → Text → Reply
 reply d t = record { state = d; text = t }
 
 enum-known-call : tie.Need-enum-known-call
@@ -49,26 +49,26 @@ unfolding answered
 returns c =
     let step = c .before .before .instant in
     rw (c .before .before .before .before .call .given .1)
-    (ap₂ reply (ap (λ (s : Step). s .state) (step .ensures)) (c .instant-lines .ensures .whole ∙ ap (λ (s : Step). text-of (instant-lines (s .answer))) (step .ensures)), c .instant-lines .ensures .fits)
+    (ap₂ reply (ap (λ (s : Step). s .state) (step .ensures .step)) (c .instant-lines .ensures .whole ∙ ap (λ (s : Step). text-of (instant-lines (s .answer))) (step .ensures .step)), c .instant-lines .ensures .fits)
 
 returns-2 : tie.Need-returns-2
 unfolding answered
 returns-2 c =
     let step = c .before .before .mark in
     rw (c .before .before .before .before .call2 .given .1)
-    (ap₂ reply (ap (λ (s : MarkStep). s .state) (step .ensures)) (c .mark-lines .ensures .whole ∙ ap (λ (s : MarkStep). text-of (mark-lines (s .answer))) (step .ensures)), c .mark-lines .ensures .fits)
+    (ap₂ reply (ap (λ (s : MarkStep). s .state) (step .ensures .step)) (c .mark-lines .ensures .whole ∙ ap (λ (s : MarkStep). text-of (mark-lines (s .answer))) (step .ensures .step)), c .mark-lines .ensures .fits)
 
 returns-3 : tie.Need-returns-3
 unfolding answered
 returns-3 c =
     let d = c .before .before .before .args .d in
-    rw (c .before .enum-told .given .1) (ap (reply d) (c .cut-short-line .ensures .whole), c .cut-short-line .ensures .fits)
+    rw (c .before .enum-told .given .1) (ap (reply (state-of d)) (c .cut-short-line .ensures .whole), c .cut-short-line .ensures .fits)
 
 returns-4 : tie.Need-returns-4
 unfolding answered
 returns-4 c =
     let d = c .before .before .before .args .d in
-    rw (c .before .enum-told2 .given .1) (ap (reply d) (c .cut-short-line2 .ensures .whole), c .cut-short-line2 .ensures .fits)
+    rw (c .before .enum-told2 .given .1) (ap (reply (state-of d)) (c .cut-short-line2 .ensures .whole), c .cut-short-line2 .ensures .fits)
 
 pub answer-spec : {M : Type 1} → statement M
 answer-spec =

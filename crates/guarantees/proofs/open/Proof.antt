@@ -1,8 +1,8 @@
 -- `guarantees::open` meets its contract: opening, with demand 3. Assumes nothing.
 use mathlib.Core.Path.{_≡_, sym, ap, _∙_, subst}
 use borrow.Author.Needs.{needs}
-use Rattle.dispatcher.specs.Calls.{opening}
-use Rattle.guarantees.specs.Types.{Dispatcher, Refusal, Opening}
+use Rattle.rules.specs.Calls.{opening}
+use Rattle.guarantees.specs.Types.{State, Refusal, Opening}
 use Rattle.guarantees.specs.Claim.{Claim}
 use Rattle.guarantees.proofs.Demand3.{demand-3}
 use Rattle.guarantees.specs.Claim
@@ -19,7 +19,7 @@ returns c =
     let s = c .before .before .args .s .now in
     record {
       opens = e;
-      claim = λ f calls. subst (λ (d : Dispatcher). Claim d calls) (ap (λ (o : Opening). o .state) (sym e)) (demand-3 s (ap (λ (o : Opening). o .refusal) (sym e) ∙ f) calls);
+      claim = λ f calls. subst (λ (d : State). Claim d calls) (ap (λ (o : Opening). o .state) (sym e)) (demand-3 s (ap (λ (o : Opening). o .refusal) (sym e) ∙ f) calls);
     }
 
 pub open-spec : {M : Type 1} → statement M

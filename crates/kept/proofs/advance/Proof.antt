@@ -43,14 +43,15 @@ use denote.Triple.Spec.{Meets, tripleOf}
 use denote.Triple.Table.{entered, cited}
 use denote.Triple.Walked.{says, Stays, stay-ref, stay-none, walkOf, AllGo, goes-none, goes-ref, Walks, ends-at, walked, walk-meets}
 use denote.Exit.{yes}
-use Rattle.dispatcher.specs.Calls.{instant as stepOf}
+use Rattle.rules.specs.Calls.{Step as Outcomes}
+use Rattle.dispatcher.specs.Reading.{Answers}
 use Rattle.dispatcher.specs.declared.Dispatcher.{Dispatcher}
-use Rattle.dispatcher.specs.declared.Answer.{Answer}
+use Rattle.rules.specs.declared.Answer.{Answer}
 use Rattle.dispatcher.specs.declared.Step.{Step}
 use Rattle.dispatcher.proofs.Dispatcher as T
 use Rattle.dispatcher.proofs.Dispatcher.Laws as T′
-use Rattle.dispatcher.proofs.Answer as R
-use Rattle.dispatcher.proofs.Answer.Laws as R′
+use Rattle.rules.proofs.Answer as R
+use Rattle.rules.proofs.Answer.Laws as R′
 use Rattle.dispatcher.proofs.Step as S
 use Rattle.dispatcher.proofs.Step.Laws as S′
 use Rattle.dispatcher.proofs.Dispatcher.instant as stp
@@ -173,16 +174,16 @@ module _ {M : Type 1} (𝓤 : URA M) (H : Heap 𝓤) (A : Atoms 𝓤) (W : Given
 
   -- what is known of the outcome, apart from its machine value
   record Outcome (r : Step) : Type 0 where
-    is-step : r ≡ stepOf h t s
+    is-step : Answers h t s r
     state-held : Is T.the-row (r .state) (state-val (r .state) ∷ [])
     answer-held : Is R.the-row (r .answer) (answer-val (r .answer) ∷ [])
 
-  exits : (r : Step) → r ≡ stepOf h t s → Is R.the-row (r .answer) (answer-val (r .answer) ∷ [])
+  exits : (r : Step) → Answers h t s r → Is R.the-row (r .answer) (answer-val (r .answer) ∷ [])
       → ent 𝓤 (⋆ 𝓤 H A (‵ (fobs γ (T.the-row .coded .code (r .state))) ∷ ‵ (fbor κ (Body (mem T.the-row) b o γ)) ∷ ‵ (flft κ q) ∷ [])) (Post (answer-val (r .answer)))
   exits r e ais =
       qed W (‵ (fobs γ (T.the-row .coded .code (r .state))) ∷ ‵ (fbor κ (Body (mem T.the-row) b o γ)) ∷ ‵ (flft κ q) ∷ []) ∵
       suffices ! _ (ends-at 𝓤 H A adv.ended stayed (adv.clauses 𝓤 H A at-mem run) W (((κ, tt), (q, tt), tt, x, at), tt) (answer-val (r .answer)) (r .answer) (r .state, (tt, (tt, tt))) (tt, (tt, (tt, tt)))) $
-      says ! (ap (λ (z : Step). z .answer) e, ap (λ (z : Step). z .state) e) $ nothing ! $ move ! (3 ∷ 0 ∷ []) $ join ! $
+      says ! (ap (λ (z : Outcomes). z .answer) (e .step), ap (λ (z : Outcomes). z .state) (e .step), e .untouched) $ nothing ! $ move ! (3 ∷ 0 ∷ []) $ join ! $
       frame ! $ feqI ! (List Val) (vptr b o ∷ []) (vptr b o ∷ []) refl $ fjoin3 ! $
       nothing ! $ owned ! u32 (Is u32) (uint-makes 𝓤 H A W w32) s _ (refl, s-fits) $ fjoin ! $ owned ! u64 (Is u64) (uint-makes 𝓤 H A W w64) t _ (refl, t-fits) $ fjoin ! $ move ! (1 ∷ 0 ∷ []) $ fjoin ! $
       owned ! R.the-row (Is R.the-row) (EL.makes R.the-type R′.the-plain 𝓤 H A) (r .answer) _ ais $ move ! (1 ∷ 0 ∷ []) $ done !
@@ -196,8 +197,8 @@ module _ {M : Type 1} (𝓤 : URA M) (H : Heap 𝓤) (A : Atoms 𝓤) (W : Given
       qed W [] ∵ nothing ! $ owned ! u32 (Is u32) (uint-makes 𝓤 H A W w32) s _ (refl, s-fits) $ fjoin ! $ owned ! u64 (Is u64) (uint-makes 𝓤 H A W w64) t _ (refl, t-fits) $ fjoin ! $
       owned ! T.the-row (Is T.the-row) (LL.makes T.the-type T′.the-plain 𝓤 H A) h _ was $ fjoin ! $ nothing ! $ join ! $ nothing ! $ move ! (1 ∷ 0 ∷ []) $ done !
 
-  said : (r : Step) → ent 𝓤 (ensured 𝓤 H A stp.ended (stp.clauses 𝓤 H A at-mem run) tt (h, (t, (s, tt))) tt r) (fact 𝓤 (r ≡ stepOf h t s))
-  said r = exE 𝓤 _ (λ ws. snd∗ 𝓤 (sem 𝓤 H A (lasts stp.ended tt (h, (t, (s, tt))) ws)) (fact 𝓤 (r ≡ stepOf h t s)))
+  said : (r : Step) → ent 𝓤 (ensured 𝓤 H A stp.ended (stp.clauses 𝓤 H A at-mem run) tt (h, (t, (s, tt))) tt r) (fact 𝓤 (Answers h t s r))
+  said r = exE 𝓤 _ (λ ws. snd∗ 𝓤 (sem 𝓤 H A (lasts stp.ended tt (h, (t, (s, tt))) ws)) (fact 𝓤 (Answers h t s r)))
 
   fields-of : (r : Step) (v : Val) → Is S.the-row r (v ∷ []) → Fields T′.mir R′.mir S′.mir v (state-val (r .state)) (answer-val (r .answer))
   fields-of r v is = record {
@@ -212,7 +213,7 @@ module _ {M : Type 1} (𝓤 : URA M) (H : Heap 𝓤) (A : Atoms 𝓤) (W : Given
 
   tells-all : (r : Step) (v : Val) → ent 𝓤 (mean 𝓤 H A (returned r v)) (fact 𝓤 (Fields T′.mir R′.mir S′.mir v (state-val (r .state)) (answer-val (r .answer)) × Outcome r))
   tells-all r v =
-      qed W (returned r v ∷ []) ∵ split ! $ move ! (1 ∷ []) $ use1 W (raw (fact 𝓤 (r ≡ stepOf h t s))) (said r) $ heard ! (r ≡ stepOf h t s) (λ e.
+      qed W (returned r v ∷ []) ∵ split ! $ move ! (1 ∷ []) $ use1 W (raw (fact 𝓤 (Answers h t s r))) (said r) $ heard ! (Answers h t s r) (λ e.
       split ! $ move ! (1 ∷ []) $ peeks ! S.the-row (Is S.the-row) (shows 𝓤 H A S.the-row) r (v ∷ []) (λ is. drop ! $
       by ! (guardI 𝓤 _ _ (fields-of r v is, record { is-step = e; state-held = state-is r v is; answer-held = answer-is r v is }))))
 

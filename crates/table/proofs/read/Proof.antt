@@ -21,6 +21,7 @@ abbrev μ-loop : tie.MeasureT-loop
 
 abbrev Inv-entries : tie.InvT-entries
 Inv-entries s t₀ marked₀ at₀ t marked at = (at ≤ length s) × (length (t .priority) ≡ 32) × (t .present < 2 ^ 32) × Rest s at t marked
+    × (length (t .copyin) ≡ 32) × (length (t .execution) ≡ 32) × (length (t .copyout) ≡ 32)
 
 abbrev μ-entries : tie.MeasureT-entries
 μ-entries s t₀ marked₀ at₀ t marked at = length s - at
@@ -36,6 +37,9 @@ entries-holds c =
       ap (λ (x : Table). length (x .priority)) e,
       rw e (omega arith),
       record { fuel = length (c .before .before .args .s .now); enough = omega arith; same = ap (λ (x : Table). tasks-from (length (c .before .before .args .s .now)) (c .before .before .args .s .now) 0 x 0) e },
+      ap (λ (x : Table). length (x .copyin)) e,
+      ap (λ (x : Table). length (x .execution)) e,
+      ap (λ (x : Table). length (x .copyout)) e,
     )
 
 read-to-requires : tie.Need-read-to-requires Inv-loop μ-loop Inv-entries μ-entries
@@ -86,16 +90,18 @@ element-copy-out-if4 c = let low : c .lowest .result < 32 = rw (c .lowest .ensur
 refused-at-requires-3 : tie.Need-refused-at-requires-3 Inv-loop μ-loop Inv-entries μ-entries
 refused-at-requires-3 c κs = search needs
 
-remove-requires : tie.Need-remove-requires Inv-loop μ-loop Inv-entries μ-entries
-remove-requires c κs = search needs
+rest-requires : tie.Need-rest-requires Inv-loop μ-loop Inv-entries μ-entries
+rest-requires c κs = search needs
 
 loop-less : tie.Need-loop-less Inv-loop μ-loop Inv-entries μ-entries
 loop-less c =
     let low : lowest (c .before .before .before .before .before .before .loop .left) < 32 = lowest-task (c .before .before .before .before .before .before .loop .left) (c .before .before .before .before .before .before .loop .inv .few) (c .before .before .before .before .before .loop-test .taken) in
-    rw (c .remove .ensures, c .before .before .before .before .lowest .ensures) (omega (arith, size-remove (lowest (c .before .before .before .before .before .before .loop .left)) (c .before .before .before .before .before .before .loop .left) low (lowest-member (c .before .before .before .before .before .before .loop .left) low)))
+    rw (c .rest .ensures) (omega (arith, size-remove (lowest (c .before .before .before .before .before .before .loop .left)) (c .before .before .before .before .before .before .loop .left) low (lowest-member (c .before .before .before .before .before .before .loop .left) low)))
 
 loop-again : tie.Need-loop-again Inv-loop μ-loop Inv-entries μ-entries
-loop-again c = rw (c .remove .ensures) (searched-more _ _ _ _ (c .before .if4 .left) (c .before .before .before .before .before .before .loop .inv))
+loop-again c =
+    let e = c .before .before .before .before .lowest .ensures in
+    rw (c .rest .ensures) (searched-more _ _ _ _ (rw e at (c .before .if4 .left)) (c .before .before .before .before .before .before .loop .inv))
 
 mark-or-length-refusal-requires :
     tie.Need-mark-or-length-refusal-requires Inv-loop μ-loop Inv-entries μ-entries
@@ -104,8 +110,32 @@ mark-or-length-refusal-requires c κs = search needs
 refused-at-requires-4 : tie.Need-refused-at-requires-4 Inv-loop μ-loop Inv-entries μ-entries
 refused-at-requires-4 c κs = search needs
 
-with-task-requires : tie.Need-with-task-requires Inv-loop μ-loop Inv-entries μ-entries
-with-task-requires c κs = number-small _ _ (sym (c .before .before .before .before .before .number-refused .ensures) ∙ c .before .before .before .before .if3 .left)
+cast-i : tie.Need-cast-i Inv-loop μ-loop Inv-entries μ-entries
+cast-i c = search needs
+
+insert-requires : tie.Need-insert-requires Inv-loop μ-loop Inv-entries μ-entries
+insert-requires c κs = search needs
+
+element-write-t : tie.Need-element-write-t Inv-loop μ-loop Inv-entries μ-entries
+element-write-t c = let small = number-small _ _ (sym (c .before .before .before .before .before .before .number-refused .ensures) ∙ c .before .before .before .before .before .if3 .left) in search needs
+
+mul-t : tie.Need-mul-t Inv-loop μ-loop Inv-entries μ-entries
+mul-t c = let small = number-small _ _ (sym (c .before .before .before .before .before .before .number-refused .ensures) ∙ c .before .before .before .before .before .if3 .left) in search needs
+
+element-write-t-2 : tie.Need-element-write-t-2 Inv-loop μ-loop Inv-entries μ-entries
+element-write-t-2 c = let small = number-small _ _ (sym (c .before .before .before .before .before .before .number-refused .ensures) ∙ c .before .before .before .before .before .if3 .left) in search needs
+
+mul-t-2 : tie.Need-mul-t-2 Inv-loop μ-loop Inv-entries μ-entries
+mul-t-2 c = let small = number-small _ _ (sym (c .before .before .before .before .before .before .number-refused .ensures) ∙ c .before .before .before .before .before .if3 .left) in search needs
+
+element-write-t-3 : tie.Need-element-write-t-3 Inv-loop μ-loop Inv-entries μ-entries
+element-write-t-3 c = let small = number-small _ _ (sym (c .before .before .before .before .before .before .number-refused .ensures) ∙ c .before .before .before .before .before .if3 .left) in search needs
+
+mul-t-3 : tie.Need-mul-t-3 Inv-loop μ-loop Inv-entries μ-entries
+mul-t-3 c = let small = number-small _ _ (sym (c .before .before .before .before .before .before .number-refused .ensures) ∙ c .before .before .before .before .before .if3 .left) in search needs
+
+element-write-t-4 : tie.Need-element-write-t-4 Inv-loop μ-loop Inv-entries μ-entries
+element-write-t-4 c = let small = number-small _ _ (sym (c .before .before .before .before .before .before .number-refused .ensures) ∙ c .before .before .before .before .before .if3 .left) in search needs
 
 with-marked-requires : tie.Need-with-marked-requires Inv-loop μ-loop Inv-entries μ-entries
 with-marked-requires c κs = search needs
@@ -121,14 +151,17 @@ unfolding with-task
 entries-again c =
     let v = c .before .before .before .before .before .before .before .before .before .before .before .before .before .before .before .entries in let s = c .before .before .before .before .before .before .before .before .before .before .before .before .before .before .before .before .before .before .args .s .now in
     let w = c .before .before .before .before .before .loop in
-    let e = c .before .with-task .ensures in
+    let e = c .before .insert .ensures in
     let whole = task-whole s (v .at) _ (sym (c .before .before .before .before .before .before .before .before .before .before .before .entry-at .ensures) ∙ c .before .before .before .before .before .before .before .before .before .entry2 .given .1) in (
       omega (arith, whole),
-      rw e (simp length-set (v .inv .1)),
+      simp length-set (v .inv .1),
       rw e (insert-small _ _),
       rw (e, c .with-marked .ensures)
           (turn-on s (v .at) (v .t) (v .marked) (v .inv .3) (c .before .before .before .before .before .before .before .before .before .before .before .before .before .before .if1 .left) _ _
           (λ k. takes s (v .at) (v .t) (v .marked) k (before-release s (v .at) (c .before .before .before .before .before .before .before .before .before .before .before .before .before .before .if1 .left) (λ x. c .before .before .before .before .before .before .before .before .before .before .before .before .if2 .left (c .before .before .before .before .before .before .before .before .before .before .before .before .before .get-u8 .ensures ∙ x))) _ (sym (c .before .before .before .before .before .before .before .before .before .before .before .entry-at .ensures) ∙ c .before .before .before .before .before .before .before .before .before .entry2 .given .1) ((others-last (v .t) _ (sym (c .before .before .before .before .before .before .before .number-refused .ensures) ∙ c .before .before .before .before .before .before .if3 .left) (searched-all (v .t) _ (w .left) (c .before .before .before .before .loop-test .left) (w .inv))) ∙ sym (c .before .before .before .mark-or-length-refusal .ensures) ∙ c .before .before .if5 .left))),
+      simp length-set (v .inv .4),
+      simp length-set (v .inv .5),
+      simp length-set (v .inv .6),
     )
 
 returns : tie.Need-returns Inv-loop μ-loop Inv-entries μ-entries
@@ -192,12 +225,20 @@ read-spec =
     cast-if4
     element-copy-out-if4
     refused-at-requires-3
-    remove-requires
+    rest-requires
     loop-less
     loop-again
     mark-or-length-refusal-requires
     refused-at-requires-4
-    with-task-requires
+    cast-i
+    insert-requires
+    element-write-t
+    mul-t
+    element-write-t-2
+    mul-t-2
+    element-write-t-3
+    mul-t-3
+    element-write-t-4
     with-marked-requires
     add-at
     entries-less

@@ -1,7 +1,10 @@
 -- `dispatcher::Dispatcher::instant` meets its contract: a call that meets no row is served, and one that meets one is refused with the state as it was. Assumes nothing.
-use borrow.Author.Needs.{needs}
+use mathlib.Core.Path.{refl, sym, _∙_}
 use borrow.Author.Tests.{eq-eqb, ne-eqb}
-use Rattle.dispatcher.specs.Calls.{instant}
+use borrow.Author.Needs.{needs}
+use Rattle.rules.specs.Calls.{instant}
+use Rattle.rules.specs.Apart.{whole}
+use Rattle.dispatcher.specs.Reading.{state-of}
 use Rattle.dispatcher.proofs.Dispatcher.instant.Statement.{statement}
 use Rattle.dispatcher.proofs.Dispatcher.instant.Tie as tie
 
@@ -12,12 +15,21 @@ served-requires : tie.Need-served-requires
 served-requires c κs = search needs
 
 returns : tie.Need-returns
-unfolding instant
-returns c = simp (← c .before .before .refusal .ensures, eq-eqb _ _ (c .before .if1 .taken), c .served .ensures)
+unfolding instant whole
+returns c =
+    let s = c .before .before .before .args in
+    let n = c .before .before .refusal .ensures (state-of (s .self)) refl refl refl in
+    record {
+      step = simp (← n, eq-eqb _ _ (c .before .if1 .taken), c .served .ensures);
+      untouched = λ f. absurd (f (sym n ∙ c .before .if1 .taken));
+    }
 
 returns-2 : tie.Need-returns-2
-unfolding instant
-returns-2 c = simp (← c .before .refusal .ensures, ne-eqb _ _ (c .if1 .left))
+unfolding instant whole
+returns-2 c =
+    let s = c .before .before .args in
+    let n = c .before .refusal .ensures (state-of (s .self)) refl refl refl in
+    record { step = simp (← n, ne-eqb _ _ (c .if1 .left)); untouched = λ f. refl }
 
 pub instant-spec : {M : Type 1} → statement M
 instant-spec = tie.close (tie.spec refusal-requires served-requires returns returns-2)

@@ -1,7 +1,8 @@
 -- `dispatcher::Dispatcher::mark` meets its contract: a call that meets no row sets the mark, and one that meets one is refused with the state as it was. Assumes nothing.
+use mathlib.Core.Path.{refl, sym, _∙_}
 use borrow.Author.Tests.{eq-eqb, ne-eqb}
 use borrow.Author.Needs.{needs}
-use Rattle.dispatcher.specs.Calls.{mark}
+use Rattle.rules.specs.Calls.{mark}
 use Rattle.dispatcher.proofs.Dispatcher.mark.Statement.{statement}
 use Rattle.dispatcher.proofs.Dispatcher.mark.Tie as tie
 
@@ -13,11 +14,14 @@ with-mark-requires c κs = search needs
 
 returns : tie.Need-returns
 unfolding mark
-returns c = simp (← c .before .before .mark-refusal .ensures, eq-eqb _ _ (c .before .if1 .taken), c .with-mark .ensures)
+returns c = record {
+  step = simp (← c .before .before .mark-refusal .ensures, eq-eqb _ _ (c .before .if1 .taken), c .with-mark .ensures);
+  untouched = λ f. absurd (f (sym (c .before .before .mark-refusal .ensures) ∙ c .before .if1 .taken));
+}
 
 returns-2 : tie.Need-returns-2
 unfolding mark
-returns-2 c = simp (← c .before .mark-refusal .ensures, ne-eqb _ _ (c .if1 .left))
+returns-2 c = record { step = simp (← c .before .mark-refusal .ensures, ne-eqb _ _ (c .if1 .left)); untouched = λ f. refl }
 
 pub mark-spec : {M : Type 1} → statement M
 mark-spec = tie.close (tie.spec mark-refusal-requires with-mark-requires returns returns-2)

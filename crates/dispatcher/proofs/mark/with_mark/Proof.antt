@@ -4,6 +4,7 @@ use borrow.Author.Tests.{eq-eqb, ne-eqb}
 use borrow.Author.Needs.{needs}
 use lib.Dec.{eqb}
 use Rattle.sets.specs.Sets.{insert, remove}
+use Rattle.rules.specs.Apart.{interval-in, phase-in, whole}
 use Rattle.dispatcher.proofs.mark.with_mark.Statement.{statement}
 use Rattle.dispatcher.proofs.mark.with_mark.Tie as tie
 
@@ -14,10 +15,12 @@ remove-requires : tie.Need-remove-requires
 remove-requires c κs = search needs
 
 returns : tie.Need-returns
+unfolding whole phase-in interval-in
 returns c =
-    let w = c .before .before in
-    let s = w .before .args in
-    let e : w .if1 .marked ≡ cond (eqb (s .mark) 1) (insert (s .task) (s .d .marked)) (remove (s .task) (s .d .marked)) =
+    let w = c .before .before .before in
+    let s = w .before .before .args in
+    let r = s .d .registers in
+    let e : w .if1 .marked ≡ cond (eqb (s .mark) 1) (insert (s .task) (r .marked)) (remove (s .task) (r .marked)) =
     ⊎-elim (λ a. simp (eq-eqb _ _ (a .0 .taken)) (a .2 ∙ a .1 .ensures)) (λ a. simp (ne-eqb _ _ (a .0 .left)) (a .2 ∙ a .1 .ensures)) (w .if1 .came) in
     simp e
 

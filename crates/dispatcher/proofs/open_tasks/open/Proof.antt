@@ -1,6 +1,6 @@
 -- `dispatcher::open` meets its contract: by what the task entries were read to. Assumes nothing.
 use borrow.Author.Tests.{eq-eqb, ne-eqb}
-use Rattle.dispatcher.specs.Calls.{opening}
+use Rattle.rules.specs.Calls.{opening}
 use borrow.Author.Needs.{needs}
 use Rattle.dispatcher.proofs.open_tasks.open.Statement.{statement}
 use Rattle.dispatcher.proofs.open_tasks.open.Tie as tie

@@ -1,12 +1,13 @@
--- `dispatcher::opened` meets its contract: field by field. Assumes nothing.
-use mathlib.Core.Path.{refl}
-use Rattle.dispatcher.specs.Calls.{opened}
+-- `dispatcher::opened` meets its contract: what the registers at opening promise, at this table. Assumes nothing.
+use borrow.Author.Needs.{needs}
 use Rattle.dispatcher.proofs.open_tasks.opened.Statement.{statement}
 use Rattle.dispatcher.proofs.open_tasks.opened.Tie as tie
 
+empty-requires : tie.Need-empty-requires
+empty-requires c κs = search needs
+
 returns : tie.Need-returns
-unfolding opened
-returns c = refl
+returns c = c .empty .ensures _
 
 pub opened-spec : {M : Type 1} → statement M
-opened-spec = tie.close (tie.spec returns)
+opened-spec = tie.close (tie.spec empty-requires returns)

@@ -6,6 +6,7 @@ use borrow.Author.Needs.{needs}
 use borrow.Author.Tests.{leb-true, leb-false}
 use lib.ListN.{length}
 use Rattle.sets.specs.Sets.{insert}
+use Rattle.words.specs.Laws.{read-in-rest}
 use Rattle.entries.specs.Entries.{release-at}
 use Rattle.record.specs.Listed.{releases-at}
 use Rattle.record.specs.Run.{released-from, released-at, released-after}
@@ -26,14 +27,17 @@ loop-holds c = (refl, refl)
 more-requires : tie.Need-more-requires Inv-loop μ-loop
 more-requires c κs = search needs
 
-add-get-u64 : tie.Need-add-get-u64 Inv-loop μ-loop
-add-get-u64 c = omega (arith, leb-true 10 (length (c .before .before .before .before .args .s .now) - c .before .before .loop .at) (sym (c .before .more .ensures) ∙ c .if1 .taken))
+sub-rest : tie.Need-sub-rest Inv-loop μ-loop
+sub-rest c = omega (arith, leb-true 10 (length (c .before .before .before .before .args .s .now) - c .before .before .loop .at) (sym (c .before .more .ensures) ∙ c .if1 .taken))
+
+part-rest-start : tie.Need-part-rest-start Inv-loop μ-loop
+part-rest-start c = omega (arith, leb-true 10 (length (c .before .before .before .before .args .s .now) - c .before .before .loop .at) (sym (c .before .more .ensures) ∙ c .if1 .taken))
+
+part-rest-end : tie.Need-part-rest-end Inv-loop μ-loop
+part-rest-end c = search needs
 
 get-u64-requires : tie.Need-get-u64-requires Inv-loop μ-loop
 get-u64-requires c κs = search needs
-
-add-get-u8 : tie.Need-add-get-u8 Inv-loop μ-loop
-add-get-u8 c = omega (arith, leb-true 10 (length (c .before .before .before .before .before .before .args .s .now) - c .before .before .before .before .loop .at) (sym (c .before .before .before .more .ensures) ∙ c .before .before .if1 .taken))
 
 get-u8-requires : tie.Need-get-u8-requires Inv-loop μ-loop
 get-u8-requires c κs = search needs
@@ -42,18 +46,18 @@ insert-requires : tie.Need-insert-requires Inv-loop μ-loop
 insert-requires c κs = search needs
 
 add-at : tie.Need-add-at Inv-loop μ-loop
-add-at c = omega (arith, leb-true 10 (length (c .before .before .before .before .before .before .before .before .args .s .now) - c .before .before .before .before .before .before .loop .at) (sym (c .before .before .before .before .before .more .ensures) ∙ c .before .before .before .before .if1 .taken))
+add-at c = omega (arith, leb-true 10 (length (c .before .before .before .before .before .before .before .before .before .args .s .now) - c .before .before .before .before .before .before .before .loop .at) (sym (c .before .before .before .before .before .before .more .ensures) ∙ c .before .before .before .before .before .if1 .taken))
 
 loop-less : tie.Need-loop-less Inv-loop μ-loop
-loop-less c = omega (arith, leb-true 10 (length (c .before .before .before .before .before .before .before .before .args .s .now) - c .before .before .before .before .before .before .loop .at) (sym (c .before .before .before .before .before .more .ensures) ∙ c .before .before .before .before .if1 .taken))
+loop-less c = omega (arith, leb-true 10 (length (c .before .before .before .before .before .before .before .before .before .args .s .now) - c .before .before .before .before .before .before .before .loop .at) (sym (c .before .before .before .before .before .before .more .ensures) ∙ c .before .before .before .before .before .if1 .taken))
 
 loop-again : tie.Need-loop-again Inv-loop μ-loop
 unfolding release-at
 loop-again c =
-    let a = c .before .before .before .before .before .before .before .before .args in let s = a .s .now in let v = c .before .before .before .before .before .before .loop in let t = a .t in
-    let e = here s (v .at) (leb-true 10 _ (sym (c .before .before .before .before .before .more .ensures) ∙ c .before .before .before .before .if1 .taken)) in
-    let now = sym (c .before .before .before .get-u64 .ensures) ∙ c .before .before .if2 .left in
-    let next = c .insert .ensures ∙ ap (λ (n : ℕ). insert n (v .set)) (c .before .get-u8 .ensures) in (
+    let a = c .before .before .before .before .before .before .before .before .before .args in let s = a .s .now in let v = c .before .before .before .before .before .before .before .loop in let t = a .t in
+    let e = here s (v .at) (leb-true 10 _ (sym (c .before .before .before .before .before .before .more .ensures) ∙ c .before .before .before .before .before .if1 .taken)) in
+    let now = sym (c .before .before .before .get-u64 .ensures ∙ read-in-rest 8 (v .at) 2 s) ∙ c .before .before .if2 .left in
+    let next = c .insert .ensures ∙ ap (λ (n : ℕ). insert n (v .set)) (c .before .get-u8 .ensures ∙ read-in-rest 1 (v .at) 1 s) in (
       ap (λ (x : ℕ). released-from t x (releases-at s (v .at + 10))) next ∙ sym (ap (released-from t (v .set)) e ∙ taken t (v .set) (release-at s (v .at)) _ now) ∙ v .inv .0,
       sym (ap (released-after t) e ∙ after-taken t (v .set) (release-at s (v .at)) _ now) ∙ v .inv .1,
     )
@@ -71,9 +75,9 @@ returns c =
 returns-2 : tie.Need-returns-2 Inv-loop μ-loop
 unfolding release-at
 returns-2 c =
-    let a = c .before .before .before .before .before .before .args in let s = a .s .now in let v = c .before .before .before .before .loop in let t = a .t in
-    let e = here s (v .at) (leb-true 10 _ (sym (c .before .before .before .more .ensures) ∙ c .before .before .if1 .taken)) in
-    let not-now : release-at s (v .at) .time ≡ t → ⊥ = λ x. c .if2 .taken (c .before .get-u64 .ensures ∙ x) in
+    let a = c .before .before .before .before .before .before .before .args in let s = a .s .now in let v = c .before .before .before .before .before .loop in let t = a .t in
+    let e = here s (v .at) (leb-true 10 _ (sym (c .before .before .before .before .more .ensures) ∙ c .before .before .before .if1 .taken)) in
+    let not-now : release-at s (v .at) .time ≡ t → ⊥ = λ x. c .if2 .taken (c .before .get-u64 .ensures ∙ read-in-rest 8 (v .at) 2 s ∙ x) in
     record {
       set-is = sym (ap (released-from t (v .set)) e ∙ later t (v .set) (release-at s (v .at)) _ not-now) ∙ v .inv .0;
       rest = e ∙ sym (ap (released-after t) e ∙ after-later t (v .set) (release-at s (v .at)) _ not-now) ∙ v .inv .1;
@@ -87,9 +91,10 @@ released-spec =
     μ-loop
     loop-holds
     more-requires
-    add-get-u64
+    sub-rest
+    part-rest-start
+    part-rest-end
     get-u64-requires
-    add-get-u8
     get-u8-requires
     insert-requires
     add-at

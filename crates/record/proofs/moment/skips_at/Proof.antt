@@ -5,7 +5,7 @@ use native.Mathlib.Omega.{arith}
 use lib.ListN.{length}
 use Rattle.sets.specs.Sets.{lowest}
 use Rattle.sets.specs.Laws.{lowest-none}
-use Rattle.dispatcher.proofs.Members.{Left, start, turn, falls}
+use Rattle.rules.proofs.Members.{Left, start, turn, falls}
 use Rattle.record.specs.Run.{skips-bytes}
 use Rattle.record.specs.Advance.{Laid}
 use Rattle.record.proofs.Writing.{none, both, skips-none, skips-room, skips-turn}
@@ -32,16 +32,16 @@ skipped-at-requires c κs =
     let x = turn (v .inv .0) (c .before .before .loop-test .taken) (c .before .lowest .ensures) refl in
     rw (v .inv .2) (skips-room (a .set) (v .left) _ _ (a .time) x (a .start) (v .at) (length (a .out .now)) (v .inv .1 .place-is) (c .before .before .before .before .before .pre))
 
-remove-requires : tie.Need-remove-requires Inv-loop μ-loop
-remove-requires c κs = search needs
+rest-requires : tie.Need-rest-requires Inv-loop μ-loop
+rest-requires c κs = search needs
 
 loop-less : tie.Need-loop-less Inv-loop μ-loop
-loop-less c = let a = c .before .before .before .before .before .before .before .before .before .args in let v = c .before .before .before .before .before .before .before .loop in falls (v .inv .0) (c .before .before .before .before .before .before .loop-test .taken) (c .before .before .before .before .before .lowest .ensures) (c .remove .ensures)
+loop-less c = let a = c .before .before .before .before .before .before .before .before .before .args in let v = c .before .before .before .before .before .before .before .loop in falls (v .inv .0) (c .before .before .before .before .before .before .loop-test .taken) (c .before .before .before .before .before .lowest .ensures) (c .rest .ensures)
 
 loop-again : tie.Need-loop-again Inv-loop μ-loop
 loop-again c =
     let a = c .before .before .before .before .before .before .before .before .before .args in let v = c .before .before .before .before .before .before .before .loop in
-    let x = turn (v .inv .0) (c .before .before .before .before .before .before .loop-test .taken) (c .before .before .before .before .before .lowest .ensures) (c .remove .ensures) in
+    let x = turn (v .inv .0) (c .before .before .before .before .before .before .loop-test .taken) (c .before .before .before .before .before .lowest .ensures) (c .rest .ensures) in
     let y = c .before .before .before .skipped-at .ensures in (
       x .next,
       rw (skips-turn (a .set) (v .left) _ _ (a .time) x) (both (a .start) _ _ (a .out .now) (v .at) (v .out) _ _ (omega (arith, c .before .before .before .before .before .before .before .before .before .pre)) (v .inv .1) y),
@@ -63,7 +63,7 @@ skips-at-spec =
     loop-holds
     lowest-requires
     skipped-at-requires
-    remove-requires
+    rest-requires
     loop-less
     loop-again
     same-length

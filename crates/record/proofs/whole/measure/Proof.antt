@@ -8,7 +8,7 @@ slice-aggregate-run-over : tie.Need-slice-aggregate-run-over
 slice-aggregate-run-over c = search needs
 
 run-over-requires : tie.Need-run-over-requires
-run-over-requires c κs = record { kept = λ e. absurd (false≢true e); scratch = λ e. search needs; few = c .before .before .pre }
+run-over-requires c κs = record { kept = λ e. absurd (false≢true e); scratch = λ e. search needs; few = c .before .before .pre .few; served = c .before .before .pre .served }
 
 returns : tie.Need-returns
 returns c = search needs

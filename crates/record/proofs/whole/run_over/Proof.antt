@@ -1,81 +1,91 @@
 -- `record::run_over` meets its contract: what is laid so far and what is to come make the whole record. Assumes nothing.
-use mathlib.Core.Path.{_≡_, refl, sym, ap, _∙_}
+use mathlib.Core.Path.{_≡_}
+use mathlib.Core.Bool.{true, false}
+use Prim.Native.Nat.{_+_}
 use mathlib.Core.Logic.{⊎-elim}
 use native.Mathlib.Omega.{arith}
 use Rattle.sets.specs.Laws.{clash}
-use Rattle.record.specs.Run.{run, record-bytes}
+use Rattle.record.specs.Types.{Unset}
 use Rattle.record.specs.Advance.{run-bytes}
-use Rattle.record.proofs.Running.{Progress, begins, ends, over, room, more, answer-most}
+use Rattle.record.proofs.Parts.{Going, cursor-in, adds-up, comes, sets-out, fits, arrives, spent, stops, room-kept, room-scratch, grows, moves}
 use borrow.Author.Needs.{needs}
 use Rattle.record.proofs.whole.run_over.Statement.{statement}
 use Rattle.record.proofs.whole.run_over.Tie as tie
 
 abbrev Inv-loop : tie.InvT-loop
-Inv-loop s budget out₀ keep cursor₀ size₀ left₀ out cursor size left =
-    Progress s (run-bytes s cursor₀ budget) out₀ keep cursor size left out
+Inv-loop s budget out₀ keep table priority copyin execution copyout release₀ blocked₀ r₀ at₀ size₀ left₀ out release blocked r at size left =
+    Going s table (run-bytes s (cursor-in table Unset release₀ blocked₀ r₀ at₀) budget) out₀ keep release blocked r at size left out
 
 abbrev μ-loop : tie.MeasureT-loop
-μ-loop s budget out₀ keep cursor₀ size₀ left₀ out cursor size left = left
+μ-loop s budget out₀ keep table priority copyin execution copyout release₀ blocked₀ r₀ at₀ size₀ left₀ out release blocked r at size left = left
+
+empty-requires : tie.Need-empty-requires Inv-loop μ-loop
+empty-requires c κs = search needs
 
 loop-holds : tie.Need-loop-holds Inv-loop μ-loop
-loop-holds c = begins _ _ _ _ _ (c .before .before .pre .few)
+loop-holds c = let f = c .before .before .before .before .before .before .before .before in sets-out (f .args .tasks) (c .empty .result) (c .empty .ensures) (f .pre)
 
-next-time-requires : tie.Need-next-time-requires Inv-loop μ-loop
-next-time-requires c κs = search needs
+next-tick-requires : tie.Need-next-tick-requires Inv-loop μ-loop
+next-tick-requires c κs = search needs
 
-enum-told : tie.Need-enum-told Inv-loop μ-loop
-enum-told c = search needs
+released-requires : tie.Need-released-requires Inv-loop μ-loop
+released-requires c κs = search needs
 
-enum-known-next : tie.Need-enum-known-next Inv-loop μ-loop
-enum-known-next c = search needs
-
-advance-requires : tie.Need-advance-requires Inv-loop μ-loop
-advance-requires c κs = search needs
-
-answer-at-requires : tie.Need-answer-at-requires Inv-loop μ-loop
-answer-at-requires c κs =
-    let a = c .before .before .before .before .before .before .before .before .before .before .before .args in let v = c .before .before .before .before .before .before .before .before .loop in let s = a .s .now in let whole = run-bytes s (a .start) (a .budget) in
+instant-at-requires : tie.Need-instant-at-requires Inv-loop μ-loop
+instant-at-requires c κs =
+    let joined = c .before .before .before .before .before .before .before in
+    let v = joined .before .before .before .before .before .loop in
+    let f = joined .before .before .before .before .before .before .before .before .before .before .before .before .before .before in
+    let some = joined .before .before .before .before .loop-test .taken in
+    let now = comes (joined .before .before .before .next-tick .ensures) (joined .before .before .if1 .left) in
+    let batch = joined .before .released .ensures in
+    let empty = joined .before .before .before .before .before .before .empty in
     ⊎-elim
-    (λ w. rw (w .1) (room s whole (a .out .now) (a .keep) (v .cursor) (v .size) (v .left) (v .out) (v .inv) _ (c .before .before .advance .result) (c .before .before .before .before .before .before .before .loop-test .taken) (sym (c .before .before .before .before .before .before .next-time .ensures) ∙ c .before .before .before .before .next .given .1) (c .before .before .advance .ensures) (c .before .before .before .before .before .before .before .before .before .before .before .pre .kept (w .0 .taken))))
-    (λ w. rw (w .1) (omega (arith, answer-most (c .before .before .before .before .next .given .0 .0) (c .before .before .advance .result .answer), v .inv .same, c .before .before .before .before .before .before .before .before .before .before .before .pre .scratch (w .0 .left))))
-    (c .before .if1 .came)
-
-sub-size : tie.Need-sub-size Inv-loop μ-loop
-sub-size c = omega (arith, c .before .before .before .answer-at .ensures .place-is)
+    (λ w. rw (w .1) (room-kept (v .inv) some now batch (fits (f .args .tasks) (empty .result) (empty .ensures) (f .pre) (w .0 .taken))))
+    (λ w. rw (w .1) (room-scratch (v .inv) some now batch (f .pre .scratch (w .0 .left))))
+    (joined .if2 .came)
 
 add-size : tie.Need-add-size Inv-loop μ-loop
-add-size c = let v = c .before .before .before .before .before .before .before .before .before .before .before .before .loop in omega (arith, c .before .before .before .answer-at .ensures .place-is, answer-most (c .before .before .before .before .before .before .before .before .next .given .0 .0) (c .before .before .before .before .before .before .advance .result .answer), v .inv .few)
+add-size c =
+    let joined = c .before .before .before .before .before .before .before .before .before .before .before .before .before in
+    let all = grows (joined .before .before .before .before .before .loop .inv) (joined .before .before .before .before .loop-test .taken) (c .before .before .before .before .before .instant-at .ensures) in
+    ⊎-elim (λ w. clash _ (w .0 .taken) (c .before .if3 .left)) (λ w. omega (arith, all, w .1)) (joined .if2 .came)
 
 sub-left : tie.Need-sub-left Inv-loop μ-loop
-sub-left c = search needs
+sub-left c = omega (arith, c .before .before .before .before .before .before .before .before .before .before .before .before .before .before .before .before .loop-test .taken)
 
 loop-less : tie.Need-loop-less Inv-loop μ-loop
-loop-less c = search needs
+loop-less c = omega (arith, c .before .before .before .before .before .before .before .before .before .before .before .before .before .before .before .before .loop-test .taken)
 
 loop-again : tie.Need-loop-again Inv-loop μ-loop
 loop-again c =
-    let a = c .before .before .before .before .before .before .before .before .before .before .before .before .before .before .before .before .args in let v = c .before .before .before .before .before .before .before .before .before .before .before .before .before .loop in let s = a .s .now in let whole = run-bytes s (a .start) (a .budget) in
-    more s whole (a .out .now) (a .keep) (v .cursor) (v .size) (v .left) (v .out) (v .inv) _ (c .before .before .before .before .before .before .before .advance .result) (c .before .before .before .before .before .before .before .before .before .before .before .before .loop-test .taken) (sym (c .before .before .before .before .before .before .before .before .before .before .before .next-time .ensures) ∙ c .before .before .before .before .before .before .before .before .before .next .given .1) (c .before .before .before .before .before .before .before .advance .ensures) _ _ _ (c .before .before .before .before .answer-at .ensures)
-    (λ e. ⊎-elim (λ w. w .1) (λ w. clash (a .keep) e (w .0 .left)) (c .before .before .before .before .before .before .if1 .came)) (c .before .before .before .before .before .before .before .before .before .before .before .before .before .before .before .before .pre .kept) (c .before .before .before .out .given)
+    let joined = c .before .before .before .before .before .before .before .before .before .before .before .before in
+    let v = joined .before .before .before .before .before .loop in
+    let f = joined .before .before .before .before .before .before .before .before .before .before .before .before .before .before in
+    let keep = f .args .keep in
+    let some = joined .before .before .before .before .loop-test .taken in
+    let now = comes (joined .before .before .before .next-tick .ensures) (joined .before .before .if1 .left) in
+    let batch = joined .before .released .ensures in
+    let empty = joined .before .before .before .before .before .before .empty in
+    let x = c .before .before .before .before .instant-at in
+    let kept : keep ≡ true → joined .if2 .place ≡ v .size = λ e. ⊎-elim (λ w. w .1) (λ w. clash keep e (w .0 .left)) (joined .if2 .came) in
+    let scratch : keep ≡ false → joined .if2 .place ≡ 0 = λ e. ⊎-elim (λ w. clash keep (w .0 .taken) e) (λ w. w .1) (joined .if2 .came) in
+    let end : keep ≡ true → c .if3 .size ≡ x .result .end = λ e. ⊎-elim (λ w. w .1) (λ w. clash keep e (w .0 .left)) (c .if3 .came) in
+    let more : keep ≡ false → c .if3 .size ≡ v .size + x .result .end = λ e. ⊎-elim (λ w. clash keep (w .0 .taken) e) (λ w. w .2) (c .if3 .came) in
+    moves (v .inv) some now batch {place = joined .if2 .place} (x .ensures) kept (fits (f .args .tasks) (empty .result) (empty .ensures) (f .pre)) (c .before .before .before .out .given)
+    (adds-up keep (v .size) (joined .if2 .place) (x .result .end) _ (c .if3 .size) (x .ensures .laid .place-is) kept scratch end more)
 
 same-length : tie.Need-same-length Inv-loop μ-loop
-same-length c = c .before .loop .inv .same
+same-length c = c .before .loop .inv .progress .same
 
 returns : tie.Need-returns Inv-loop μ-loop
-unfolding run record-bytes
-returns c =
-    let a = c .before .before .before .before .args in let v = c .before .loop in let s = a .s .now in let whole = run-bytes s (a .start) (a .budget) in
-    let e = ends s whole (a .out .now) (a .keep) (v .cursor) (v .size) (v .left) (v .out) (v .inv) (ap (run-bytes s (v .cursor)) (c .loop-test .left)) in
-    record { size-is = e .0; holds = e .1 }
+returns c = arrives (c .before .before .before .before .before .before .before .before .before .before .args .tasks) (c .before .before .empty .result) (c .before .before .empty .ensures) (spent (c .before .loop .inv) (c .loop-test .left))
 
 same-length-2 : tie.Need-same-length-2 Inv-loop μ-loop
-same-length-2 c = c .before .before .before .before .loop .inv .same
+same-length-2 c = c .before .before .before .loop .inv .progress .same
 
 returns-2 : tie.Need-returns-2 Inv-loop μ-loop
-returns-2 c =
-    let a = c .before .before .before .before .before .before .before .args in let v = c .before .before .before .before .loop in let s = a .s .now in let whole = run-bytes s (a .start) (a .budget) in
-    let e = ends s whole (a .out .now) (a .keep) (v .cursor) (v .size) (v .left) (v .out) (v .inv) (over s (v .cursor) (v .left) (sym (c .before .before .next-time .ensures) ∙ c .enum-told .given .1)) in
-    record { size-is = e .0; holds = e .1 }
+returns-2 c = arrives (c .before .before .before .before .before .before .before .before .before .before .before .before .args .tasks) (c .before .before .before .before .empty .result) (c .before .before .before .before .empty .ensures) (stops (c .before .before .before .loop .inv) (c .before .next-tick .ensures) (c .if1 .taken))
 
 pub run-over-spec : {M : Type 1} → statement M
 run-over-spec =
@@ -83,13 +93,11 @@ run-over-spec =
     (tie.spec
     Inv-loop
     μ-loop
+    empty-requires
     loop-holds
-    next-time-requires
-    enum-told
-    enum-known-next
-    advance-requires
-    answer-at-requires
-    sub-size
+    next-tick-requires
+    released-requires
+    instant-at-requires
     add-size
     sub-left
     loop-less

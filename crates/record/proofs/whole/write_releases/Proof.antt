@@ -11,11 +11,10 @@ check-releases-requires c κs = search needs
 enum-told : tie.Need-enum-told
 enum-told c = search needs
 
-opened-requires : tie.Need-opened-requires
-opened-requires c κs = search needs
-
 write-run-requires : tie.Need-write-run-requires
-write-run-requires c κs = let a = c .before .before .before .before .before .before .before .before .args in rw (c .before .opened .ensures) (runs (a .s .now) (a .tasks) (c .before .before .before .before .before .before .before .before .pre) (sym (c .before .before .before .before .check-releases .ensures) ∙ c .before .before .enum-told .given .1))
+write-run-requires c κs =
+    let f = c .before .before .before .before .before .before .before in
+    runs (f .args .s .now) (f .args .tasks) (f .pre) (sym (c .before .before .before .check-releases .ensures) ∙ c .before .enum-told .given .1)
 
 enum-told-2 : tie.Need-enum-told-2
 enum-told-2 c = search needs
@@ -28,8 +27,9 @@ same-length c = search needs
 
 returns : tie.Need-returns
 returns c =
-    let a = c .before .before .before .before .before .before .before .before .before .before .before .args in
-    rw (whole-file (a .s .now) (a .tasks) (c .before .before .before .before .before .before .before .before .before .before .before .pre) (sym (c .before .before .before .before .before .before .before .check-releases .ensures) ∙ c .before .before .before .before .before .enum-told .given .1) (a .out .now)) (rw (c .before .before .before .before .opened .ensures) at (c .before .before .write-run .ensures))
+    let f = c .before .before .before .before .before .before .before .before .before .before in
+    let told = c .before .before .before .before in
+    rw (whole-file (f .args .s .now) (f .args .tasks) (f .pre) (sym (told .before .before .check-releases .ensures) ∙ told .enum-told .given .1) (f .args .out .now)) (c .before .before .write-run .ensures)
 
 returns-2 : tie.Need-returns-2
 returns-2 c = let a = c .before .before .before .before .before .before .args in refused-late (a .s .now) (a .tasks) (c .before .before .before .before .before .before .pre) (a .out .now) _ (alone (c .enum-told2 .given .1)) (c .before .before .check-releases .ensures)
@@ -43,7 +43,6 @@ write-releases-spec =
     (tie.spec
     check-releases-requires
     enum-told
-    opened-requires
     write-run-requires
     enum-told-2
     enum-told-3

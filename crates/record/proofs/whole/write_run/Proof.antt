@@ -20,28 +20,28 @@ mul-if1 : tie.Need-mul-if1
 mul-if1 c = search needs
 
 run-over-requires : tie.Need-run-over-requires
-run-over-requires c κs = let a = c .before .before .before .before .args in let r = c .before .before .before .before .pre in record { kept = λ e. omega (arith, r .short); scratch = λ e. absurd (true≢false e); few = omega (arith, r .few) }
+run-over-requires c κs = let a = c .before .before .before .before .before .args in let r = c .before .before .before .before .before .pre in record { kept = λ e. omega (arith, r .short); scratch = λ e. absurd (true≢false e); few = omega (arith, r .few); served = r .served }
 
 same-length : tie.Need-same-length
 same-length c = search needs
 
 returns : tie.Need-returns
-returns c = let a = c .before .before .before .before .before .before .before .args in let r = c .before .before .before .before .before .before .before .pre in let e = c .before .before .run-over .ensures in fits _ (a .out .now) _ _ (e .size-is) (omega (arith, r .short)) (e .holds refl)
+returns c = let a = c .before .before .before .before .before .before .before .before .args in let r = c .before .before .before .before .before .before .before .before .pre in let e = c .before .before .run-over .ensures in fits _ (a .out .now) _ _ (e .size-is) (omega (arith, r .short)) (e .holds refl)
 
 measure-requires : tie.Need-measure-requires
 measure-requires c κs = search needs
 
 run-over-requires-2 : tie.Need-run-over-requires-2
-run-over-requires-2 c κs = let a = c .before .before .before .before .before .before .args in let r = c .before .before .before .before .before .before .pre in record { kept = λ e. rw (sym (c .before .before .measure .ensures)) (search needs); scratch = λ e. absurd (true≢false e); few = omega (arith, r .few) }
+run-over-requires-2 c κs = let a = c .before .before .before .before .before .before .before .args in let r = c .before .before .before .before .before .before .before .pre in record { kept = λ e. rw (sym (c .before .before .measure .ensures)) (search needs); scratch = λ e. absurd (true≢false e); few = omega (arith, r .few); served = r .served }
 
 same-length-2 : tie.Need-same-length-2
 same-length-2 c = search needs
 
 returns-2 : tie.Need-returns-2
-returns-2 c = let a = c .before .before .before .before .before .before .before .before .before .args in let r = c .before .before .before .before .before .before .before .before .before .pre in let e = c .before .before .run-over2 .ensures in fits _ (a .out .now) _ _ (e .size-is) (rw (sym (c .before .before .before .before .before .measure .ensures)) (search needs)) (e .holds refl)
+returns-2 c = let a = c .before .before .before .before .before .before .before .before .before .before .args in let r = c .before .before .before .before .before .before .before .before .before .before .pre in let e = c .before .before .run-over2 .ensures in fits _ (a .out .now) _ _ (e .size-is) (rw (sym (c .before .before .before .before .before .measure .ensures)) (search needs)) (e .holds refl)
 
 returns-3 : tie.Need-returns-3
-returns-3 c = let a = c .before .before .before .before .before .args in let r = c .before .before .before .before .before .pre in too-short _ (a .out .now) _ (c .before .measure .ensures) (rw (sym (c .before .measure .ensures)) (search needs))
+returns-3 c = let a = c .before .before .before .before .before .before .args in let r = c .before .before .before .before .before .before .pre in too-short _ (a .out .now) _ (c .before .measure .ensures) (rw (sym (c .before .measure .ensures)) (search needs))
 
 pub write-run-spec : {M : Type 1} → statement M
 write-run-spec =

@@ -1,0 +1,6 @@
+pub mod Members
+pub mod ByTask
+pub mod Parts
+pub mod Fields
+pub mod Turning
+pub mod Ticks

@@ -1,0 +1,101 @@
+-- The dispatcher by instants, over its state: opening from the task entries, an instant and a mark call, each with its refusals in their
+-- order. A refused call hands the state back as it was.
+use Rattle.rules.specs.Types.{Bool, true, false, cond, not, _&&_, List, [], ℕ, Table, Clock, Unset, At, NoneNext, NoneOutgoing, Between, State, Due, Never, Tick, Answer, Refused, Served, MarkAnswer, MarkRefused, MarkServed, Refusal, NoRefusal, Alone, AtEntry, Tasks}
+use lib.Dec.{ltb, leb, eqb}
+use lib.ListN.{length, replicate}
+use Rattle.sets.specs.Sets.{member, difference, insert, remove}
+use Rattle.table.specs.Tasks.{tasks-of, no-table}
+use Rattle.rules.specs.Instant.{at-g, occurred, due}
+
+-- ---- What a call hands back: the next state, and what it says
+
+pub record Step : Type 0 where
+  pub state : State
+  pub answer : Answer
+
+pub record MarkStep : Type 0 where
+  pub state : State
+  pub answer : MarkAnswer
+
+pub record Opening : Type 0 where
+  pub state : State
+  pub refusal : Refusal
+
+-- ---- Opening: 12, 2, 1, 4, 5, 6, 7. A release entry is refused by 2.
+
+-- no task has a job, and the first interval gives the processor half 0
+unfoldable pub opened : Table → ℕ → State
+opened table marked = record {
+  table = table;
+  marked = marked;
+  clock = Unset;
+  half = 1;
+  jobs = record { pending = 0; ready = 0; release = replicate 32 0; blocked = replicate 32 0 };
+  phase = Between NoneNext NoneOutgoing;
+}
+
+-- what stands for the state where no dispatcher opens: one without a task
+abbrev pub not-opened : Refusal → Opening
+not-opened r = record { state = opened no-table 0; refusal = r }
+
+-- past the task entries there is nothing, or an entry that is no task's
+abbrev pub opened-behind : Tasks → ℕ → Refusal → Opening
+opened-behind k size NoRefusal = cond (eqb (k .end) size) (record { state = opened (k .table) (k .marked); refusal = NoRefusal }) (not-opened (AtEntry 2 (k .end)))
+opened-behind k size (Alone n) = not-opened (Alone n)
+opened-behind k size (AtEntry n at) = not-opened (AtEntry n at)
+
+unfoldable pub opening : List ℕ → Opening
+opening s = cond (eqb (length s) 0) (not-opened (Alone 12)) (let k : Tasks = tasks-of s in opened-behind k (length s) (k .refusal))
+
+-- ---- An instant: 16, 10, 14, 15; 0 is none.
+
+unfoldable pub unknown : State → ℕ → Bool
+unknown d set = not (eqb (difference set (d .table .present)) 0)
+
+-- 0 is allowed first
+abbrev pub not-after : Clock → ℕ → Bool
+not-after Unset t = false
+not-after (At last) t = leb t last
+
+abbrev pub before-now : Due → ℕ → Bool
+before-now Never t = false
+before-now (Tick u) t = ltb u t
+
+unfoldable pub refusal : State → ℕ → ℕ → ℕ
+refusal d t set =
+    cond (unknown d set) 16
+    (cond (not (eqb set 0) && ltb 1000000000 t) 10
+    (cond (not-after (d .clock) t) 14
+    (cond (before-now (due (d .phase)) t) 15 0)))
+
+-- a call that meets no row is served
+unfoldable pub served : State → ℕ → ℕ → Step
+served d t set = record { state = at-g d t set; answer = Served (occurred d t set) }
+
+unfoldable pub instant : State → ℕ → ℕ → Step
+instant d t set =
+    let r : ℕ = refusal d t set in
+    cond (eqb r 0) (served d t set) (record { state = d; answer = Refused r })
+
+-- ---- A mark call: 16, 6, 17; 0 is none.
+
+unfoldable pub mark-refusal : State → ℕ → ℕ → ℕ
+mark-refusal d n m =
+    cond (not (member n (d .table .present))) 16
+    (cond (ltb 1 m) 6
+    (cond (member n (d .jobs .pending)) 17 0))
+
+abbrev pub with-mark : State → ℕ → ℕ → State
+with-mark d n m = record {
+  table = d .table;
+  marked = cond (eqb m 1) (insert n (d .marked)) (remove n (d .marked));
+  clock = d .clock;
+  half = d .half;
+  jobs = d .jobs;
+  phase = d .phase;
+}
+
+unfoldable pub mark : State → ℕ → ℕ → MarkStep
+mark d n m =
+    let r : ℕ = mark-refusal d n m in
+    cond (eqb r 0) (record { state = with-mark d n m; answer = MarkServed }) (record { state = d; answer = MarkRefused r })

@@ -1,0 +1,400 @@
+-- What happens at one instant, steps a to g, in this order. Where it applies a definition names its rule of R1 to R6.
+use Rattle.rules.specs.Types.{Bool, true, false, cond, not, _&&_, _||_, List, [], _∷_, ℕ, suc, _+_, _-_, min, Table, Jobs, MaybeTask, NoTask, Task, Processor, Idle, CopyingIn, Executing, Finished, CopyOut, NoCopyOut, CopyingOut, CopiedOut, CopyIn, Unchosen, NoneChosen, Copying, Loaded, Cancelled, Interval, Next, NoneNext, LoadedNext, PromotedNext, Outgoing, NoneOutgoing, AwaitsCopyOut, Phase, Between, Within, State, JobEntry, IntervalEntry, Done, NoJob, Job, Closed, NoInterval, Span, Closing, Unclosed, BeforeReleases, AfterReleases, Due, Never, Tick, Occurred, Stage}
+use lib.Dec.{eqb}
+use lib.ListN.{getD}
+use Rattle.sets.specs.Sets.{member, union, intersection, difference, insert, remove}
+use Rattle.rules.specs.With.{with-jobs, with-phase, with-ready, with-copyin, at-clock, later}
+use Rattle.rules.specs.Order.{highest-of, outranks, higher}
+
+-- ---- a. Phases that end now end. A copy-out's end completes its job.
+
+-- the processor's own copy-in is followed by the execution
+unfoldable pub processor-at : Table → ℕ → Processor → Processor
+processor-at table t Idle = Idle
+processor-at table t (CopyingIn n until) = cond (eqb until t) (Executing n t (later t (getD (table .execution) n 0))) (CopyingIn n until)
+processor-at table t (Executing n start until) = cond (eqb until t) (Finished n start) (Executing n start until)
+processor-at table t (Finished n start) = Finished n start
+
+unfoldable pub copyout-at : ℕ → CopyOut → CopyOut
+copyout-at t NoCopyOut = NoCopyOut
+copyout-at t (CopyingOut n start until) = cond (eqb until t) (CopiedOut n) (CopyingOut n start until)
+copyout-at t (CopiedOut n) = CopiedOut n
+
+abbrev pub copyin-at : ℕ → CopyIn → CopyIn
+copyin-at t Unchosen = Unchosen
+copyin-at t NoneChosen = NoneChosen
+copyin-at t (Copying n until) = cond (eqb until t) (Loaded n) (Copying n until)
+copyin-at t (Loaded n) = Loaded n
+copyin-at t (Cancelled n) = Cancelled n
+
+unfoldable pub ended : Table → ℕ → Interval → Interval
+ended table t i = record {
+  begin = i .begin;
+  work = i .work;
+  processor = processor-at table t (i .processor);
+  copyout = copyout-at t (i .copyout);
+  copyin = copyin-at t (i .copyin);
+  candidates = i .candidates;
+}
+
+abbrev pub job-entry : Jobs → ℕ → ℕ → ℕ → JobEntry
+job-entry j n start t = record { task = n; release = getD (j .release) n 0; start = start; completion = t; blocked = getD (j .blocked) n 0 }
+
+-- the job whose copy-out ends now
+unfoldable pub completed : Jobs → ℕ → CopyOut → Done
+completed j t NoCopyOut = NoJob
+completed j t (CopyingOut n start until) = cond (eqb until t) (Job (job-entry j n start t)) NoJob
+completed j t (CopiedOut n) = NoJob
+
+abbrev pub after-done : ℕ → Done → ℕ
+after-done s NoJob = s
+after-done s (Job e) = remove (e .task) s
+
+-- a job is pending until its copy-out ends
+unfoldable pub without-done : Jobs → Done → Jobs
+without-done j done = record { pending = after-done (j .pending) done; ready = j .ready; release = j .release; blocked = j .blocked }
+
+unfoldable pub step-a : State → ℕ → Phase → Stage
+step-a d t (Between next outgoing) = record { state = d; done = NoJob; closed = NoInterval }
+step-a d t (Within i) =
+    let done : Done = completed (d .jobs) t (i .copyout) in
+    record { state = with-phase (with-jobs d (without-done (d .jobs) done)) (Within (ended (d .table) t i)); done = done; closed = NoInterval }
+
+-- ---- b. If an interval is open, its processor is finished or idle, its copy-in choice has been made and no copy is under way, it ends.
+
+abbrev pub resting : Processor → Bool
+resting Idle = true
+resting (CopyingIn n until) = false
+resting (Executing n start until) = false
+resting (Finished n start) = true
+
+abbrev pub copying-out : CopyOut → Bool
+copying-out NoCopyOut = false
+copying-out (CopyingOut n start until) = true
+copying-out (CopiedOut n) = false
+
+-- the choice has been made, and its copy is not under way
+abbrev pub settled : CopyIn → Bool
+settled Unchosen = false
+settled NoneChosen = true
+settled (Copying n until) = false
+settled (Loaded n) = true
+settled (Cancelled n) = true
+
+-- R6: both units are at their ends
+abbrev pub over : Interval → Bool
+over i = resting (i .processor) && (not (copying-out (i .copyout)) && settled (i .copyin))
+
+abbrev pub processor-task : Processor → MaybeTask
+processor-task Idle = NoTask
+processor-task (CopyingIn n until) = Task n
+processor-task (Executing n start until) = Task n
+processor-task (Finished n start) = Task n
+
+abbrev pub copyout-task : CopyOut → MaybeTask
+copyout-task NoCopyOut = NoTask
+copyout-task (CopyingOut n start until) = Task n
+copyout-task (CopiedOut n) = Task n
+
+abbrev pub copyin-task : CopyIn → MaybeTask
+copyin-task Unchosen = NoTask
+copyin-task NoneChosen = NoTask
+copyin-task (Copying n until) = Task n
+copyin-task (Loaded n) = Task n
+copyin-task (Cancelled n) = Task n
+
+-- 0 none, 1 done, 2 cancelled
+abbrev pub copyin-fate : CopyIn → ℕ
+copyin-fate Unchosen = 0
+copyin-fate NoneChosen = 0
+copyin-fate (Copying n until) = 0
+copyin-fate (Loaded n) = 1
+copyin-fate (Cancelled n) = 2
+
+-- R4: where the copy-in was cancelled or none was chosen, the highest-priority marked job released in the interval and ready is promoted
+unfoldable pub promoted : State → Interval → CopyIn → MaybeTask
+promoted d i Unchosen = NoTask
+promoted d i NoneChosen = highest-of d (intersection (i .candidates) (d .jobs .ready))
+promoted d i (Copying n until) = NoTask
+promoted d i (Loaded n) = NoTask
+promoted d i (Cancelled n) = highest-of d (intersection (i .candidates) (d .jobs .ready))
+
+abbrev pub without-promoted : ℕ → MaybeTask → ℕ
+without-promoted s NoTask = s
+without-promoted s (Task n) = remove n s
+
+-- R5: the next interval executes the promoted job, else the loaded one, else none
+abbrev pub next-of : CopyIn → MaybeTask → Next
+next-of c (Task n) = PromotedNext n
+next-of Unchosen NoTask = NoneNext
+next-of NoneChosen NoTask = NoneNext
+next-of (Copying n until) NoTask = NoneNext
+next-of (Loaded n) NoTask = LoadedNext n
+next-of (Cancelled n) NoTask = NoneNext
+
+-- R2: the job that was executed is copied out in the next interval
+abbrev pub awaiting-copyout : Processor → Outgoing
+awaiting-copyout Idle = NoneOutgoing
+awaiting-copyout (CopyingIn n until) = NoneOutgoing
+awaiting-copyout (Executing n start until) = NoneOutgoing
+awaiting-copyout (Finished n start) = AwaitsCopyOut n start
+
+-- the jobs released in the interval or before it that a later one executes
+abbrev pub waiting : CopyIn → ℕ → ℕ
+waiting Unchosen ready = ready
+waiting NoneChosen ready = ready
+waiting (Copying n until) ready = ready
+waiting (Loaded n) ready = insert n ready
+waiting (Cancelled n) ready = ready
+
+-- blocked: such a job, where the processor executes a lower-priority one in the interval
+unfoldable pub blocks : State → Interval → ℕ
+blocks d i = higher d (processor-task (i .processor)) (waiting (i .copyin) (d .jobs .ready))
+
+-- one interval more for each task of a set, from task k on
+unfoldable pub counted : ℕ → ℕ → List ℕ → List ℕ
+counted s k [] = []
+counted s k (x ∷ xs) = cond (member k s) (min (x + 1) 255) x ∷ counted s (suc k) xs
+
+unfoldable pub close : State → ℕ → Interval → State
+unfolding counted
+close d t i =
+    let p : MaybeTask = promoted d i (i .copyin) in
+    with-phase
+    (with-jobs d (record {
+      pending = d .jobs .pending;
+      ready = without-promoted (d .jobs .ready) p;
+      release = d .jobs .release;
+      blocked = counted (blocks d i) 0 (d .jobs .blocked);
+    }))
+    (Between (next-of (i .copyin) p) (awaiting-copyout (i .processor)))
+
+unfoldable pub interval-entry : State → ℕ → Interval → IntervalEntry
+interval-entry d t i = record {
+  begin = i .begin;
+  end = t;
+  half = d .half;
+  task = processor-task (i .processor);
+  work = i .work;
+  copiedout = copyout-task (i .copyout);
+  chosen = copyin-task (i .copyin);
+  fate = copyin-fate (i .copyin);
+  promoted = promoted d i (i .copyin);
+}
+
+unfoldable pub close-stage : Stage → ℕ → Interval → Bool → Stage
+close-stage s t i false = s
+close-stage s t i true = record { state = close (s .state) t i; done = s .done; closed = Span (interval-entry (s .state) t i) }
+
+unfoldable pub step-b : Stage → ℕ → Phase → Stage
+step-b s t (Between next outgoing) = s
+step-b s t (Within i) = close-stage s t i (over i)
+
+-- ---- c. The releases of this instant are taken or skipped. They belong to the open interval, else to the one that step g begins.
+
+-- a release of a task with no pending job is taken
+unfoldable pub taken : State → ℕ → ℕ
+taken d set = difference set (d .jobs .pending)
+
+-- and of one with a pending job is skipped
+unfoldable pub skipped : State → ℕ → ℕ
+skipped d set = intersection set (d .jobs .pending)
+
+-- the value v for each task of a set, from task k on
+unfoldable pub stamped : ℕ → ℕ → ℕ → List ℕ → List ℕ
+stamped s v k [] = []
+stamped s v k (x ∷ xs) = cond (member k s) v x ∷ stamped s v (suc k) xs
+
+-- the marked ones are candidates for promotion in the interval that they belong to
+unfoldable pub with-candidates : State → ℕ → Phase → Phase
+with-candidates d new (Between next outgoing) = Between next outgoing
+with-candidates d new (Within i) = Within (record {
+  begin = i .begin;
+  work = i .work;
+  processor = i .processor;
+  copyout = i .copyout;
+  copyin = i .copyin;
+  candidates = union (i .candidates) (intersection new (d .marked));
+})
+
+unfoldable pub step-c : State → ℕ → ℕ → State
+unfolding stamped
+step-c d t new =
+    with-phase
+    (with-jobs d (record {
+      pending = union (d .jobs .pending) new;
+      ready = union (d .jobs .ready) new;
+      release = stamped new t 0 (d .jobs .release);
+      blocked = stamped new 0 0 (d .jobs .blocked);
+    }))
+    (with-candidates d new (d .phase))
+
+-- the releases that belong to the interval that step g begins
+abbrev pub held-over : Phase → ℕ → ℕ
+held-over (Between next outgoing) new = new
+held-over (Within i) new = 0
+
+-- ---- d. If a marked release was taken whose priority is higher than that of a copy-in under way on the engine, this copy-in is
+-- cancelled and its job is ready again (R3).
+
+unfoldable pub cancel : State → Interval → ℕ → Bool → State
+cancel d i n false = d
+cancel d i n true = with-phase (with-ready d (insert n (d .jobs .ready))) (Within (with-copyin i (Cancelled n)))
+
+unfoldable pub cancel-by : State → ℕ → Interval → CopyIn → State
+cancel-by d new i Unchosen = d
+cancel-by d new i NoneChosen = d
+cancel-by d new i (Copying n until) = cancel d i n (outranks d n (highest-of d (intersection new (d .marked))))
+cancel-by d new i (Loaded n) = d
+cancel-by d new i (Cancelled n) = d
+
+unfoldable pub step-d : State → ℕ → Phase → State
+step-d d new (Between next outgoing) = d
+step-d d new (Within i) = cancel-by d new i (i .copyin)
+
+-- ---- e. If an interval is open, the engine is free and the choice has not been made, it is made: the highest-priority ready job
+-- begins copy-in, or none does (R2). It is made once an interval.
+
+unfoldable pub choose : State → ℕ → Interval → MaybeTask → State
+choose d t i NoTask = with-phase d (Within (with-copyin i NoneChosen))
+choose d t i (Task n) =
+    with-phase (with-ready d (remove n (d .jobs .ready))) (Within (with-copyin i (Copying n (later t (getD (d .table .copyin) n 0)))))
+
+unfoldable pub choose-if : State → ℕ → Interval → CopyIn → State
+choose-if d t i Unchosen = cond (copying-out (i .copyout)) d (choose d t i (highest-of d (d .jobs .ready)))
+choose-if d t i NoneChosen = d
+choose-if d t i (Copying n until) = d
+choose-if d t i (Loaded n) = d
+choose-if d t i (Cancelled n) = d
+
+unfoldable pub step-e : State → ℕ → Phase → State
+step-e d t (Between next outgoing) = d
+step-e d t (Within i) = choose-if d t i (i .copyin)
+
+-- ---- f. The test of step b again.
+
+-- ---- g. If no interval is open and some job is loaded, promoted, ready or waiting for copy-out, an interval begins.
+
+abbrev pub wanted : Next → Outgoing → ℕ → Bool
+wanted NoneNext NoneOutgoing ready = not (eqb ready 0)
+wanted NoneNext (AwaitsCopyOut n start) ready = true
+wanted (LoadedNext n) l ready = true
+wanted (PromotedNext n) l ready = true
+
+-- R5: the processor copies in and then executes the promoted job; else it executes the loaded one; else it idles
+abbrev pub begin-processor : Table → ℕ → Next → Processor
+begin-processor table t NoneNext = Idle
+begin-processor table t (LoadedNext n) = Executing n t (later t (getD (table .execution) n 0))
+begin-processor table t (PromotedNext n) = CopyingIn n (later t (getD (table .copyin) n 0))
+
+-- 0 idle, 1 execute, 2 copy in and execute
+abbrev pub work-of : Next → ℕ
+work-of NoneNext = 0
+work-of (LoadedNext n) = 1
+work-of (PromotedNext n) = 2
+
+-- R2: the engine copies out the job executed in the interval before
+abbrev pub begin-copyout : Table → ℕ → Outgoing → CopyOut
+begin-copyout table t NoneOutgoing = NoCopyOut
+begin-copyout table t (AwaitsCopyOut n start) = CopyingOut n start (later t (getD (table .copyout) n 0))
+
+-- R1: the halves swap
+unfoldable pub begin : State → ℕ → ℕ → Next → Outgoing → State
+begin d t new next outgoing =
+    record {
+      table = d .table;
+      marked = d .marked;
+      clock = d .clock;
+      half = 1 - d .half;
+      jobs = d .jobs;
+      phase = Within (record {
+        begin = t;
+        work = work-of next;
+        processor = begin-processor (d .table) t next;
+        copyout = begin-copyout (d .table) t outgoing;
+        copyin = Unchosen;
+        candidates = intersection new (d .marked);
+      });
+    }
+
+-- without a copy-out the choice is made now
+unfoldable pub step-g : State → ℕ → ℕ → Phase → State
+unfolding step-e
+step-g d t new (Within i) = d
+step-g d t new (Between next outgoing) =
+    let b : State = begin d t new next outgoing in
+    cond (wanted next outgoing (d .jobs .ready)) (step-e b t (b .phase)) d
+
+-- ---- The next due time: when the next phase ends
+
+unfoldable pub sooner : Due → Due → Due
+sooner Never b = b
+sooner (Tick a) Never = Tick a
+sooner (Tick a) (Tick b) = Tick (min a b)
+
+abbrev pub processor-due : Processor → Due
+processor-due Idle = Never
+processor-due (CopyingIn n until) = Tick until
+processor-due (Executing n start until) = Tick until
+processor-due (Finished n start) = Never
+
+abbrev pub copyout-due : CopyOut → Due
+copyout-due NoCopyOut = Never
+copyout-due (CopyingOut n start until) = Tick until
+copyout-due (CopiedOut n) = Never
+
+abbrev pub copyin-due : CopyIn → Due
+copyin-due Unchosen = Never
+copyin-due NoneChosen = Never
+copyin-due (Copying n until) = Tick until
+copyin-due (Loaded n) = Never
+copyin-due (Cancelled n) = Never
+
+unfoldable pub due : Phase → Due
+due (Between next outgoing) = Never
+due (Within i) = sooner (processor-due (i .processor)) (sooner (copyout-due (i .copyout)) (copyin-due (i .copyin)))
+
+-- ---- The instant: the state after the steps up to each letter
+
+unfoldable pub at-a : State → ℕ → Stage
+at-a d t = step-a (at-clock d t) t (d .phase)
+
+unfoldable pub at-b : State → ℕ → Stage
+at-b d t = let a : Stage = at-a d t in step-b a t (a .state .phase)
+
+unfoldable pub new-at : State → ℕ → ℕ → ℕ
+new-at d t set = taken (at-b d t .state) set
+
+unfoldable pub at-e : State → ℕ → ℕ → State
+at-e d t set =
+    let new : ℕ = new-at d t set in
+    let c : State = step-c (at-b d t .state) t new in
+    let x : State = step-d c new (c .phase) in
+    step-e x t (x .phase)
+
+unfoldable pub at-f : State → ℕ → ℕ → Stage
+at-f d t set =
+    let b : Stage = at-b d t in
+    let e : State = at-e d t set in
+    step-b (record { state = e; done = b .done; closed = b .closed }) t (e .phase)
+
+unfoldable pub at-g : State → ℕ → ℕ → State
+at-g d t set =
+    let b : State = at-b d t .state in
+    let f : State = at-f d t set .state in
+    step-g f t (held-over (b .phase) (new-at d t set)) (f .phase)
+
+-- the interval that closed, of what steps b and f left
+abbrev pub closing : Closed → Closed → Closing
+closing (Span e) f = BeforeReleases e
+closing NoInterval NoInterval = Unclosed
+closing NoInterval (Span e) = AfterReleases e
+
+-- what occurred
+unfoldable pub occurred : State → ℕ → ℕ → Occurred
+occurred d t set = record {
+  done = at-b d t .done;
+  closed = closing (at-b d t .closed) (at-f d t set .closed);
+  skipped = skipped (at-b d t .state) set;
+  due = due (at-g d t set .phase);
+}

@@ -1,0 +1,151 @@
+-- What each function over the state taken apart promises: read back, its outcome is that of the rules, whatever stands in the parts
+-- that it is not handed.
+use Rattle.rules.specs.Types.{Bool, List, ℕ, _-_, _^_, _≤_, _≡_, _⊎_, Table, Clock, Unset, At, MaybeTask, State, Done, Due, Never, Tick, Registers, Unit}
+use lib.Dec.{eqb}
+use lib.ListN.{replicate}
+use Rattle.rules.specs.Order.{outranks}
+use Rattle.rules.specs.Instant.{processor-at, copyin-at, step-a, resting, settled, blocks, promoted, processor-task, copyout-task, copyin-task, copyin-fate, next-of, awaiting-copyout, stamped, step-c, step-d, step-e, begin-processor, begin-copyout, begin, step-g, processor-due, copyout-due, copyin-due}
+use Rattle.rules.specs.Calls.{opened}
+use Rattle.rules.specs.Apart.{as-task, as-processor, as-copyout, as-copyin, as-next, as-outgoing, copyin-in, interval-in, phase-in, whole, closed-with}
+
+-- ---- Order
+
+abbrev pub Outranks : List ℕ → ℕ → ℕ → Bool → Type 0
+Outranks priority by n x = (d : State) → d .table .priority ≡ priority → x ≡ outranks d n (as-task by)
+
+-- ---- a
+
+abbrev pub ProcessorAt : List ℕ → ℕ → Unit → Unit → Type 0
+ProcessorAt execution t p x =
+    (table : Table) → table .execution ≡ execution
+    → as-processor (x .kind) (x .task) (x .start) (x .until) ≡ processor-at table t (as-processor (p .kind) (p .task) (p .start) (p .until))
+
+-- and an open interval stays open
+pub record CopyInAt (kind until t x : ℕ) : Type 0 where
+  pub is : (n : ℕ) → as-copyin x n until ≡ copyin-at t (as-copyin kind n until)
+  pub stays : eqb x 5 ≡ eqb kind 5
+
+abbrev pub Completed : Registers → ℕ → List ℕ → List ℕ → Done → Type 0
+Completed r t release blocked x = (table : Table) (clock : Clock) → x ≡ step-a (whole table clock release blocked r) t (phase-in r) .done
+
+abbrev pub Ended : Registers → ℕ → List ℕ → Registers → Type 0
+Ended r t execution x =
+    (table : Table) (clock : Clock) (release blocked : List ℕ) → table .execution ≡ execution
+    → whole table clock release blocked x ≡ step-a (whole table clock release blocked r) t (phase-in r) .state
+
+-- ---- b
+
+abbrev pub Resting : ℕ → Bool → Type 0
+Resting kind x = (n start until : ℕ) → x ≡ resting (as-processor kind n start until)
+
+abbrev pub Settled : ℕ → Bool → Type 0
+Settled kind x = (n until : ℕ) → x ≡ settled (as-copyin kind n until)
+
+abbrev pub Blocks : Registers → List ℕ → ℕ → Type 0
+Blocks r priority x =
+    (table : Table) (clock : Clock) (release blocked : List ℕ) → table .priority ≡ priority
+    → x ≡ blocks (whole table clock release blocked r) (interval-in r)
+
+abbrev pub Promoted : Registers → List ℕ → ℕ → Type 0
+Promoted r priority x =
+    (table : Table) (clock : Clock) (release blocked : List ℕ) → table .priority ≡ priority
+    → as-task x ≡ promoted (whole table clock release blocked r) (interval-in r) (copyin-in r)
+
+abbrev pub ProcessorTask : ℕ → ℕ → MaybeTask → Type 0
+ProcessorTask kind n x = (start until : ℕ) → x ≡ processor-task (as-processor kind n start until)
+
+abbrev pub CopyOutTask : ℕ → ℕ → MaybeTask → Type 0
+CopyOutTask kind n x = (start until : ℕ) → x ≡ copyout-task (as-copyout kind n start until)
+
+abbrev pub CopyInTask : ℕ → ℕ → MaybeTask → Type 0
+CopyInTask kind n x = (until : ℕ) → x ≡ copyin-task (as-copyin kind n until)
+
+abbrev pub CopyInFate : ℕ → ℕ → Type 0
+CopyInFate kind x = (n until : ℕ) → x ≡ copyin-fate (as-copyin kind n until)
+
+abbrev pub NextOf : ℕ → ℕ → ℕ → Unit → Type 0
+NextOf kind loaded p x = (until : ℕ) → as-next (x .kind) (x .task) ≡ next-of (as-copyin kind loaded until) (as-task p)
+
+abbrev pub AwaitingCopyOut : ℕ → ℕ → Type 0
+AwaitingCopyOut kind x = (n start until : ℕ) → as-outgoing x n start ≡ awaiting-copyout (as-processor kind n start until)
+
+abbrev pub ClosedTo : Registers → ℕ → Registers → Type 0
+ClosedTo r p x =
+    (table : Table) (clock : Clock) (release blocked : List ℕ)
+    → whole table clock release blocked x ≡ closed-with (whole table clock release blocked r) (interval-in r) (as-task p)
+
+-- ---- c
+
+abbrev pub Taken : Registers → ℕ → Registers → Type 0
+Taken r new x =
+    (table : Table) (clock : Clock) (release blocked : List ℕ) (t : ℕ)
+    → whole table clock (stamped new t 0 release) (stamped new 0 0 blocked) x ≡ step-c (whole table clock release blocked r) t new
+
+-- ---- d
+
+abbrev pub CancelledTo : Registers → ℕ → List ℕ → Registers → Type 0
+CancelledTo r new priority x =
+    (table : Table) (clock : Clock) (release blocked : List ℕ) → table .priority ≡ priority
+    → whole table clock release blocked x ≡ step-d (whole table clock release blocked r) new (phase-in r)
+
+-- ---- e
+
+abbrev pub Chosen : Registers → ℕ → List ℕ → List ℕ → Registers → Type 0
+Chosen r t priority copyin x =
+    (table : Table) (clock : Clock) (release blocked : List ℕ) → table .priority ≡ priority → table .copyin ≡ copyin
+    → whole table clock release blocked x ≡ step-e (whole table clock release blocked r) t (phase-in r)
+
+-- ---- g
+
+abbrev pub BeginProcessor : ℕ → ℕ → ℕ → List ℕ → List ℕ → Unit → Type 0
+BeginProcessor work n t copyin execution x =
+    (table : Table) → table .copyin ≡ copyin → table .execution ≡ execution
+    → as-processor (x .kind) n t (x .until) ≡ begin-processor table t (as-next work n)
+
+abbrev pub BeginCopyOut : ℕ → ℕ → ℕ → List ℕ → Unit → Type 0
+BeginCopyOut kind n t copyout x =
+    (table : Table) (start : ℕ) → table .copyout ≡ copyout
+    → as-copyout (x .kind) n start (x .until) ≡ begin-copyout table t (as-outgoing kind n start)
+
+abbrev pub BeginAt : Registers → ℕ → ℕ → List ℕ → List ℕ → List ℕ → Registers → Type 0
+BeginAt r t new copyin execution copyout x =
+    (table : Table) (clock : Clock) (release blocked : List ℕ) → table .copyin ≡ copyin → table .execution ≡ execution → table .copyout ≡ copyout
+    → whole table clock release blocked x ≡ begin (whole table clock release blocked r) t new (as-next (r .work) (r .task)) (as-outgoing (r .copyout) (r .outtask) (r .outstart))
+
+abbrev pub Begun : Registers → ℕ → ℕ → List ℕ → List ℕ → List ℕ → List ℕ → Registers → Type 0
+Begun r t new priority copyin execution copyout x =
+    (table : Table) (clock : Clock) (release blocked : List ℕ)
+    → table .priority ≡ priority → table .copyin ≡ copyin → table .execution ≡ execution → table .copyout ≡ copyout
+    → whole table clock release blocked x ≡ step-g (whole table clock release blocked r) t new (phase-in r)
+
+-- ---- The next due time
+
+abbrev pub ProcessorDue : ℕ → ℕ → Due → Type 0
+ProcessorDue kind until x = (n start : ℕ) → x ≡ processor-due (as-processor kind n start until)
+
+abbrev pub CopyOutDue : ℕ → ℕ → Due → Type 0
+CopyOutDue kind until x = (n start : ℕ) → x ≡ copyout-due (as-copyout kind n start until)
+
+abbrev pub CopyInDue : ℕ → ℕ → Due → Type 0
+CopyInDue kind until x = (n : ℕ) → x ≡ copyin-due (as-copyin kind n until)
+
+-- ---- The next due time as a plain number
+
+-- a number stands for a due time: it is that tick, or it is the last tick and nothing is due
+pub record Stands (x : ℕ) (p : Due) : Type 0 where
+  pub is : (p ≡ Tick x) ⊎ ((x ≡ 2 ^ 64 - 1) × (p ≡ Never))
+  pub small : x ≤ 2 ^ 64 - 1
+
+abbrev pub ProcessorTick : ℕ → ℕ → ℕ → Type 0
+ProcessorTick kind until x = (n start : ℕ) → Stands x (processor-due (as-processor kind n start until))
+
+abbrev pub CopyOutTick : ℕ → ℕ → ℕ → Type 0
+CopyOutTick kind until x = (n start : ℕ) → Stands x (copyout-due (as-copyout kind n start until))
+
+abbrev pub CopyInTick : ℕ → ℕ → ℕ → Type 0
+CopyInTick kind until x = (n : ℕ) → Stands x (copyin-due (as-copyin kind n until))
+
+-- ---- At opening
+
+abbrev pub Empty : ℕ → Registers → Type 0
+Empty marked x = (table : Table) → whole table Unset (replicate 32 0) (replicate 32 0) x ≡ opened table marked

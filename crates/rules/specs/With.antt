@@ -1,0 +1,23 @@
+-- The state with one part another, and times.
+use Rattle.rules.specs.Types.{ℕ, _+_, _-_, _^_, min, Table, Jobs, Clock, At, Interval, CopyIn, Phase, State}
+
+abbrev pub with-jobs : State → Jobs → State
+with-jobs d j = record { table = d .table; marked = d .marked; clock = d .clock; half = d .half; jobs = j; phase = d .phase }
+
+abbrev pub with-phase : State → Phase → State
+with-phase d p = record { table = d .table; marked = d .marked; clock = d .clock; half = d .half; jobs = d .jobs; phase = p }
+
+-- the state with other ready jobs
+abbrev pub with-ready : State → ℕ → State
+with-ready d s = with-jobs d (record { pending = d .jobs .pending; ready = s; release = d .jobs .release; blocked = d .jobs .blocked })
+
+-- the state at an instant's time
+abbrev pub at-clock : State → ℕ → State
+at-clock d t = record { table = d .table; marked = d .marked; clock = At t; half = d .half; jobs = d .jobs; phase = d .phase }
+
+abbrev pub with-copyin : Interval → CopyIn → Interval
+with-copyin i c = record { begin = i .begin; work = i .work; processor = i .processor; copyout = i .copyout; copyin = c; candidates = i .candidates }
+
+-- t and n ticks later, held at the last tick that a clock has, which no run reaches
+abbrev pub later : ℕ → ℕ → ℕ
+later t n = min (t + n) (2 ^ 64 - 1)

@@ -1,0 +1,216 @@
+// b and f. If an interval is open, its processor is finished or idle, its copy-in choice has been made and no copy is under way,
+// it ends.
+use crate::Registers;
+use crate::Unit;
+use crate::order::first;
+use crate::order::higher_than;
+use entries::IntervalEntry;
+use entries::MaybeTask;
+ghost use mathlib.Core.Path.{_≡_};
+ghost use Rattle.rules.specs.Instant as instant;
+ghost use Rattle.rules.specs.Apart.{as-task, copyin-in, interval-in, phase-in, ends, entry-with};
+ghost use Rattle.rules.specs.Steps.{Resting, Settled, Blocks, Promoted, ProcessorTask, CopyOutTask, CopyInTask, CopyInFate, NextOf, AwaitingCopyOut, ClosedTo};
+
+fn resting(kind: u8) -> bool
+    ensures { λ x. ⌜ Resting kind x ⌝ }
+{
+    if kind == 1 {
+        return false;
+    }
+    kind != 2
+}
+
+// The choice has been made, and its copy is not under way.
+fn settled(kind: u8) -> bool
+    ensures { λ x. ⌜ Settled kind x ⌝ }
+{
+    if kind == 0 {
+        return false;
+    }
+    kind != 2
+}
+
+// R6: both units are at their ends.
+pub fn over(r: Registers) -> bool
+    ensures { λ x. ⌜ x ≡ ends (phase-in r) ⌝ }
+{
+    if r.copyin == 5 {
+        return false;
+    }
+    if !resting(r.processor) {
+        return false;
+    }
+    if r.copyout == 1 {
+        return false;
+    }
+    settled(r.copyin)
+}
+
+// The jobs released in the interval or before it that a later one executes.
+fn waiting(r: Registers) -> u32
+    ensures { λ x. ⌜ x ≡ instant.waiting (copyin-in r) (r .ready) ⌝ }
+{
+    if r.copyin == 3 {
+        return sets::insert(r.ready, r.intask);
+    }
+    r.ready
+}
+
+// The jobs that the interval blocks: the processor executes a lower-priority one in it.
+pub fn blocks(r: Registers, priority: &[u8; 32]) -> u32
+    ensures { λ x. ⌜ Blocks r (now (priority .entry)) x ⌝ }
+{
+    if r.processor == 0 {
+        return 0;
+    }
+    higher_than(priority, r.task, waiting(r))
+}
+
+// R4: where the copy-in was cancelled or none was chosen, the highest-priority marked job released in the interval and ready is
+// promoted. 32 is none.
+pub fn promoted(r: Registers, priority: &[u8; 32]) -> u8
+    ensures { λ x. ⌜ Promoted r (now (priority .entry)) x ⌝ }
+{
+    if r.copyin == 0 {
+        return 32;
+    }
+    if r.copyin == 2 {
+        return 32;
+    }
+    if r.copyin == 3 {
+        return 32;
+    }
+    first(priority, sets::intersection(r.candidates, r.ready))
+}
+
+fn task_of(n: u8) -> MaybeTask
+    ensures { λ x. ⌜ x ≡ as-task n ⌝ }
+{
+    if n < 32 {
+        return MaybeTask::Task(n);
+    }
+    MaybeTask::NoTask
+}
+
+fn processor_task(kind: u8, n: u8) -> MaybeTask
+    ensures { λ x. ⌜ ProcessorTask kind n x ⌝ }
+{
+    if kind == 0 {
+        return MaybeTask::NoTask;
+    }
+    MaybeTask::Task(n)
+}
+
+fn copyout_task(kind: u8, n: u8) -> MaybeTask
+    ensures { λ x. ⌜ CopyOutTask kind n x ⌝ }
+{
+    if kind == 0 {
+        return MaybeTask::NoTask;
+    }
+    MaybeTask::Task(n)
+}
+
+fn copyin_task(kind: u8, n: u8) -> MaybeTask
+    ensures { λ x. ⌜ CopyInTask kind n x ⌝ }
+{
+    if kind == 0 {
+        return MaybeTask::NoTask;
+    }
+    if kind == 1 {
+        return MaybeTask::NoTask;
+    }
+    MaybeTask::Task(n)
+}
+
+// 0 none, 1 done, 2 cancelled.
+fn copyin_fate(kind: u8) -> u8
+    ensures { λ x. ⌜ CopyInFate kind x ⌝ }
+{
+    if kind < 3 {
+        return 0;
+    }
+    if kind == 3 {
+        return 1;
+    }
+    2
+}
+
+pub fn interval_entry(r: Registers, t: u64, promoted: u8) -> IntervalEntry
+    ensures { λ x. ⌜ x ≡ entry-with (r .half) t (interval-in r) (as-task promoted) ⌝ }
+{
+    IntervalEntry {
+        begin: r.begin,
+        end: t,
+        half: r.half,
+        task: processor_task(r.processor, r.task),
+        work: r.work,
+        copiedout: copyout_task(r.copyout, r.outtask),
+        chosen: copyin_task(r.copyin, r.intask),
+        fate: copyin_fate(r.copyin),
+        promoted: task_of(promoted),
+    }
+}
+
+fn without_promoted(ready: u32, promoted: u8) -> u32
+    ensures { λ x. ⌜ x ≡ instant.without-promoted ready (as-task promoted) ⌝ }
+{
+    if promoted < 32 {
+        return sets::remove(ready, promoted);
+    }
+    ready
+}
+
+// R5: the next interval executes the promoted job, else the loaded one, else none: its work is the kind.
+fn next_of(kind: u8, loaded: u8, promoted: u8) -> Unit
+    ensures { λ x. ⌜ NextOf kind loaded promoted x ⌝ }
+{
+    if promoted < 32 {
+        return Unit {
+            start: 0,
+            until: 0,
+            kind: 2,
+            task: promoted,
+        };
+    }
+    if kind == 3 {
+        return Unit {
+            start: 0,
+            until: 0,
+            kind: 1,
+            task: loaded,
+        };
+    }
+    Unit {
+        start: 0,
+        until: 0,
+        kind: 0,
+        task: loaded,
+    }
+}
+
+// R2: the job that was executed is copied out in the next interval.
+fn awaiting_copyout(kind: u8) -> u8
+    ensures { λ x. ⌜ AwaitingCopyOut kind x ⌝ }
+{
+    if kind < 3 {
+        return 0;
+    }
+    1
+}
+
+// The interval ends, where the blocked intervals are counted already.
+pub fn close(r: Registers, promoted: u8) -> Registers
+    ensures { λ x. ⌜ ClosedTo r promoted x ⌝ }
+{
+    let next = next_of(r.copyin, r.intask, promoted);
+    Registers {
+        ready: without_promoted(r.ready, promoted),
+        work: next.kind,
+        task: next.task,
+        copyout: awaiting_copyout(r.processor),
+        outtask: r.task,
+        outstart: r.start,
+        copyin: 5,
+        ..r
+    }
+}
