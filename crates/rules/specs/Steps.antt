@@ -1,6 +1,6 @@
 -- What each function over the state taken apart promises: read back, its outcome is that of the rules, whatever stands in the parts
 -- that it is not handed.
-use Rattle.rules.specs.Types.{Bool, List, ℕ, _-_, _^_, _≤_, _≡_, _⊎_, Table, Clock, Unset, At, MaybeTask, State, Done, Due, Never, Tick, Registers, Unit}
+use Rattle.rules.specs.Types.{Bool, List, ℕ, _-_, _^_, _≤_, _≡_, _⊎_, Table, Clock, Unset, MaybeTask, State, Done, Due, Never, Tick, Registers, Unit}
 use lib.Dec.{eqb}
 use lib.ListN.{replicate}
 use Rattle.rules.specs.Order.{outranks}

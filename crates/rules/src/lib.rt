@@ -19,7 +19,6 @@ use entries::JobEntry;
 pub use next_due::due as due_time;
 pub use next_due::due_tick;
 pub use next_due::least;
-pub use next_due::sooner;
 pub use step_a::completed;
 pub use step_a::ended;
 pub use step_b::blocks;
