@@ -1,35 +1,13 @@
 // The record function for programs in C and Rust: slices and numbers, and no type of this repository.
 use record::Outcome;
-use table::Refusal;
 ghost use mathlib.Core.Path.{_≡_};
-ghost use Rattle.rules.specs.Answers.{refusal-number, refusal-place};
 ghost use Rattle.record.specs.Run.{file, outcome-number, outcome-value};
-
-fn number_of(refusal: Refusal) -> u8
-    ensures { λ r. ⌜ r ≡ refusal-number refusal ⌝ }
-{
-    match refusal {
-        Refusal::NoRefusal => 0,
-        Refusal::Alone(n) => n,
-        Refusal::AtEntry(n, _) => n,
-    }
-}
-
-fn place_of(refusal: Refusal) -> usize
-    ensures { λ r. ⌜ r ≡ refusal-place refusal ⌝ }
-{
-    match refusal {
-        Refusal::NoRefusal => 0,
-        Refusal::Alone(_) => 0,
-        Refusal::AtEntry(_, at) => at,
-    }
-}
 
 fn number(outcome: Outcome) -> u8
     ensures { λ r. ⌜ r ≡ outcome-number outcome ⌝ }
 {
     match outcome {
-        Outcome::RefusedInput(refusal) => number_of(refusal),
+        Outcome::RefusedInput(refusal) => lines::number_of(refusal),
         Outcome::TooShort(_) => 13,
         Outcome::Recorded(_) => 0,
     }
@@ -39,7 +17,7 @@ fn value(outcome: Outcome) -> usize
     ensures { λ r. ⌜ r ≡ outcome-value outcome ⌝ }
 {
     match outcome {
-        Outcome::RefusedInput(refusal) => place_of(refusal),
+        Outcome::RefusedInput(refusal) => lines::place_of(refusal),
         Outcome::TooShort(needed) => needed,
         Outcome::Recorded(size) => size,
     }

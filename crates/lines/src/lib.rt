@@ -24,7 +24,7 @@ pub struct Text {
     pub len: usize,
 }
 
-fn number_of(refusal: Refusal) -> u8
+pub fn number_of(refusal: Refusal) -> u8
     ensures { λ r. ⌜ r ≡ refusal-number refusal ⌝ }
 {
     match refusal {
@@ -34,7 +34,7 @@ fn number_of(refusal: Refusal) -> u8
     }
 }
 
-fn place_of(refusal: Refusal) -> usize
+pub fn place_of(refusal: Refusal) -> usize
     ensures { λ r. ⌜ r ≡ refusal-place refusal ⌝ }
 {
     match refusal {
