@@ -1,8 +1,8 @@
 -- What each part of an instant promises: read back, its outcome is that of the rules, whatever stands in the parts that it is not handed.
 use Rattle.dispatcher.specs.Types.{List, ℕ, _≡_, Table, Clock, At, State, Stage, NoInterval, Registers, Tested, Turned}
-use Rattle.rules.specs.Instant.{stamped, step-b, at-g, occurred}
+use Rattle.rules.specs.Instant.{step-b, at-g, occurred}
 use Rattle.rules.specs.Calls.{refusal}
-use Rattle.rules.specs.Apart.{phase-in, whole, after-releases}
+use Rattle.rules.specs.Apart.{phase-in, whole}
 
 abbrev pub Refuses : ℕ → Clock → Registers → ℕ → ℕ → ℕ → Type 0
 Refuses present clock r t set x = (d : State) → d .table .present ≡ present → d .clock ≡ clock → d .phase ≡ phase-in r → x ≡ refusal d t set
@@ -17,11 +17,6 @@ Tests r t priority before after x =
     (table : Table) (clock : Clock) (release : List ℕ) (s : Stage) → table .priority ≡ priority
     → s .state ≡ whole table clock release before r → s .closed ≡ NoInterval
     → TestedTo r t priority before after x table clock release s
-
-abbrev pub Releases : Registers → ℕ → ℕ → List ℕ → List ℕ → Registers → Type 0
-Releases r t new priority copyin x =
-    (table : Table) (clock : Clock) (release blocked : List ℕ) → table .priority ≡ priority → table .copyin ≡ copyin
-    → whole table clock (stamped new t 0 release) (stamped new 0 0 blocked) x ≡ after-releases (whole table clock release blocked r) t new
 
 -- steps a to g
 pub record TurnedTo (d : State) (t set : ℕ) (table : Table) (release blocked : List ℕ) (x : Turned) : Type 0 where

@@ -11,27 +11,24 @@ use rules::Due;
 use rules::Occurred;
 use rules::Registers;
 use rules::begun;
-use rules::blocks;
-use rules::cancelled;
 use rules::chosen;
 use rules::close;
 use rules::completed;
-use rules::count;
+use rules::count_blocked;
 use rules::due_time;
 use rules::ended;
 use rules::held_over;
 use rules::interval_entry;
 use rules::over;
 use rules::promoted;
-use rules::stamp;
-use rules::taken;
+use rules::released;
 ghost use mathlib.Core.Path.{_≡_};
 ghost use mathlib.Core.Bool.{not, _&&_};
 ghost use lib.Dec.{eqb, ltb};
 ghost use Rattle.rules.specs.Calls as calls;
 ghost use Rattle.rules.specs.Instant as instant;
 ghost use Rattle.dispatcher.specs.Reading.{state-of, step-of, Answers};
-ghost use Rattle.dispatcher.specs.Promises.{Refuses, Tests, Releases, Turns};
+ghost use Rattle.dispatcher.specs.Promises.{Refuses, Tests, Turns};
 
 fn not_after(clock: Clock, t: u64) -> bool
     ensures { λ r. ⌜ r ≡ calls.not-after clock t ⌝ }
@@ -99,7 +96,7 @@ fn test(r: Registers, t: u64, priority: &[u8; 32], blocked: &mut [u8; 32]) -> Te
 {
     if over(r) {
         let p = promoted(r, priority);
-        count(blocks(r, priority), blocked);
+        count_blocked(r, priority, blocked);
         return Tested {
             registers: close(r, p),
             closed: Closed::Span(interval_entry(r, t, p)),
@@ -109,15 +106,6 @@ fn test(r: Registers, t: u64, priority: &[u8; 32], blocked: &mut [u8; 32]) -> Te
         registers: r,
         closed: Closed::NoInterval,
     }
-}
-
-// Steps c to e, with the tasks whose release is taken.
-fn released(r: Registers, t: u64, new: u32, priority: &[u8; 32], copyin: &[u32; 32]) -> Registers
-    ensures { λ x. ⌜ Releases r t new (now (priority .entry)) (now (copyin .entry)) x ⌝ }
-{
-    let c = taken(r, new);
-    let d = cancelled(c, new, priority);
-    chosen(d, t, priority, copyin)
 }
 
 // Steps a to g, over the parts.
@@ -140,13 +128,8 @@ fn turn(
     let open = b.registers;
     let new = sets::difference(set, open.pending);
     let skipped = sets::intersection(set, open.pending);
-    stamp(new, t, release, blocked);
-    let f = test(
-        released(open, t, new, priority, copyin),
-        t,
-        priority,
-        blocked,
-    );
+    let d = released(open, t, new, priority, release, blocked);
+    let f = test(chosen(d, t, priority, copyin), t, priority, blocked);
     let after = f.closed;
     let left = f.registers;
     let registers = begun(

@@ -1,5 +1,5 @@
 -- Bytes: each entry is one byte of kind, then a body whose length the kind fixes. Numbers of several bytes have the lowest byte first.
-use mathlib.Core.Bool.{Bool, true, false, cond}
+use mathlib.Core.Bool.{Bool, cond}
 use mathlib.Core.List.{List, [], _∷_, _++_}
 use Prim.Native.Nat.{ℕ, _+_, _-_}
 use lib.Dec.{eqb, leb}

@@ -1,7 +1,7 @@
 // The wire format: the entries of an input and of a record.
 ghost use mathlib.Core.Path.{_≡_};
 ghost use mathlib.Core.List.{[], _∷_};
-ghost use Prim.Native.Nat.{_+_, _-_, _≤_};
+ghost use Prim.Native.Nat.{_+_, _≤_};
 ghost use lib.ListN.{length};
 ghost use Rattle.entries.specs.Entries as entries;
 ghost use Rattle.entries.specs.Entries.{Put, laid};
@@ -58,34 +58,29 @@ pub struct IntervalEntry {
     pub promoted: MaybeTask,
 }
 
-// How many bytes stand from `at` on.
-fn left(s: &[u8], at: usize) -> usize
-    ensures { λ r. ⌜ r ≡ length (now (s .entry)) - at ⌝ }
-{
-    if at < s.len() { s.len() - at } else { 0 }
-}
-
-fn task_at(s: &[u8], at: usize) -> TaskParameters
-    requires { ⌜ at + 16 ≤ length (now s) ⌝ }
-    ensures { λ r. ⌜ r ≡ entries.task-at (now (s .entry)) at ⌝ }
+// The task of the entry at the front. One test of the slice's length, by the caller, serves all its bytes.
+fn front_task(rest: &[u8]) -> TaskParameters
+    requires { ⌜ 16 ≤ length (now rest) ⌝ }
+    ensures { λ r. ⌜ r ≡ entries.task-at (now (rest .entry)) 0 ⌝ }
 {
     TaskParameters {
-        number: words::get_u8(s, at + 1),
-        priority: words::get_u8(s, at + 2),
-        mark: words::get_u8(s, at + 3),
-        copyin: words::get_u32(s, at + 4),
-        execution: words::get_u32(s, at + 8),
-        copyout: words::get_u32(s, at + 12),
+        number: words::get_u8(rest, 1),
+        priority: words::get_u8(rest, 2),
+        mark: words::get_u8(rest, 3),
+        copyin: words::get_u32(rest, 4),
+        execution: words::get_u32(rest, 8),
+        copyout: words::get_u32(rest, 12),
     }
 }
 
-fn release_at(s: &[u8], at: usize) -> Release
-    requires { ⌜ at + 10 ≤ length (now s) ⌝ }
-    ensures { λ r. ⌜ r ≡ entries.release-at (now (s .entry)) at ⌝ }
+// The release of the entry at the front.
+fn front_release(rest: &[u8]) -> Release
+    requires { ⌜ 10 ≤ length (now rest) ⌝ }
+    ensures { λ r. ⌜ r ≡ entries.release-at (now (rest .entry)) 0 ⌝ }
 {
     Release {
-        task: words::get_u8(s, at + 1),
-        time: words::get_u64(s, at + 2),
+        task: words::get_u8(rest, 1),
+        time: words::get_u64(rest, 2),
     }
 }
 
@@ -93,16 +88,20 @@ fn release_at(s: &[u8], at: usize) -> Release
 pub fn entry_at(s: &[u8], at: usize) -> Entry
     ensures { λ r. ⌜ r ≡ entries.entry-at (now (s .entry)) at ⌝ }
 {
-    let kind = words::get_u8(s, at);
+    if s.len() < at {
+        return Entry::Malformed(2);
+    }
+    let rest = &s[at..];
+    let kind = words::get_u8(rest, 0);
     if kind == 1 {
-        if 16 <= left(s, at) {
-            return Entry::TaskEntry(task_at(s, at));
+        if 16 <= rest.len() {
+            return Entry::TaskEntry(front_task(rest));
         }
         return Entry::Malformed(1);
     }
     if kind == 2 {
-        if 10 <= left(s, at) {
-            return Entry::ReleaseEntry(release_at(s, at));
+        if 10 <= rest.len() {
+            return Entry::ReleaseEntry(front_release(rest));
         }
         return Entry::Malformed(1);
     }

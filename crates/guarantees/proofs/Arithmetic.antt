@@ -1,15 +1,16 @@
 -- Every state that calls made names tasks of the table alone, and no time and no count of it comes near the end of its type.
-use Rattle.guarantees.specs.Types.{_≡_, refl, sym, ap, _∙_, subst, List, [], _∷_, _⊎_, inl, inr, ℕ, suc, _+_, _≤_, _<_, min, Table, Jobs, NoneNext, NoneOutgoing, Phase, Between, State, Due, Never, Tick}
+use Rattle.guarantees.specs.Types.{_≡_, refl, sym, ap, _∙_, subst, List, _⊎_, inl, inr, ℕ, _+_, _≤_, _<_, min, Table, Jobs, NoneNext, NoneOutgoing, Phase, Between, State, Due, Never, Tick}
 use native.Mathlib.Omega.{arith}
 use mathlib.Core.Path.{ap₂}
 use borrow.Author.Tests.{eqb-true, eq-eqb, leb-true, leb-false}
 use lib.Dec.{eqb, leb}
 use lib.ListN.{getD}
 use Rattle.sets.specs.Sets.{member, below, collect, union, difference}
-use Rattle.sets.specs.Laws.{by-test, none, member-task}
+use Rattle.sets.specs.Laws.{by-test, member-task}
 use Rattle.rules.specs.With.{with-jobs, with-phase, at-clock, later}
-use Rattle.rules.specs.Instant.{step-a, step-b, step-c, step-d, step-e, step-g, taken, stamped, with-candidates, due, at-a, at-b, at-e, at-f, at-g, new-at}
+use Rattle.rules.specs.Instant.{step-a, step-b, step-c, step-d, step-e, step-g, taken, with-candidates, due, at-a, at-b, at-e, at-f, at-g, new-at}
 use Rattle.rules.specs.Calls.{opened, opening, refusal}
+use Rattle.rules.proofs.ByTask.{stamped-none}
 use Rattle.guarantees.specs.History.{Call, after-calls}
 use Rattle.guarantees.specs.States.{Named, PlainTime, PlainState, PlainArithmetic}
 use Rattle.guarantees.proofs.Proper.{Fair, Opens, opens}
@@ -20,12 +21,6 @@ use Rattle.guarantees.proofs.Invariant.{Good, good-opened, good-after, 
 use Rattle.guarantees.proofs.Completion.{AtRest, rests, due-times}
 
 -- ---- an instant at which nothing is due and nothing is released
-
--- nobody is stamped
-stamped-none : (v k : ℕ) (xs : List ℕ) → stamped 0 v k xs ≡ xs
-unfolding stamped
-stamped-none v k [] = refl
-stamped-none v k (x ∷ xs) = rw (none k) (ap (λ (l : List ℕ). x ∷ l) (stamped-none v (suc k) xs))
 
 module _ (d : State) (t : ℕ) where
   abbrev no-jobs : Jobs

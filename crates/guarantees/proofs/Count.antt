@@ -335,11 +335,6 @@ begins-one t (Within i) q = omega arith
 begins-one t (Between next outgoing) (Between x y) = omega arith
 begins-one t (Between next outgoing) (Within j) = omega arith
 
-begin-processor-weight : (table : Table) (t : ℕ) (next : Next) → processor-weight (begin-processor table t next) ≤ next-weight next
-begin-processor-weight table t NoneNext = omega arith
-begin-processor-weight table t (LoadedNext n) = omega arith
-begin-processor-weight table t (PromotedNext n) = omega arith
-
 -- a dispatcher whose interval has just begun
 module _ (f : State) (t new : ℕ) (next : Next) (outgoing : Outgoing) (h : Sound f (Between next outgoing)) where
   new-interval : Interval

@@ -19,23 +19,15 @@ pub use Rattle.rules.specs.declared.Outgoing.the-variants.{NoneOutgoing, Awaits
 pub use Rattle.rules.specs.declared.Phase.{Phase}
 pub use Rattle.rules.specs.declared.Phase.the-variants.{Between, Within}
 pub use Rattle.rules.specs.declared.State.{State}
-pub use Rattle.entries.specs.declared.JobEntry.{JobEntry}
-pub use Rattle.entries.specs.declared.IntervalEntry.{IntervalEntry}
 pub use Rattle.rules.specs.declared.Done.{Done}
 pub use Rattle.rules.specs.declared.Done.the-variants.{NoJob, Job}
 pub use Rattle.rules.specs.declared.Closed.{Closed}
 pub use Rattle.rules.specs.declared.Closed.the-variants.{NoInterval, Span}
-pub use Rattle.rules.specs.declared.Closing.{Closing}
-pub use Rattle.rules.specs.declared.Closing.the-variants.{Unclosed, BeforeReleases, AfterReleases}
 pub use Rattle.rules.specs.declared.Due.{Due}
 pub use Rattle.rules.specs.declared.Due.the-variants.{Never, Tick}
-pub use Rattle.rules.specs.declared.Occurred.{Occurred}
-pub use Rattle.rules.specs.declared.Answer.{Answer}
-pub use Rattle.rules.specs.declared.Answer.the-variants.{Refused, Served}
+pub use Rattle.rules.specs.declared.Answer.the-variants.{Served}
 pub use Rattle.rules.specs.declared.Stage.{Stage}
-pub use Rattle.rules.specs.declared.MarkAnswer.{MarkAnswer}
-pub use Rattle.rules.specs.declared.MarkAnswer.the-variants.{MarkRefused, MarkServed}
-pub use Rattle.rules.specs.Calls.{Step, MarkStep, Opening}
+pub use Rattle.rules.specs.Calls.{Step, Opening}
 pub use Rattle.table.specs.declared.Refusal.{Refusal}
 pub use Rattle.table.specs.declared.Refusal.the-variants.{NoRefusal, Alone, AtEntry}
 pub use Rattle.table.specs.declared.Tasks.{Tasks}
@@ -43,4 +35,4 @@ pub use mathlib.Core.Path.{_≡_, refl, sym, ap, _∙_, subst}
 pub use mathlib.Core.Bool.{Bool, true, false, cond, not, _&&_, _||_, true≢false, false≢true}
 pub use mathlib.Core.List.{List, [], _∷_, _++_, append-assoc}
 pub use mathlib.Core.Logic.{_⊎_, inl, inr, ⊎-elim, _↔_}
-pub use Prim.Native.Nat.{ℕ, zero, suc, _+_, _-_, _*_, _/_, _%_, _^_, _≤_, _<_, min}
+pub use Prim.Native.Nat.{ℕ, zero, suc, _+_, _*_, _^_, _≤_, _<_, min}

@@ -1,7 +1,6 @@
 -- Document 01's lines, as the definitions give them.
 use mathlib.Core.Path.{_≡_, refl}
 use mathlib.Core.List.{List, [], _∷_}
-use Prim.Native.Nat.{ℕ}
 use Rattle.lines.specs.Types.{NoTask, Task}
 use Rattle.lines.specs.Lines.{digits, decimal, job-line, interval-line}
 

@@ -6,8 +6,8 @@ use Prim.Native.Nat.{ℕ, _+_, _≤_}
 use native.Mathlib.Omega.{arith}
 use lib.ListN.{length, length-append}
 use Rattle.entries.specs.Entries.{interval-bytes}
-use Rattle.rules.specs.Instant.{promoted, blocks, counted, stamped, close-stage, interval-entry, step-a, step-b, step-c, step-d, step-e, at-a, at-b}
-use Rattle.rules.specs.Apart.{as-task, copyin-in, interval-in, phase-in, whole, ends, closed-with, entry-with, after-releases}
+use Rattle.rules.specs.Instant.{promoted, blocks, counted, close-stage, interval-entry, step-a, step-b, step-e, at-a, at-b}
+use Rattle.rules.specs.Apart.{as-task, copyin-in, interval-in, phase-in, whole, ends, closed-with, entry-with, with-releases, after-releases}
 use Rattle.rules.proofs.Turning.{none-closed, keeps-done}
 use Rattle.record.specs.Types.{Table, State, Registers, Stage, At, Done, NoJob, Closed, NoInterval, Span, IntervalEntry, Phase, Between, Within}
 use Rattle.record.specs.Run.{done-bytes}
@@ -70,31 +70,28 @@ module _ (table : Table) (t : ℕ) (release blocked : List ℕ) (r : Registers) 
           nothing : done-bytes done ≡ done-bytes done ++ span-bytes NoInterval
           nothing = unfold span-bytes in sym (append-nil (done-bytes done))
 
-      module _ (h : ends (phase-in a) ≡ true) (p n : ℕ) (after : List ℕ) (x : Registers) (e : IntervalEntry)
+      module _ (h : ends (phase-in a) ≡ true) (p : ℕ) (after : List ℕ) (x : Registers) (e : IntervalEntry)
           (promoted-is : as-task p ≡ promoted (whole table (At t) release blocked a) (interval-in a) (copyin-in a))
-          (blocks-is : n ≡ blocks (whole table (At t) release blocked a) (interval-in a))
-          (counted-is : after ≡ counted n 0 blocked)
+          (counted-is : after ≡ counted (blocks (whole table (At t) release blocked a) (interval-in a)) 0 blocked)
           (closed-is : whole table (At t) release after x ≡ closed-with (whole table (At t) release after a) (interval-in a) (as-task p))
           (entry-is : e ≡ entry-with (a .half) t (interval-in a) (as-task p)) where
         pub before-closes : (last : ℕ) (out″ : List ℕ) → at ≤ length out → Laid end (interval-bytes e) out′ last out″
             → LaidBefore at r t table release blocked out (record { registers = x; end = last }) after out″
         before-closes last out″ l y = record {
-          state = closes-state table (At t) release blocked a t s (sym ended-is) h p n after x e promoted-is blocks-is counted-is closed-is entry-is ∙ sym (ap (λ (w : Stage). w .state) is-b);
+          state = closes-state table (At t) release blocked a t s (sym ended-is) h p after x e promoted-is counted-is closed-is entry-is ∙ sym (ap (λ (w : Stage). w .state) is-b);
           laid = subst (λ (z : List ℕ). Laid at z out last out″) (span ∙ stage-is (Span e) c) (both at (done-bytes done) (interval-bytes e) out end out′ last out″ l laid y);
         }
           where
             c : Span e ≡ at-b (state-in table release blocked r) t .closed
-            c = closes-entry table (At t) release blocked a t s (sym ended-is) h p n after x e promoted-is blocks-is counted-is closed-is entry-is ∙ sym (ap (λ (w : Stage). w .closed) is-b)
+            c = closes-entry table (At t) release blocked a t s (sym ended-is) h p after x e promoted-is counted-is closed-is entry-is ∙ sym (ap (λ (w : Stage). w .closed) is-b)
 
             span : done-bytes done ++ interval-bytes e ≡ done-bytes done ++ span-bytes (Span e)
             span = unfold span-bytes in refl
 
 -- ---- steps c to f
 
-module _ (table : Table) (t new : ℕ) (release blocked : List ℕ) (r : Registers) (release′ blocked′ : List ℕ) (c x e : Registers)
-    (release-is : release′ ≡ stamped new t 0 release) (blocked-is : blocked′ ≡ stamped new 0 0 blocked)
-    (taken-is : whole table (At t) (stamped new t 0 release) (stamped new 0 0 blocked) c ≡ step-c (whole table (At t) release blocked r) t new)
-    (cancelled-is : whole table (At t) release′ blocked′ x ≡ step-d (whole table (At t) release′ blocked′ c) new (phase-in c))
+module _ (table : Table) (t new : ℕ) (release blocked : List ℕ) (r : Registers) (release′ blocked′ : List ℕ) (x e : Registers)
+    (released-is : whole table (At t) release′ blocked′ x ≡ with-releases (whole table (At t) release blocked r) t new)
     (chosen-is : whole table (At t) release′ blocked′ e ≡ step-e (whole table (At t) release′ blocked′ x) t (phase-in x)) where
   abbrev f : State
   f = whole table (At t) release blocked r
@@ -102,18 +99,12 @@ module _ (table : Table) (t new : ℕ) (release blocked : List ℕ) (r : Registe
   abbrev g : Stage
   g = record { state = after-releases (whole table (At t) release blocked r) t new; done = NoJob; closed = NoInterval }
 
-  is-c : whole table (At t) release′ blocked′ c ≡ step-c (whole table (At t) release blocked r) t new
-  is-c = ap₂ (λ (y z : List ℕ). whole table (At t) y z c) release-is blocked-is ∙ taken-is
-
   is-e : whole table (At t) release′ blocked′ e ≡ after-releases (whole table (At t) release blocked r) t new
   unfolding after-releases
-  is-e = chosen-is ∙ later ∙ ap (λ (y : State). step-e y t (y .phase)) (cancelled-is ∙ first ∙ ap (λ (y : State). step-d y new (y .phase)) is-c)
+  is-e = chosen-is ∙ same ∙ ap (λ (y : State). step-e y t (y .phase)) released-is
     where
-      first : step-d (whole table (At t) release′ blocked′ c) new (phase-in c) ≡ step-d (whole table (At t) release′ blocked′ c) new (whole table (At t) release′ blocked′ c .phase)
-      first = unfold whole in refl
-
-      later : step-e (whole table (At t) release′ blocked′ x) t (phase-in x) ≡ step-e (whole table (At t) release′ blocked′ x) t (whole table (At t) release′ blocked′ x .phase)
-      later = unfold whole in refl
+      same : step-e (whole table (At t) release′ blocked′ x) t (phase-in x) ≡ step-e (whole table (At t) release′ blocked′ x) t (whole table (At t) release′ blocked′ x .phase)
+      same = unfold whole in refl
 
   is-f : closes (whole table (At t) release blocked r) t new ≡ step-b (record { state = after-releases (whole table (At t) release blocked r) t new; done = NoJob; closed = NoInterval }) t (phase-in e)
   unfolding closes
@@ -137,21 +128,20 @@ module _ (table : Table) (t new : ℕ) (release blocked : List ℕ) (r : Registe
       nothing : [] ≡ span-bytes NoInterval
       nothing = unfold span-bytes in refl
 
-  module _ (h : ends (phase-in e) ≡ true) (p n : ℕ) (after : List ℕ) (y : Registers) (i : IntervalEntry)
+  module _ (h : ends (phase-in e) ≡ true) (p : ℕ) (after : List ℕ) (y : Registers) (i : IntervalEntry)
       (promoted-is : as-task p ≡ promoted (whole table (At t) release′ blocked′ e) (interval-in e) (copyin-in e))
-      (blocks-is : n ≡ blocks (whole table (At t) release′ blocked′ e) (interval-in e))
-      (counted-is : after ≡ counted n 0 blocked′)
+      (counted-is : after ≡ counted (blocks (whole table (At t) release′ blocked′ e) (interval-in e)) 0 blocked′)
       (closed-is : whole table (At t) release′ after y ≡ closed-with (whole table (At t) release′ after e) (interval-in e) (as-task p))
       (entry-is : i ≡ entry-with (e .half) t (interval-in e) (as-task p)) where
     pub after-closes : (at last : ℕ) (out out′ : List ℕ) → Laid at (interval-bytes i) out last out′
         → LaidAfter at r t new table release blocked out (record { registers = y; end = last }) release′ after out′
     after-closes at last out out′ l = record {
-      state = closes-state table (At t) release′ blocked′ e t g (sym is-e) h p n after y i promoted-is blocks-is counted-is closed-is entry-is ∙ sym (ap (λ (w : Stage). w .state) is-f);
+      state = closes-state table (At t) release′ blocked′ e t g (sym is-e) h p after y i promoted-is counted-is closed-is entry-is ∙ sym (ap (λ (w : Stage). w .state) is-f);
       laid = subst (λ (z : List ℕ). Laid at z out last out′) (span ∙ ap span-bytes (entry ∙ sym (ap (λ (w : Stage). w .closed) is-f))) l;
     }
       where
         entry : Span i ≡ step-b g t (phase-in e) .closed
-        entry = closes-entry table (At t) release′ blocked′ e t g (sym is-e) h p n after y i promoted-is blocks-is counted-is closed-is entry-is
+        entry = closes-entry table (At t) release′ blocked′ e t g (sym is-e) h p after y i promoted-is counted-is closed-is entry-is
 
         span : interval-bytes i ≡ span-bytes (Span i)
         span = unfold span-bytes in refl

@@ -1,40 +1,27 @@
 -- An instant in the parts in which it is written: steps a and b, the skipped releases, steps c to f. Assumes nothing.
 use mathlib.Core.Path.{_≡_, refl, sym, ap, _∙_, subst}
 use mathlib.Core.Bool.{Bool, true, false}
-use mathlib.Core.List.{List, [], _++_, append-assoc, append-nil}
+use mathlib.Core.List.{List, _++_, append-assoc, append-nil}
 use Prim.Native.Nat.{ℕ, _+_, _≤_}
 use native.Mathlib.Omega.{arith}
 use lib.ListN.{length, length-append}
 use Rattle.sets.specs.Sets.{difference, intersection}
+use Rattle.sets.specs.Laws.{by-test}
 use Rattle.entries.specs.Entries.{interval-bytes}
-use Rattle.rules.specs.Instant.{step-a, step-b, step-c, step-d, step-e, step-g, close, close-stage, over, with-candidates, taken, skipped, held-over, closing, at-a, at-b, new-at, at-e, at-f, at-g, occurred}
-use Rattle.rules.specs.Apart.{after-releases}
-use Rattle.record.specs.Types.{State, Stage, Done, NoJob, Closed, NoInterval, Span, Closing, Unclosed, BeforeReleases, AfterReleases, Interval, Phase, Between, Within}
+use Rattle.rules.specs.Instant.{step-b, step-c, step-d, step-e, step-g, close, close-stage, over, with-candidates, taken, skipped, held-over, closing, at-a, at-b, new-at, at-e, at-f, at-g, occurred}
+use Rattle.rules.specs.Apart.{with-releases, after-releases}
+use Rattle.rules.proofs.Turning.{none-closed, by-state}
+use Rattle.record.specs.Types.{State, Stage, Done, NoJob, Closed, NoInterval, Span, Interval, Phase, Between, Within}
 use Rattle.record.specs.Run.{done-bytes, skips-bytes, closed-bytes, moment-bytes}
 use Rattle.record.specs.Moments.{span-bytes, stage-bytes, served-bytes, closes}
 
--- ---- the test of steps b and f goes by the dispatcher alone
+-- ---- the interval that the test of steps b and f ends goes by the state alone
 
-module _ (e : State) (a b : Done) (t : ℕ) where
-  close-state : (x y : Closed) (i : Interval) (o : Bool) → close-stage (record { state = e; done = a; closed = x }) t i o .state ≡ close-stage (record { state = e; done = b; closed = y }) t i o .state
-  unfolding close-stage
-  close-state x y i true = refl
-  close-state x y i false = refl
-
-  close-closed : (x : Closed) (i : Interval) (o : Bool) → close-stage (record { state = e; done = a; closed = x }) t i o .closed ≡ close-stage (record { state = e; done = b; closed = x }) t i o .closed
-  unfolding close-stage
-  close-closed x i true = refl
-  close-closed x i false = refl
-
-  test-state : (x y : Closed) (p : Phase) → step-b (record { state = e; done = a; closed = x }) t p .state ≡ step-b (record { state = e; done = b; closed = y }) t p .state
-  unfolding step-b
-  test-state x y (Between next outgoing) = refl
-  test-state x y (Within i) = close-state x y i (over i)
-
-  test-closed : (x : Closed) (p : Phase) → step-b (record { state = e; done = a; closed = x }) t p .closed ≡ step-b (record { state = e; done = b; closed = x }) t p .closed
-  unfolding step-b
-  test-closed x (Between next outgoing) = refl
-  test-closed x (Within i) = close-closed x i (over i)
+test-closed : (e : State) (a b : Done) (t : ℕ) (p : Phase)
+    → step-b (record { state = e; done = a; closed = NoInterval }) t p .closed ≡ step-b (record { state = e; done = b; closed = NoInterval }) t p .closed
+unfolding step-b close-stage
+test-closed e a b t (Between next outgoing) = refl
+test-closed e a b t (Within i) = by-test (over i) (λ h. rw h) (λ h. rw h)
 
 -- ---- an interval that ended before the releases is the only one that ends
 
@@ -46,11 +33,6 @@ Shut (Within i) = ⊥
 -- where an interval ended, none is open
 abbrev Once : Stage → Type 0
 Once s = (s .closed ≡ NoInterval → ⊥) → Shut (s .state .phase)
-
-a-none : (d : State) (t : ℕ) (p : Phase) → step-a d t p .closed ≡ NoInterval
-unfolding step-a
-a-none d t (Between next outgoing) = refl
-a-none d t (Within i) = refl
 
 close-once : (s : Stage) (t : ℕ) (i : Interval) (o : Bool) → s .closed ≡ NoInterval → Once (close-stage s t i o)
 unfolding close-stage close
@@ -64,7 +46,7 @@ b-once s t (Within i) h = close-once s t i (over i) h
 
 at-once : (d : State) (t : ℕ) → Once (at-b d t)
 unfolding at-b at-a
-at-once d t = b-once (at-a d t) t (at-a d t .state .phase) (a-none _ t (d .phase))
+at-once d t = b-once (at-a d t) t (at-a d t .state .phase) (none-closed _ t (d .phase))
 
 -- a dispatcher with no open interval has none after the releases
 shut-test : (s : Stage) (t : ℕ) (p : Phase) → Shut p → step-b s t p .closed ≡ s .closed
@@ -92,7 +74,7 @@ unfolding after-releases
 shut-releases d t new h =
     let c : State = step-c d t new in
     let p : Shut (c .phase) = unfold step-c in shut-c d new (d .phase) h in
-    let x : step-d c new (c .phase) ≡ c = shut-d c new (c .phase) p in
+    let x : with-releases d t new ≡ c = unfold with-releases in shut-d c new (c .phase) p in
     subst (λ (y : State). Shut (step-e y t (y .phase) .phase)) (sym x)
     (subst (λ (y : State). Shut (y .phase)) (sym (shut-e c t (c .phase) p)) p)
 
@@ -128,14 +110,14 @@ module _ (d : State) (t set : ℕ) where
   new = new-at d t set
 
   is-e : at-e d t set ≡ after-releases (at-b d t .state) t (new-at d t set)
-  unfolding at-e after-releases
+  unfolding at-e with-releases after-releases
   is-e = refl
 
   f-state : at-f d t set .state ≡ closes (at-b d t .state) t (new-at d t set) .state
   unfolding at-f closes
   f-state =
       subst (λ (e : State). step-b (record { state = e; done = b .done; closed = b .closed }) t (e .phase) .state ≡ closes (b .state) t new .state) (sym is-e)
-      (let e : State = after-releases (b .state) t new in unfold closes in test-state e (b .done) NoJob t (b .closed) NoInterval (e .phase))
+      (let e : State = after-releases (b .state) t new in unfold closes in by-state e (b .done) NoJob (b .closed) NoInterval t (e .phase))
 
   f-closed : b .closed ≡ NoInterval → at-f d t set .closed ≡ closes (at-b d t .state) t (new-at d t set) .closed
   unfolding at-f closes
@@ -144,7 +126,7 @@ module _ (d : State) (t set : ℕ) where
       (let e : State = after-releases (b .state) t new in
       unfold closes in
       subst (λ (x : Closed). step-b (record { state = e; done = b .done; closed = x }) t (e .phase) .closed ≡ step-b (record { state = e; done = NoJob; closed = NoInterval }) t (e .phase) .closed) (sym h)
-      (test-closed e (b .done) NoJob t NoInterval (e .phase)))
+      (test-closed e (b .done) NoJob t (e .phase)))
 
   pub g-state : (f : State) → f ≡ closes (at-b d t .state) t (new-at d t set) .state → step-g f t (held-over (at-b d t .state .phase) (new-at d t set)) (f .phase) ≡ at-g d t set
   unfolding at-g

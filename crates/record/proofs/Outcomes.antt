@@ -1,8 +1,8 @@
 -- The writers' outcomes, and the releases of a file that is accepted as they stand in its bytes. Assumes nothing.
 use mathlib.Core.Path.{_≡_, refl, sym, ap, _∙_, subst}
 use mathlib.Core.Bool.{Bool, true, false}
-use mathlib.Core.List.{List, [], _∷_, _++_}
-use Prim.Native.Nat.{ℕ, zero, suc, _+_, _-_, _*_, _/_, _≤_, _<_}
+use mathlib.Core.List.{List, _∷_, _++_}
+use Prim.Native.Nat.{ℕ, zero, suc, _+_, _-_, _/_, _≤_, _<_}
 use native.Mathlib.Nat.{zero-add}
 use native.Mathlib.Omega.{arith}
 use borrow.Author.Tests.{le-leb, lt-leb, leb-true, leb-false, eq-eqb, ne-eqb}
@@ -13,12 +13,11 @@ use Rattle.words.specs.Words.{numberAt}
 use Rattle.entries.specs.Entries.{laid, entry-at, release-at}
 use Rattle.table.specs.Tasks.{behind-tasks, task-refusal, with-task, with-marked, tasks-from, tasks-of}
 use Rattle.table.proofs.Laws.{task-whole}
-use Rattle.rules.specs.Calls.{opened}
 use Rattle.table.specs.declared.Table.{Table}
 use Rattle.record.specs.Types.{TaskParameters, Release, Entry, Malformed, TaskEntry, ReleaseEntry, Last, NoneBefore, Before, Tasks, Refusal, NoRefusal, Alone, AtEntry, RefusedInput, TooShort, Recorded}
 use Rattle.record.specs.Files.{Checked, Rejected, Releases, refusal-of, with-release, release-refusal, releases-from, releases-behind, releases-of}
 use Rattle.record.specs.Listed.{listed, releases-at}
-use Rattle.record.specs.Run.{Written, Wrote, written, written-of, file, moments-of, record-bytes, run, budget}
+use Rattle.record.specs.Run.{Wrote, written, written-of, file, moments-of, record-bytes}
 use Rattle.record.specs.Advance.{start, Served, run-bytes, budget-at, Runs, ReadWhole}
 use Rattle.record.proofs.Reading.{release-whole, few, passed-on, takes}
 use Rattle.record.proofs.Cursor.{here, none}
@@ -109,13 +108,6 @@ module _ (s : List ℕ) (present : ℕ) where
           record { list = rw (e, releases-from) (ap Releases (sym (none s at (omega arith)))); small = omega arith }
       go-end false e rec = go-entry (entry-at s at) (leb-false (length s) at e) refl rec
 
--- ---- no instant of its run is refused, and none is late
-
-all-served : (s : List ℕ) → releases-of s ≡ Releases (releases-at s (tasks-of s .end)) → Served s (start (tasks-of s))
-all-served s h =
-    let f = fed-file s (releases-at s (tasks-of s .end)) h in
-    record { calls = f .calls; feeds = f .feeds; all-served = f .all-served; early = f .early }
-
 -- ---- an input whose task entries were read
 
 -- the task entries end within the input
@@ -143,6 +135,19 @@ tasks-within (suc k) s at t m l = go-behind (behind-tasks s at) refl (λ p h. ta
     go-behind true e rec = rw (e, tasks-from) l
     go-behind false e rec = go-entry (entry-at s at) e refl rec
 
+-- no instant of its run is refused, and none is late
+all-served : (s : List ℕ) → releases-of s ≡ Releases (releases-at s (tasks-of s .end)) → Served s (start (tasks-of s))
+unfolding tasks-of
+all-served s h =
+    let f = fed-file s (releases-at s (tasks-of s .end)) h in
+    record {
+      within = tasks-within (length s) s 0 _ 0 (omega arith);
+      calls = f .calls;
+      feeds = f .feeds;
+      all-served = f .all-served;
+      early = f .early;
+    }
+
 module _ (s : List ℕ) (k : Tasks) (read : ReadWhole s k) where
   pub checked-from : releases-of s ≡ releases-from (length s) s (k .end) (k .table .present) NoneBefore 0
   unfolding releases-of
@@ -162,9 +167,7 @@ module _ (s : List ℕ) (k : Tasks) (read : ReadWhole s k) where
     same-run = rw (sym (read .tasks), releases-length s (k .end))
 
     pub runs : Runs s (start k)
-    unfolding tasks-of
     runs = record {
-      within = rw (read .tasks) (tasks-within (length s) s 0 _ 0 (omega arith));
       few = omega (arith, all .small);
       short = omega (arith, ap length same-run, releases-length s (k .end), record-bound s (releases-at s (k .end)) listed-all);
       served = subst (λ (x : Tasks). Served s (start x)) (sym (read .tasks)) (all-served s (subst (λ (x : Tasks). releases-of s ≡ Releases (releases-at s (x .end))) (read .tasks) listed-all));

@@ -13,7 +13,7 @@ use Rattle.rules.specs.Apart.{phase-in, whole}
 use Rattle.rules.specs.Steps.{Empty, Stands}
 use Rattle.record.specs.Types.{Table, State, Registers, Clock, Unset, At, Due, Never, Tick, Tasks, Placed, Batch}
 use Rattle.record.specs.Listed.{releases-at}
-use Rattle.record.specs.Run.{run, record-bytes, first-time, released-at, released-after}
+use Rattle.record.specs.Run.{run, record-bytes, first-time, released-at}
 use Rattle.record.specs.Advance.{Cursor, Served, Laid, Released, Room, Ran, start, run-bytes, most}
 use Rattle.record.specs.Moments.{state-in, served-bytes, LaidInstant}
 use Rattle.record.proofs.Running.{Progress, begins, ends, over, goes, comes-early, room, more, served-most, next-cursor}
@@ -107,7 +107,7 @@ module _ {s : List ℕ} {table : Table} {bytes before : List ℕ} {keep : Bool} 
     next-in = next
 
     on : (refusal (whole table (g .clock) release blocked r) t (released-at t (releases-at s at)) ≡ 0) × Served s (next-cursor s (cursor-in table (g .clock) release blocked r at) t (batch .at))
-    on = goes s here (g .served) t (batch .at) next-in (b .rest)
+    on = goes s here (g .served) t (batch .at) next-in (b .rest) (b .within)
 
     same-bytes : served-bytes t (occurred (whole table (g .clock) release blocked r) t (released-at t (releases-at s at))) ≡ served-bytes t (occurred (state-in table release blocked r) t (batch .set))
     same-bytes =

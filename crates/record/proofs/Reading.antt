@@ -13,7 +13,7 @@ use Rattle.sets.specs.Laws.{by-test, both, left, right, clash}
 use Rattle.words.specs.Words.{numberAt}
 use Rattle.words.specs.Laws.{rest-whole, read-in-rest}
 use Rattle.entries.specs.Entries.{entry-at, task-at, release-at}
-use Rattle.record.specs.Types.{TaskParameters, Release, Entry, Malformed, TaskEntry, ReleaseEntry, Last, NoneBefore, Before, Refusal, NoRefusal, AtEntry}
+use Rattle.record.specs.Types.{TaskParameters, Release, Malformed, TaskEntry, ReleaseEntry, Last, Before, Refusal, NoRefusal, AtEntry}
 use Rattle.record.specs.Files.{Checked, Rejected, Releases, rises, refusal-of, with-release, release-refusal, releases-from}
 
 -- a release entry is whole

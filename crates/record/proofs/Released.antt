@@ -1,6 +1,6 @@
 -- The releases of an instant, of those of an accepted file that are left: the set handed in has a task of the table for each of them, and those after
 -- it come later. And what an instant takes and skips is what it is handed.
-use mathlib.Core.Path.{_≡_, refl, sym, ap, _∙_, subst}
+use mathlib.Core.Path.{_≡_, refl, ap, _∙_, subst}
 use mathlib.Core.Bool.{Bool, true, false, not, _&&_, _||_, true≢false}
 use mathlib.Core.Logic.{_⊎_, inl, inr, ⊎-elim}
 use mathlib.Core.List.{List, [], _∷_}

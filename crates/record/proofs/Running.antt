@@ -1,8 +1,8 @@
 -- A run along its instants: what is laid so far and what is to come make the whole record. Assumes nothing.
 use mathlib.Core.Path.{_≡_, refl, sym, ap, _∙_, subst}
-use mathlib.Core.Bool.{Bool, true, false, cond, false≢true}
+use mathlib.Core.Bool.{Bool, true}
 use mathlib.Core.List.{List, [], _∷_, _++_, append-assoc, append-nil}
-use Prim.Native.Nat.{ℕ, zero, suc, _+_, _-_, _*_, _≤_, _<_}
+use Prim.Native.Nat.{ℕ, zero, suc, _+_, _-_, _*_, _≤_}
 use native.Mathlib.Omega.{arith}
 use lib.ListN.{length, length-append}
 use Rattle.sets.specs.Sets.{member}
@@ -13,7 +13,7 @@ use Rattle.rules.specs.Calls.{refusal, instant, served}
 use Rattle.guarantees.specs.History.{Call, Instant, after-call}
 use Rattle.record.specs.Types.{Release, State, Never, Tick, Done, NoJob, Job, Closing, Unclosed, BeforeReleases, AfterReleases, Occurred}
 use Rattle.record.specs.Listed.{releases-at}
-use Rattle.record.specs.Run.{Moment, moment-bytes, record-bytes, done-bytes, skips-bytes, closed-bytes, run, first-time, released-at, released-after}
+use Rattle.record.specs.Run.{moment-bytes, record-bytes, done-bytes, skips-bytes, closed-bytes, run, first-time, released-at, released-after}
 use Rattle.record.specs.FileClaim.{Feeds, AllServed}
 use Rattle.record.specs.Advance.{Cursor, AllEarly, Served, Laid, run-bytes, most}
 use Rattle.record.specs.Moments.{served-bytes}
@@ -147,7 +147,7 @@ same : (a b : ℕ) → Tick a ≡ Tick b → a ≡ b
 same a b e = cc
 
 module _ (s : List ℕ) (c : Cursor) (v : Served s c) (t at : ℕ) (next : sooner (first-time (releases-at s (c .at))) (due (c .state .phase)) ≡ Tick t)
-    (h : releases-at s at ≡ released-after t (releases-at s (c .at))) where
+    (h : releases-at s at ≡ released-after t (releases-at s (c .at))) (within : at ≤ length s) where
   abbrev d : State
   d = c .state
 
@@ -165,6 +165,7 @@ module _ (s : List ℕ) (c : Cursor) (v : Served s c) (t at : ℕ) (next : soone
   one cs g l f = (
     g .0,
     record {
+      within = within;
       calls = cs;
       feeds = subst (λ (rs : List Release). Feeds (at-g d t set) rs cs) (sym h) (subst (λ (q : State). Feeds q (released-after t (releases-at s (c .at))) cs) (is-g (g .0)) f);
       all-served = subst (λ (q : State). AllServed q cs) (is-g (g .0)) (g .1);

@@ -1,13 +1,13 @@
 -- The test of steps b and f over the parts: an interval that is at its end closes, any other stays. Assumes nothing.
 use mathlib.Core.Path.{_≡_, refl, sym, ap, _∙_, subst}
-use mathlib.Core.Bool.{Bool, true, false, cond, false≢true}
+use mathlib.Core.Bool.{Bool, true, false, false≢true}
 use mathlib.Core.List.{List}
 use Prim.Native.Nat.{ℕ}
 use lib.Dec.{eqb}
 use Rattle.sets.specs.Laws.{by-test}
 use Rattle.rules.specs.Instant.{over, promoted, blocks, counted, close, interval-entry, close-stage, step-b}
 use Rattle.rules.specs.Apart.{as-task, copyin-in, interval-in, phase-in, whole, ends, closed-with, entry-with}
-use Rattle.record.specs.Types.{Table, State, Registers, Stage, Clock, MaybeTask, Interval, IntervalEntry, Phase, Between, Within, Span}
+use Rattle.record.specs.Types.{Table, State, Registers, Stage, Clock, Interval, IntervalEntry, Phase, Between, Within, Span}
 
 stays-at : (s : Stage) (t : ℕ) (p : Phase) → ends p ≡ false → step-b s t p ≡ s
 unfolding ends step-b close-stage
@@ -33,10 +33,9 @@ module _ (table : Table) (clock : Clock) (release blocked : List ℕ) (r : Regis
   abbrev i : Interval
   i = interval-in r
 
-  module _ (h : ends (phase-in r) ≡ true) (p n : ℕ) (after : List ℕ) (x : Registers) (e : IntervalEntry)
+  module _ (h : ends (phase-in r) ≡ true) (p : ℕ) (after : List ℕ) (x : Registers) (e : IntervalEntry)
       (promoted-is : as-task p ≡ promoted (whole table clock release blocked r) (interval-in r) (copyin-in r))
-      (blocks-is : n ≡ blocks (whole table clock release blocked r) (interval-in r))
-      (counted-is : after ≡ counted n 0 blocked)
+      (counted-is : after ≡ counted (blocks (whole table clock release blocked r) (interval-in r)) 0 blocked)
       (closed-is : whole table clock release after x ≡ closed-with (whole table clock release after r) (interval-in r) (as-task p))
       (entry-is : e ≡ entry-with (r .half) t (interval-in r) (as-task p)) where
     ended : over (interval-in r) ≡ true
@@ -51,7 +50,7 @@ module _ (table : Table) (clock : Clock) (release blocked : List ℕ) (r : Regis
     pub closes-state : whole table clock release after x ≡ step-b s t (phase-in r) .state
     closes-state =
         closed-is
-        ∙ ap (λ (w : List ℕ). closed-with (whole table clock release w r) i (as-task p)) (counted-is ∙ ap (λ (m : ℕ). counted m 0 blocked) blocks-is)
+        ∙ ap (λ (w : List ℕ). closed-with (whole table clock release w r) i (as-task p)) counted-is
         ∙ ap (closed-with (whole table clock release (counted (blocks d i) 0 blocked) r) i) promoted-is
         ∙ same
         ∙ sym (ap (λ (w : Stage). w .state) is-closed)

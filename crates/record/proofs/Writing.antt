@@ -1,7 +1,7 @@
 -- Bytes laid over a slice entry after entry. Assumes nothing.
 use mathlib.Core.Path.{_≡_, refl, sym, ap, _∙_}
 use mathlib.Core.Bool.{true, false, cond}
-use mathlib.Core.List.{List, [], _∷_, _++_, append-assoc, append-nil}
+use mathlib.Core.List.{List, [], _++_, append-assoc, append-nil}
 use Prim.Native.Nat.{ℕ, zero, suc, _+_, _-_, _≤_, _<_}
 use native.Mathlib.Nat.{add-zero}
 use native.Mathlib.Omega.{arith}
@@ -59,14 +59,13 @@ module _ (at : ℕ) (a b s : List ℕ) (p : ℕ) (s′ : List ℕ) (q : ℕ) (s�
   }
 
 -- what a writer of an entry made of the rest from a place on
-pub put-laid : (bytes : List ℕ) (at : ℕ) (s : List ℕ) (size : ℕ) (t : List ℕ) → at + length bytes ≤ length s
-    → Put bytes (take (length s - at) (drop at s)) size t → Laid at bytes s (at + size) (take at s ++ (t ++ drop (length s - at) (drop at s)))
-put-laid bytes at s size t l p =
+pub put-whole : (bytes : List ℕ) (at : ℕ) (s : List ℕ) (size : ℕ) (t : List ℕ) {n : ℕ} → length bytes ≡ n → at + n ≤ length s
+    → Put bytes (take (length s - at) (drop at s)) size t → Laid at bytes s (at + n) (take at s ++ (t ++ drop (length s - at) (drop at s)))
+put-whole bytes at s size t {n} e l p =
     let w : take (length s - at) (drop at s) ≡ drop at s = rest-whole at s in
     let fit : length bytes ≤ length (drop at s) = omega (arith, length-drop at s) in
-    let e : size ≡ length bytes = (rw (w, le-leb (length bytes) (length (drop at s)) fit) at (p .length-is)) in
     record {
-      place-is = ap (λ (n : ℕ). at + n) e;
+      place-is = ap (λ (n : ℕ). at + n) (sym e);
       holds = lent (λ x. bytes ++ drop (length bytes) x) at s t (rw w (rw (w, le-leb (length bytes) (length (drop at s)) fit) at (p .holds)))
           ∙ ap (λ (x : List ℕ). take at s ++ (bytes ++ x)) (drop-drop (length bytes) at s);
     }

@@ -15,6 +15,7 @@ use Rattle.record.specs.FileClaim.{Feeds, AllServed}
 pub record Released (s : List ℕ) (at t : ℕ) (b : Batch) : Type 0 where
   pub set-is : b .set ≡ released-at t (releases-at s at)
   pub rest : releases-at s (b .at) ≡ released-after t (releases-at s at)
+  pub within : b .at ≤ length s
 
 -- how far a run has come: the dispatcher, and the place of the next release
 pub record Cursor : Type 0 where
@@ -47,6 +48,7 @@ AllEarly (Mark n m ∷ cs) = AllEarly cs
 
 -- no instant of a run is refused, and none is late
 pub record Served (s : List ℕ) (c : Cursor) : Type 0 where
+  pub within : c .at ≤ length s
   pub calls : List Call
   pub feeds : Feeds (c .state) (releases-at s (c .at)) calls
   pub all-served : AllServed (c .state) calls
@@ -75,7 +77,6 @@ budget-at s c = budget ((length s - c .at) / 10)
 -- a file that was checked runs from a cursor on: its releases are not more than 4,096, and its record is not longer than 99 bytes for
 -- each of them
 pub record Runs (s : List ℕ) (c : Cursor) : Type 0 where
-  pub within : c .at ≤ length s
   pub few : (length s - c .at) / 10 ≤ 4096
   pub short : length (run-bytes s c (budget-at s c)) ≤ 99 * ((length s - c .at) / 10)
   pub served : Served s c

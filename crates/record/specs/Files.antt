@@ -1,6 +1,6 @@
 -- An input's entries, checked entry by entry: task entries, then release entries rising strictly by time and then task number; at
 -- most 4,096 releases.
-use Rattle.record.specs.Types.{Bool, true, false, cond, not, _&&_, _||_, List, [], _∷_, ℕ, zero, suc, _+_, TaskParameters, Release, Entry, Malformed, TaskEntry, ReleaseEntry, Last, NoneBefore, Before, Tasks, Refusal, NoRefusal, Alone, AtEntry}
+use Rattle.record.specs.Types.{Bool, true, false, cond, not, _&&_, _||_, List, [], _∷_, ℕ, zero, suc, _+_, Release, Malformed, TaskEntry, ReleaseEntry, Last, NoneBefore, Before, Tasks, Refusal, NoRefusal, Alone, AtEntry}
 use lib.Dec.{ltb, leb, eqb}
 use lib.ListN.{length}
 use Rattle.sets.specs.Sets.{member}

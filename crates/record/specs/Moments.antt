@@ -4,7 +4,7 @@ use Rattle.entries.specs.Entries.{interval-bytes}
 use Rattle.rules.specs.Instant.{step-b, at-b, at-g, occurred}
 use Rattle.rules.specs.Apart.{whole, after-releases}
 use Rattle.record.specs.Types.{List, [], _++_, ℕ, Table, State, Registers, Stage, NoJob, Closed, NoInterval, Span, Unset, At, Occurred, Placed}
-use Rattle.record.specs.Run.{Moment, moment-bytes, done-bytes}
+use Rattle.record.specs.Run.{moment-bytes, done-bytes}
 use Rattle.record.specs.Advance.{Laid}
 
 -- the table whose arrays are lent

@@ -1,6 +1,6 @@
 -- The run of a file: its releases and all due times handed to the dispatcher by instants, with no mark call, until nothing is
 -- pending; and its record, in the order in which things occur.
-use Rattle.record.specs.Types.{Bool, true, false, cond, List, [], _∷_, _++_, ℕ, zero, suc, _+_, _*_, Release, Tasks, Refusal, JobEntry, IntervalEntry, State, Done, NoJob, Job, Closing, Unclosed, BeforeReleases, AfterReleases, Due, Never, Tick, Occurred, Answer, Refused, Served, Step, Outcome, RefusedInput, TooShort, Recorded}
+use Rattle.record.specs.Types.{true, false, cond, List, [], _∷_, _++_, ℕ, zero, suc, _+_, _*_, Release, Tasks, State, Done, NoJob, Job, Closing, Unclosed, BeforeReleases, AfterReleases, Due, Never, Tick, Occurred, Answer, Refused, Served, Step, Outcome, RefusedInput, TooShort, Recorded}
 use mathlib.Core.Path.{_≡_}
 use lib.Dec.{leb, eqb}
 use lib.ListN.{length, drop}

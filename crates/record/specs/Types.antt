@@ -5,7 +5,6 @@ pub use Rattle.entries.specs.declared.Entry.{Entry}
 pub use Rattle.entries.specs.declared.Entry.the-variants.{Malformed, TaskEntry, ReleaseEntry}
 pub use Rattle.entries.specs.declared.JobEntry.{JobEntry}
 pub use Rattle.entries.specs.declared.IntervalEntry.{IntervalEntry}
-pub use Rattle.entries.specs.declared.MaybeTask.{MaybeTask}
 pub use Rattle.table.specs.declared.Table.{Table}
 pub use Rattle.table.specs.declared.Tasks.{Tasks}
 pub use Rattle.table.specs.declared.Refusal.{Refusal}

@@ -1,8 +1,6 @@
 // The releases of a file's run, read from the bytes as their time comes.
 use rules::Registers;
-ghost use mathlib.Core.Path.{_≡_};
-ghost use Prim.Native.Nat.{_-_};
-ghost use lib.Dec.{leb};
+ghost use Prim.Native.Nat.{_-_, _^_, _≤_, _<_};
 ghost use lib.ListN.{length};
 ghost use Rattle.record.specs.Listed.{releases-at};
 ghost use Rattle.record.specs.Run as run;
@@ -17,37 +15,28 @@ pub struct Batch {
     pub at: usize,
 }
 
-// Whether a release stands at `at`.
-fn more(s: &[u8], at: usize) -> bool
-    ensures { λ r. ⌜ r ≡ leb 10 (length (now (s .entry)) - at) ⌝ }
-{
-    if s.len() < 10 {
-        return false;
-    }
-    at <= s.len() - 10
-}
-
 // The time of the next release; the last tick stands for none.
-pub fn first_tick(s: &[u8], at: usize) -> u64
+fn first_tick(s: &[u8], at: usize) -> u64
+    requires { ⌜ at ≤ length (now s) ⌝ }
     ensures { λ x. ⌜ Stands x (run.first-time (releases-at (now (s .entry)) at)) ⌝ }
 {
-    if more(s, at) {
-        let rest = &s[at..];
-        return words::get_u64(rest, 2);
+    let rest = &s[at..];
+    if rest.len() < 10 {
+        return u64::MAX;
     }
-    u64::MAX
+    words::get_u64(rest, 2)
 }
 
+// The releases at a time, from `start` on.
 pub fn released(s: &[u8], start: usize, t: u64) -> Batch
+    requires { ⌜ start ≤ length (now s) ⌝ }
+    requires { ⌜ t < 2 ^ 64 - 1 ⌝ }
     ensures { λ r. ⌜ Released (now (s .entry)) start t r ⌝ }
 {
     let mut set: u32 = 0;
     let mut at = start;
-    while more(s, at) {
+    while first_tick(s, at) == t {
         let rest = &s[at..];
-        if words::get_u64(rest, 2) != t {
-            break;
-        }
         set = sets::insert(set, words::get_u8(rest, 1));
         at += 10;
     }
@@ -56,6 +45,7 @@ pub fn released(s: &[u8], start: usize, t: u64) -> Batch
 
 // When the next instant of a run is: the sooner of its next release and the next due time; the last tick stands for none.
 pub fn next_tick(s: &[u8], at: usize, r: Registers) -> u64
+    requires { ⌜ at ≤ length (now s) ⌝ }
     ensures { λ x. ⌜ Stands x (sooner (run.first-time (releases-at (now (s .entry)) at)) (due (phase-in r))) ⌝ }
 {
     rules::least(first_tick(s, at), rules::due_tick(r))

@@ -39,7 +39,7 @@ fn before_at(
     let a = rules::ended(r, t, execution);
     if rules::over(a) {
         let p = rules::promoted(a, priority);
-        rules::count(rules::blocks(a, priority), blocked);
+        rules::count_blocked(a, priority, blocked);
         let last = interval_at(out, end, rules::interval_entry(a, t, p));
         return Placed {
             registers: rules::close(a, p),
@@ -67,13 +67,11 @@ fn after_at(
     requires { ⌜ at + length (span-bytes (closes (whole (table-in present (now priority) (now copyin) (now execution) (now copyout)) (Clock.At t) (now release) (now blocked) r) t new .closed)) ≤ length (now out) ⌝ }
     ensures { λ x. ⌜ LaidAfter at r t new (table-in present (now (priority .entry)) (now (copyin .entry)) (now (execution .entry)) (now (copyout .entry))) (now (release .entry)) (now (blocked .entry)) (now (out .entry)) x (now (release .exit)) (now (blocked .exit)) (now (out .exit)) ⌝ }
 {
-    rules::stamp(new, t, release, blocked);
-    let c = rules::taken(r, new);
-    let d = rules::cancelled(c, new, priority);
+    let d = rules::released(r, t, new, priority, release, blocked);
     let e = rules::chosen(d, t, priority, copyin);
     if rules::over(e) {
         let p = rules::promoted(e, priority);
-        rules::count(rules::blocks(e, priority), blocked);
+        rules::count_blocked(e, priority, blocked);
         let last = interval_at(out, at, rules::interval_entry(e, t, p));
         return Placed {
             registers: rules::close(e, p),

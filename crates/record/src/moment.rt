@@ -3,7 +3,6 @@
 use entries::IntervalEntry;
 use entries::JobEntry;
 use rules::Done;
-ghost use mathlib.Core.Path.{_≡_};
 ghost use Prim.Native.Nat.{_+_, _≤_};
 ghost use lib.ListN.{length};
 ghost use Rattle.entries.specs.Entries.{job-bytes, interval-bytes, skipped-bytes};
@@ -14,24 +13,24 @@ fn job_at(out: &mut [u8], at: usize, e: JobEntry) -> usize
     requires { ⌜ at + 27 ≤ length (now out) ⌝ }
     ensures { λ r. ⌜ Laid at (job-bytes e) (now (out .entry)) r (now (out .exit)) ⌝ }
 {
-    let n = entries::put_job(&mut out[at..], e);
-    at + n
+    entries::put_job(&mut out[at..], e);
+    at + 27
 }
 
 pub fn interval_at(out: &mut [u8], at: usize, e: IntervalEntry) -> usize
     requires { ⌜ at + 24 ≤ length (now out) ⌝ }
     ensures { λ r. ⌜ Laid at (interval-bytes e) (now (out .entry)) r (now (out .exit)) ⌝ }
 {
-    let n = entries::put_interval(&mut out[at..], e);
-    at + n
+    entries::put_interval(&mut out[at..], e);
+    at + 24
 }
 
 fn skipped_at(out: &mut [u8], at: usize, task: u8, time: u64) -> usize
     requires { ⌜ at + 10 ≤ length (now out) ⌝ }
     ensures { λ r. ⌜ Laid at (skipped-bytes task time) (now (out .entry)) r (now (out .exit)) ⌝ }
 {
-    let n = entries::put_skipped(&mut out[at..], task, time);
-    at + n
+    entries::put_skipped(&mut out[at..], task, time);
+    at + 10
 }
 
 pub fn done_at(out: &mut [u8], at: usize, done: Done) -> usize

@@ -1,53 +1,53 @@
--- A loop from member to member of a set that stores into an array at each: `count` and `stamp`.
-use Rattle.rules.specs.Types.{cond, List, [], _∷_, ℕ, zero, suc, _+_, _^_, _<_, min, _≡_, refl, sym, ap, _∙_}
+-- A loop from member to member of a set that stores into an array at each: `count_higher` and `stamp`.
+use Rattle.rules.specs.Types.{cond, List, [], _∷_, ℕ, zero, suc, _+_, _^_, _<_, _≡_, refl, sym, ap, _∙_, subst}
 use native.Mathlib.Omega.{arith}
 use native.Mathlib.Nat.{le-of-suc-le-suc, not-suc-le-zero}
 use borrow.Author.Tests.{eqb-true, eqb-false}
 use lib.Dec.{eqb}
 use lib.ListN.{length, getD, set, length-set}
-use lib.Seq.{getD-set-same, getD-set-other, ext-getD}
+use lib.Seq.{set-getD, getD-set-same, getD-set-other, ext-getD}
 use Rattle.sets.specs.Sets.{member, remove, lowest}
-use Rattle.sets.specs.Laws.{by-test}
-use Rattle.rules.specs.Instant.{counted, stamped}
+use Rattle.sets.specs.Laws.{by-test, none}
+use Rattle.rules.specs.Instant.{stamped}
 use Rattle.rules.proofs.Members.{Left, Turn, passed, start, at-start, at-end, turn}
 
--- f at each task of a set, from task k on
-unfoldable pub each : (ℕ → ℕ) → ℕ → ℕ → List ℕ → List ℕ
+-- f at each task of a set, by its number and what it has, from task k on
+unfoldable pub each : (ℕ → ℕ → ℕ) → ℕ → ℕ → List ℕ → List ℕ
 each f s k [] = []
-each f s k (x ∷ xs) = cond (member k s) (f x) x ∷ each f s (suc k) xs
+each f s k (x ∷ xs) = cond (member k s) (f k x) x ∷ each f s (suc k) xs
 
-pub is-counted : (s k : ℕ) (xs : List ℕ) → each (λ x. min (x + 1) 255) s k xs ≡ counted s k xs
-unfolding each counted
-is-counted s k [] = refl
-is-counted s k (x ∷ xs) = rw (is-counted s (suc k) xs)
-
-pub is-stamped : (s v k : ℕ) (xs : List ℕ) → each (λ x. v) s k xs ≡ stamped s v k xs
+pub is-stamped : (s v k : ℕ) (xs : List ℕ) → each (λ k x. v) s k xs ≡ stamped s v k xs
 unfolding each stamped
 is-stamped s v k [] = refl
 is-stamped s v k (x ∷ xs) = rw (is-stamped s v (suc k) xs)
 
-each-length : (f : ℕ → ℕ) (s k : ℕ) (xs : List ℕ) → length (each f s k xs) ≡ length xs
+pub stamped-none : (v k : ℕ) (xs : List ℕ) → stamped 0 v k xs ≡ xs
+unfolding stamped
+stamped-none v k [] = refl
+stamped-none v k (x ∷ xs) = rw (none k, stamped-none v (suc k) xs)
+
+each-length : (f : ℕ → ℕ → ℕ) (s k : ℕ) (xs : List ℕ) → length (each f s k xs) ≡ length xs
 unfolding each
 each-length f s k [] = refl
 each-length f s k (x ∷ xs) = ap suc (each-length f s (suc k) xs)
 
-each-at : (f : ℕ → ℕ) (s k i n : ℕ) → n ≡ k + i → (xs : List ℕ) → i < length xs → getD (each f s k xs) i 0 ≡ cond (member n s) (f (getD xs i 0)) (getD xs i 0)
+each-at : (f : ℕ → ℕ → ℕ) (s k i n : ℕ) → n ≡ k + i → (xs : List ℕ) → i < length xs → getD (each f s k xs) i 0 ≡ cond (member n s) (f n (getD xs i 0)) (getD xs i 0)
 unfolding each
 each-at f s k i n e [] l = absurd (not-suc-le-zero l)
 each-at f s k zero n e (x ∷ xs) l = let h : n ≡ k = omega arith in rw h
 each-at f s k (suc i) n e (x ∷ xs) l = each-at f s (suc k) i n (omega arith) xs (le-of-suc-le-suc l)
 
 -- in a loop over a set, the tasks passed have f at what they had
-pub record Stored (f : ℕ → ℕ) (s left : ℕ) (old new : List ℕ) : Type 0 where
+pub record Stored (f : ℕ → ℕ → ℕ) (s left : ℕ) (old new : List ℕ) : Type 0 where
   pub members : Left s left
   pub long : length new ≡ length old
-  pub at : (k : ℕ) → k < length new → getD new k 0 ≡ cond (passed s left k) (f (getD old k 0)) (getD old k 0)
+  pub at : (k : ℕ) → k < length new → getD new k 0 ≡ cond (passed s left k) (f k (getD old k 0)) (getD old k 0)
 
-module _ {f : ℕ → ℕ} {s : ℕ} {old : List ℕ} where
+module _ {f : ℕ → ℕ → ℕ} {s : ℕ} {old : List ℕ} where
   pub store-start : s < 2 ^ 32 → Stored f s s old old
   store-start l = record { members = start l; long = refl; at = λ k m. rw (at-start s k) }
 
-  stored : {left n after v : ℕ} {new : List ℕ} → Turn s left n after → Stored f s left old new → v ≡ f (getD new n 0) → Stored f s after old (set new n v)
+  stored : {left n after v : ℕ} {new : List ℕ} → Turn s left n after → Stored f s left old new → v ≡ f n (getD new n 0) → Stored f s after old (set new n v)
   stored {left} {n} {after} {v} {new} t h q = record {
     members = t .next;
     long = length-set new n v ∙ h .long;
@@ -59,8 +59,12 @@ module _ {f : ℕ → ℕ} {s : ℕ} {old : List ℕ} where
         (λ e. rw (e, getD-set-other new n k v 0 (eqb-false k n e)) (h .at k l)));
   }
 
-  pub store : {left n after v : ℕ} {new : List ℕ} → Stored f s left old new → (left ≡ 0 → ⊥) → n ≡ lowest left → after ≡ remove (lowest left) left → v ≡ f (getD new n 0) → Stored f s after old (set new n v)
+  pub store : {left n after v : ℕ} {new : List ℕ} → Stored f s left old new → (left ≡ 0 → ⊥) → n ≡ lowest left → after ≡ remove (lowest left) left → v ≡ f n (getD new n 0) → Stored f s after old (set new n v)
   store h some e g q = stored (turn (h .members) some e g) h q
+
+  -- where f at it is what it has
+  pub keep : {left n after : ℕ} {new : List ℕ} → Stored f s left old new → (left ≡ 0 → ⊥) → n ≡ lowest left → after ≡ remove (lowest left) left → getD new n 0 ≡ f n (getD new n 0) → Stored f s after old new
+  keep {new = new} h some e g q = subst (Stored f s _ old) (set-getD new _ 0) (store h some e g q)
 
   pub store-end : {left : ℕ} {new : List ℕ} → Stored f s left old new → left ≡ 0 → new ≡ each f s 0 old
   store-end {left} {new} h z =

@@ -91,13 +91,11 @@ pub entry-by : (r : Registers) (t p fate : ℕ) (task copiedout chosen promoted 
 unfolding interval-in entry-with
 entry-by r t p fate task copiedout chosen promoted a b c d e = simp (a, b, c, d, e)
 
-pub closed-by : (table : Table) (clock : Clock) (release blocked : List ℕ) (r : Registers) (p ready work n out : ℕ)
-    → ready ≡ without-promoted (r .ready) (as-task p)
-    → as-next work n ≡ next-of (copyin-in r) (as-task p)
-    → as-outgoing out (r .task) (r .start) ≡ awaiting-copyout (processor-in r)
-    → whole table clock release blocked (record { marked = r .marked; pending = r .pending; ready = ready; candidates = r .candidates; begin = r .begin; start = r .start; until = r .until; outstart = r .start; outuntil = r .outuntil; inuntil = r .inuntil; half = r .half; work = work; processor = r .processor; task = n; copyout = out; outtask = r .task; copyin = 5; intask = r .intask }) ≡ closed-with (whole table clock release blocked r) (interval-in r) (as-task p)
+pub closed-by : (table : Table) (clock : Clock) (release blocked : List ℕ) (r : Registers) (p : MaybeTask) (out ready work n : ℕ)
+    → as-outgoing out (r .task) (r .start) ≡ awaiting-copyout (processor-in r) → ready ≡ without-promoted (r .ready) p → as-next work n ≡ next-of (copyin-in r) p
+    → whole table clock release blocked (record { marked = r .marked; pending = r .pending; ready = ready; candidates = r .candidates; begin = r .begin; start = r .start; until = r .until; outstart = r .start; outuntil = r .outuntil; inuntil = r .inuntil; half = r .half; work = work; processor = r .processor; task = n; copyout = out; outtask = r .task; copyin = 5; intask = r .intask }) ≡ closed-with (whole table clock release blocked r) (interval-in r) p
 unfolding whole phase-in interval-in closed-with
-closed-by table clock release blocked r p ready work n out a b c = simp (a, b, c)
+closed-by table clock release blocked r p out ready work n o a b = simp (a, b, o)
 
 -- ---- c
 

@@ -1,5 +1,5 @@
 -- What stands in numbers, by its kind, where the code tests fewer kinds than there are.
-use Rattle.rules.specs.Types.{List, true, false, not, ℕ, _≤_, _<_, _≡_, Table, Jobs, Registers, Clock, Done, CopyingIn, Executing, Finished, CopyingOut, Outgoing, Task, NoTask, NoneNext, NoneOutgoing, NoJob, Job}
+use Rattle.rules.specs.Types.{List, true, false, not, ℕ, _≤_, _<_, _≡_, ap, _∙_, Table, Jobs, Registers, Clock, Done, CopyingIn, Executing, Finished, CopyingOut, Outgoing, Task, NoTask, NoneNext, NoneOutgoing, NoJob, Job}
 use native.Mathlib.Omega.{arith}
 use borrow.Author.Tests.{eqb-true, eqb-false, eq-eqb, ne-eqb}
 use lib.Dec.{eqb}
@@ -149,8 +149,22 @@ none-next kind n until h =
 pub wanted-next : (work n ready : ℕ) (o : Outgoing) → eqb work 0 ≡ false → true ≡ wanted (as-next work n) o ready
 wanted-next work n ready o e = by-test (eqb work 1) (λ f. simp (e, f)) (λ f. simp (e, f))
 
-pub wanted-ready : (work n kind m start ready : ℕ) → work ≡ 0 → kind ≡ 0 → not (eqb ready 0) ≡ wanted (as-next work n) (as-outgoing kind m start) ready
-wanted-ready work n kind m start ready e f = simp (e, f)
+module _ (work n kind m start ready : ℕ) where
+  pub wanted-outgoing : eqb kind 0 ≡ false → true ≡ wanted (as-next work n) (as-outgoing kind m start) ready
+  wanted-outgoing f = by-test (eqb work 0) (λ e. simp (e, f)) (wanted-next work n ready (as-outgoing kind m start))
+
+  pub wanted-ready : eqb ready 0 ≡ false → true ≡ wanted (as-next work n) (as-outgoing kind m start) ready
+  wanted-ready g =
+      by-test (eqb work 0)
+      (λ e. by-test (eqb kind 0) (λ f. simp (e, f, g)) wanted-outgoing)
+      (wanted-next work n ready (as-outgoing kind m start))
+
+  -- with no job ready and none to copy out
+  pub wanted-by-next : ready ≡ 0 → kind ≡ 0 → not (eqb work 0) ≡ wanted (as-next work n) (as-outgoing kind m start) ready
+  wanted-by-next g f =
+      by-test (eqb work 0)
+      (λ e. simp (e, f, g))
+      (λ e. ap not e ∙ wanted-next work n ready (as-outgoing kind m start) e)
 
 pub loaded-begins : (table : Table) (execution : List ℕ) (t work n length until : ℕ)
     → work ≡ 1 → length ≡ getD execution n 0 → until ≡ later t length → table .execution ≡ execution

@@ -1,6 +1,6 @@
 -- The state taken apart, as the code has it: numbers that go by value (`Registers`) beside arrays that are lent. Read back, they are
 -- the state that the rules speak of.
-use Rattle.rules.specs.Types.{Bool, true, false, cond, List, ℕ, Table, Clock, MaybeTask, NoTask, Task, Processor, Idle, CopyingIn, Executing, Finished, CopyOut, NoCopyOut, CopyingOut, CopiedOut, CopyIn, Unchosen, NoneChosen, Copying, Loaded, Cancelled, Interval, Next, NoneNext, LoadedNext, PromotedNext, Outgoing, NoneOutgoing, AwaitsCopyOut, Phase, Between, Within, State, IntervalEntry, Registers}
+use Rattle.rules.specs.Types.{Bool, false, cond, List, ℕ, Table, Clock, MaybeTask, NoTask, Task, Processor, Idle, CopyingIn, Executing, Finished, CopyOut, NoCopyOut, CopyingOut, CopiedOut, CopyIn, Unchosen, NoneChosen, Copying, Loaded, Cancelled, Interval, Next, NoneNext, LoadedNext, PromotedNext, Outgoing, NoneOutgoing, AwaitsCopyOut, Phase, Between, Within, State, IntervalEntry, Registers}
 use lib.Dec.{eqb, ltb}
 use Rattle.rules.specs.With.{with-jobs, with-phase}
 use Rattle.rules.specs.Instant.{over, processor-task, copyout-task, copyin-task, copyin-fate, without-promoted, next-of, awaiting-copyout, step-c, step-d, step-e}
@@ -114,8 +114,13 @@ entry-with half t i p = record {
 
 -- ---- Steps c to e
 
+-- steps c and d
+unfoldable pub with-releases : State → ℕ → ℕ → State
+with-releases d t new =
+    let c : State = step-c d t new in
+    step-d c new (c .phase)
+
 unfoldable pub after-releases : State → ℕ → ℕ → State
 after-releases d t new =
-    let c : State = step-c d t new in
-    let x : State = step-d c new (c .phase) in
+    let x : State = with-releases d t new in
     step-e x t (x .phase)

@@ -1,6 +1,6 @@
 -- The dispatcher by instants, over its state: opening from the task entries, an instant and a mark call, each with its refusals in their
 -- order. A refused call hands the state back as it was.
-use Rattle.rules.specs.Types.{Bool, true, false, cond, not, _&&_, List, [], ℕ, Table, Clock, Unset, At, NoneNext, NoneOutgoing, Between, State, Due, Never, Tick, Answer, Refused, Served, MarkAnswer, MarkRefused, MarkServed, Refusal, NoRefusal, Alone, AtEntry, Tasks}
+use Rattle.rules.specs.Types.{Bool, false, cond, not, _&&_, List, ℕ, Table, Clock, Unset, At, NoneNext, NoneOutgoing, Between, State, Due, Never, Tick, Answer, Refused, Served, MarkAnswer, MarkRefused, MarkServed, Refusal, NoRefusal, Alone, AtEntry, Tasks}
 use lib.Dec.{ltb, leb, eqb}
 use lib.ListN.{length, replicate}
 use Rattle.sets.specs.Sets.{member, difference, insert, remove}

@@ -1,5 +1,5 @@
 -- What happens at one instant, steps a to g, in this order. Where it applies a definition names its rule of R1 to R6.
-use Rattle.rules.specs.Types.{Bool, true, false, cond, not, _&&_, _||_, List, [], _∷_, ℕ, suc, _+_, _-_, min, Table, Jobs, MaybeTask, NoTask, Task, Processor, Idle, CopyingIn, Executing, Finished, CopyOut, NoCopyOut, CopyingOut, CopiedOut, CopyIn, Unchosen, NoneChosen, Copying, Loaded, Cancelled, Interval, Next, NoneNext, LoadedNext, PromotedNext, Outgoing, NoneOutgoing, AwaitsCopyOut, Phase, Between, Within, State, JobEntry, IntervalEntry, Done, NoJob, Job, Closed, NoInterval, Span, Closing, Unclosed, BeforeReleases, AfterReleases, Due, Never, Tick, Occurred, Stage}
+use Rattle.rules.specs.Types.{Bool, true, false, cond, not, _&&_, List, [], _∷_, ℕ, suc, _+_, _-_, min, Table, Jobs, MaybeTask, NoTask, Task, Processor, Idle, CopyingIn, Executing, Finished, CopyOut, NoCopyOut, CopyingOut, CopiedOut, CopyIn, Unchosen, NoneChosen, Copying, Loaded, Cancelled, Interval, Next, NoneNext, LoadedNext, PromotedNext, Outgoing, NoneOutgoing, AwaitsCopyOut, Phase, Between, Within, State, JobEntry, IntervalEntry, Done, NoJob, Job, Closed, NoInterval, Span, Closing, Unclosed, BeforeReleases, AfterReleases, Due, Never, Tick, Occurred, Stage}
 use lib.Dec.{eqb}
 use lib.ListN.{getD}
 use Rattle.sets.specs.Sets.{member, union, intersection, difference, insert, remove}

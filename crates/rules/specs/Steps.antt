@@ -4,9 +4,9 @@ use Rattle.rules.specs.Types.{Bool, List, ℕ, _-_, _^_, _≤_, _≡_, _
 use lib.Dec.{eqb}
 use lib.ListN.{replicate}
 use Rattle.rules.specs.Order.{outranks}
-use Rattle.rules.specs.Instant.{processor-at, copyin-at, step-a, resting, settled, blocks, promoted, processor-task, copyout-task, copyin-task, copyin-fate, next-of, awaiting-copyout, stamped, step-c, step-d, step-e, begin-processor, begin-copyout, begin, step-g, processor-due, copyout-due, copyin-due}
+use Rattle.rules.specs.Instant.{processor-at, copyin-at, step-a, resting, settled, blocks, promoted, processor-task, copyout-task, copyin-task, copyin-fate, without-promoted, next-of, awaiting-copyout, counted, stamped, step-c, step-d, step-e, begin-processor, begin-copyout, begin, step-g, processor-due, copyout-due, copyin-due}
 use Rattle.rules.specs.Calls.{opened}
-use Rattle.rules.specs.Apart.{as-task, as-processor, as-copyout, as-copyin, as-next, as-outgoing, copyin-in, interval-in, phase-in, whole, closed-with}
+use Rattle.rules.specs.Apart.{as-task, as-processor, as-copyout, as-copyin, as-next, as-outgoing, copyin-in, interval-in, phase-in, whole, closed-with, with-releases}
 
 -- ---- Order
 
@@ -41,10 +41,11 @@ Resting kind x = (n start until : ℕ) → x ≡ resting (as-processor kind n st
 abbrev pub Settled : ℕ → Bool → Type 0
 Settled kind x = (n until : ℕ) → x ≡ settled (as-copyin kind n until)
 
-abbrev pub Blocks : Registers → List ℕ → ℕ → Type 0
-Blocks r priority x =
+-- one more for each job that the interval blocks
+abbrev pub CountsBlocked : Registers → List ℕ → List ℕ → List ℕ → Type 0
+CountsBlocked r priority before after =
     (table : Table) (clock : Clock) (release blocked : List ℕ) → table .priority ≡ priority
-    → x ≡ blocks (whole table clock release blocked r) (interval-in r)
+    → after ≡ counted (blocks (whole table clock release blocked r) (interval-in r)) 0 before
 
 abbrev pub Promoted : Registers → List ℕ → ℕ → Type 0
 Promoted r priority x =
@@ -63,11 +64,14 @@ CopyInTask kind n x = (until : ℕ) → x ≡ copyin-task (as-copyin kind n unti
 abbrev pub CopyInFate : ℕ → ℕ → Type 0
 CopyInFate kind x = (n until : ℕ) → x ≡ copyin-fate (as-copyin kind n until)
 
-abbrev pub NextOf : ℕ → ℕ → ℕ → Unit → Type 0
-NextOf kind loaded p x = (until : ℕ) → as-next (x .kind) (x .task) ≡ next-of (as-copyin kind loaded until) (as-task p)
-
 abbrev pub AwaitingCopyOut : ℕ → ℕ → Type 0
 AwaitingCopyOut kind x = (n start until : ℕ) → as-outgoing x n start ≡ awaiting-copyout (as-processor kind n start until)
+
+abbrev pub BetweenWith : Registers → ℕ → ℕ → ℕ → Registers → Type 0
+BetweenWith r ready work n x =
+    (table : Table) (clock : Clock) (release blocked : List ℕ) (p : MaybeTask)
+    → ready ≡ without-promoted (r .ready) p → as-next work n ≡ next-of (copyin-in r) p
+    → whole table clock release blocked x ≡ closed-with (whole table clock release blocked r) (interval-in r) p
 
 abbrev pub ClosedTo : Registers → ℕ → Registers → Type 0
 ClosedTo r p x =
@@ -87,6 +91,13 @@ abbrev pub CancelledTo : Registers → ℕ → List ℕ → Registers → Type 0
 CancelledTo r new priority x =
     (table : Table) (clock : Clock) (release blocked : List ℕ) → table .priority ≡ priority
     → whole table clock release blocked x ≡ step-d (whole table clock release blocked r) new (phase-in r)
+
+-- ---- c and d
+
+abbrev pub Releases : Registers → ℕ → ℕ → List ℕ → List ℕ → List ℕ → Registers → List ℕ → List ℕ → Type 0
+Releases r t new priority release blocked x release-after blocked-after =
+    (table : Table) (clock : Clock) → table .priority ≡ priority
+    → whole table clock release-after blocked-after x ≡ with-releases (whole table clock release blocked r) t new
 
 -- ---- e
 

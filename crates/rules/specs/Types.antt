@@ -41,7 +41,7 @@ pub use Rattle.table.specs.declared.Refusal.{Refusal}
 pub use Rattle.table.specs.declared.Refusal.the-variants.{NoRefusal, Alone, AtEntry}
 pub use Rattle.table.specs.declared.Tasks.{Tasks}
 pub use mathlib.Core.Path.{_≡_, refl, sym, ap, _∙_, subst}
-pub use mathlib.Core.Bool.{Bool, true, false, cond, not, _&&_, _||_, true≢false, false≢true}
-pub use mathlib.Core.List.{List, [], _∷_, _++_, append-assoc}
-pub use mathlib.Core.Logic.{_⊎_, inl, inr, ⊎-elim, _↔_}
-pub use Prim.Native.Nat.{ℕ, zero, suc, _+_, _-_, _*_, _/_, _%_, _^_, _≤_, _<_, min}
+pub use mathlib.Core.Bool.{Bool, true, false, cond, not, _&&_, _||_}
+pub use mathlib.Core.List.{List, [], _∷_}
+pub use mathlib.Core.Logic.{_⊎_, inl, inr, ⊎-elim}
+pub use Prim.Native.Nat.{ℕ, zero, suc, _+_, _-_, _^_, _≤_, _<_, min}

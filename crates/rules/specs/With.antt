@@ -1,5 +1,5 @@
 -- The state with one part another, and times.
-use Rattle.rules.specs.Types.{ℕ, _+_, _-_, _^_, min, Table, Jobs, Clock, At, Interval, CopyIn, Phase, State}
+use Rattle.rules.specs.Types.{ℕ, _+_, _-_, _^_, min, Jobs, At, Interval, CopyIn, Phase, State}
 
 abbrev pub with-jobs : State → Jobs → State
 with-jobs d j = record { table = d .table; marked = d .marked; clock = d .clock; half = d .half; jobs = j; phase = d .phase }

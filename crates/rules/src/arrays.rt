@@ -1,6 +1,5 @@
 // Values by task number: 0 where there is no such task.
 ghost use mathlib.Core.Path.{_≡_};
-ghost use Prim.Native.Nat.{_+_, min};
 ghost use lib.ListN.{getD};
 ghost use Rattle.rules.specs.Instant as instant;
 
@@ -23,27 +22,6 @@ pub fn time_of(values: &[u64], n: u8) -> u64
 {
     let i = n as usize;
     if i < values.len() { values[i] } else { 0 }
-}
-
-// One more, held at 255.
-fn one_more(count: u8) -> u8
-    ensures { λ r. ⌜ r ≡ min (count + 1) 255 ⌝ }
-{
-    if count < 255 { count + 1 } else { 255 }
-}
-
-// One more for each task of a set.
-pub fn count(set: u32, counts: &mut [u8; 32])
-    ensures { λ _. ⌜ now (counts .exit) ≡ instant.counted set 0 (now (counts .entry)) ⌝ }
-{
-    let mut left = set;
-    while left != 0 {
-        let n = sets::lowest(left);
-        let i = n as usize;
-        let count = counts[i];
-        counts[i] = one_more(count);
-        left = sets::rest(left);
-    }
 }
 
 // For each task of a set, `t` as its time, and 0 as its count.

@@ -118,5 +118,5 @@ pub fn due_tick(r: Registers) -> u64
         copyout_tick(r.copyout, r.outuntil),
         copyin_tick(r.copyin, r.inuntil),
     );
-    least(processor_tick(r.processor, r.until), engine)
+    least(engine, processor_tick(r.processor, r.until))
 }

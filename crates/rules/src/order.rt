@@ -1,7 +1,9 @@
 // The order in which jobs go: by priority, where the smaller number is the higher priority.
 use crate::arrays::byte_of;
 ghost use mathlib.Core.Path.{_≡_};
-ghost use Prim.Native.Nat.{_<_};
+ghost use mathlib.Core.Bool.{cond};
+ghost use Prim.Native.Nat.{_+_, _<_, min};
+ghost use Rattle.rules.specs.Instant as instant;
 ghost use Rattle.rules.specs.Order as order;
 ghost use Rattle.rules.specs.Apart.{as-task};
 ghost use Rattle.rules.specs.Steps.{Outranks};
@@ -42,19 +44,27 @@ pub fn outranks(priority: &[u8; 32], by: u8, n: u8) -> bool
     false
 }
 
-// Of a set, the tasks with a higher priority than task `n`. The loop goes from member to member.
-pub fn higher_than(priority: &[u8; 32], n: u8, set: u32) -> u32
-    ensures { λ r. ⌜ r ≡ order.higher-than (now (priority .entry)) n set ⌝ }
+// Whether a count can rise: it is held at 255.
+fn can_rise(count: u8) -> bool
+    ensures { λ r. ⌜ min (count + 1) 255 ≡ cond r (count + 1) count ⌝ }
+{
+    count < 255
+}
+
+// One more, held at 255, for each task of a set that has a higher priority than task `n`. The loop goes from member to member.
+pub fn count_higher(priority: &[u8; 32], n: u8, set: u32, counts: &mut [u8; 32])
+    ensures { λ _. ⌜ now (counts .exit) ≡ instant.counted (order.higher-than (now (priority .entry)) n set) 0 (now (counts .entry)) ⌝ }
 {
     let limit = byte_of(priority, n);
     let mut left = set;
-    let mut found: u32 = 0;
     while left != 0 {
-        let k = sets::lowest(left);
-        if priority[k as usize] < limit {
-            found = sets::insert(found, k);
+        let i = sets::lowest(left) as usize;
+        if priority[i] < limit {
+            let count = counts[i];
+            if can_rise(count) {
+                counts[i] = count + 1;
+            }
         }
         left = sets::rest(left);
     }
-    found
 }

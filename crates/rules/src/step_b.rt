@@ -1,15 +1,14 @@
 // b and f. If an interval is open, its processor is finished or idle, its copy-in choice has been made and no copy is under way,
 // it ends.
 use crate::Registers;
-use crate::Unit;
+use crate::order::count_higher;
 use crate::order::first;
-use crate::order::higher_than;
 use entries::IntervalEntry;
 use entries::MaybeTask;
 ghost use mathlib.Core.Path.{_≡_};
 ghost use Rattle.rules.specs.Instant as instant;
 ghost use Rattle.rules.specs.Apart.{as-task, copyin-in, interval-in, phase-in, ends, entry-with};
-ghost use Rattle.rules.specs.Steps.{Resting, Settled, Blocks, Promoted, ProcessorTask, CopyOutTask, CopyInTask, CopyInFate, NextOf, AwaitingCopyOut, ClosedTo};
+ghost use Rattle.rules.specs.Steps.{Resting, Settled, CountsBlocked, Promoted, ProcessorTask, CopyOutTask, CopyInTask, CopyInFate, AwaitingCopyOut, BetweenWith, ClosedTo};
 
 fn resting(kind: u8) -> bool
     ensures { λ x. ⌜ Resting kind x ⌝ }
@@ -56,14 +55,13 @@ fn waiting(r: Registers) -> u32
     r.ready
 }
 
-// The jobs that the interval blocks: the processor executes a lower-priority one in it.
-pub fn blocks(r: Registers, priority: &[u8; 32]) -> u32
-    ensures { λ x. ⌜ Blocks r (now (priority .entry)) x ⌝ }
+// One more blocked interval for each job that the interval blocks: the processor executes a lower-priority one in it.
+pub fn count_blocked(r: Registers, priority: &[u8; 32], blocked: &mut [u8; 32])
+    ensures { λ _. ⌜ CountsBlocked r (now (priority .entry)) (now (blocked .entry)) (now (blocked .exit)) ⌝ }
 {
-    if r.processor == 0 {
-        return 0;
+    if r.processor != 0 {
+        count_higher(priority, r.task, waiting(r), blocked);
     }
-    higher_than(priority, r.task, waiting(r))
 }
 
 // R4: where the copy-in was cancelled or none was chosen, the highest-priority marked job released in the interval and ready is
@@ -126,11 +124,11 @@ fn copyin_task(kind: u8, n: u8) -> MaybeTask
 fn copyin_fate(kind: u8) -> u8
     ensures { λ x. ⌜ CopyInFate kind x ⌝ }
 {
-    if kind < 3 {
-        return 0;
-    }
     if kind == 3 {
         return 1;
+    }
+    if kind < 3 {
+        return 0;
     }
     2
 }
@@ -151,43 +149,6 @@ pub fn interval_entry(r: Registers, t: u64, promoted: u8) -> IntervalEntry
     }
 }
 
-fn without_promoted(ready: u32, promoted: u8) -> u32
-    ensures { λ x. ⌜ x ≡ instant.without-promoted ready (as-task promoted) ⌝ }
-{
-    if promoted < 32 {
-        return sets::remove(ready, promoted);
-    }
-    ready
-}
-
-// R5: the next interval executes the promoted job, else the loaded one, else none: its work is the kind.
-fn next_of(kind: u8, loaded: u8, promoted: u8) -> Unit
-    ensures { λ x. ⌜ NextOf kind loaded promoted x ⌝ }
-{
-    if promoted < 32 {
-        return Unit {
-            start: 0,
-            until: 0,
-            kind: 2,
-            task: promoted,
-        };
-    }
-    if kind == 3 {
-        return Unit {
-            start: 0,
-            until: 0,
-            kind: 1,
-            task: loaded,
-        };
-    }
-    Unit {
-        start: 0,
-        until: 0,
-        kind: 0,
-        task: loaded,
-    }
-}
-
 // R2: the job that was executed is copied out in the next interval.
 fn awaiting_copyout(kind: u8) -> u8
     ensures { λ x. ⌜ AwaitingCopyOut kind x ⌝ }
@@ -198,19 +159,32 @@ fn awaiting_copyout(kind: u8) -> u8
     1
 }
 
-// The interval ends, where the blocked intervals are counted already.
-pub fn close(r: Registers, promoted: u8) -> Registers
-    ensures { λ x. ⌜ ClosedTo r promoted x ⌝ }
+// No interval is open any more: with the jobs that are ready, and the work and the task of the next interval.
+fn between(r: Registers, ready: u32, work: u8, task: u8) -> Registers
+    ensures { λ x. ⌜ BetweenWith r ready work task x ⌝ }
 {
-    let next = next_of(r.copyin, r.intask, promoted);
     Registers {
-        ready: without_promoted(r.ready, promoted),
-        work: next.kind,
-        task: next.task,
+        ready,
+        work,
+        task,
         copyout: awaiting_copyout(r.processor),
         outtask: r.task,
         outstart: r.start,
         copyin: 5,
         ..r
     }
+}
+
+// The interval ends, where the blocked intervals are counted already. R5: the next one executes the promoted job, else the loaded one, else
+// none.
+pub fn close(r: Registers, promoted: u8) -> Registers
+    ensures { λ x. ⌜ ClosedTo r promoted x ⌝ }
+{
+    if promoted < 32 {
+        return between(r, sets::remove(r.ready, promoted), 2, promoted);
+    }
+    if r.copyin == 3 {
+        return between(r, r.ready, 1, r.intask);
+    }
+    between(r, r.ready, 0, r.intask)
 }

@@ -1,11 +1,13 @@
 // d. If a marked release was taken whose priority is higher than that of a copy-in under way on the engine, this copy-in is
 // cancelled and its job is ready again (R3).
 use crate::Registers;
+use crate::arrays::stamp;
 use crate::order::first;
 use crate::order::outranks;
-ghost use Rattle.rules.specs.Steps.{CancelledTo};
+use crate::step_c::taken;
+ghost use Rattle.rules.specs.Steps.{CancelledTo, Releases};
 
-pub fn cancelled(r: Registers, new: u32, priority: &[u8; 32]) -> Registers
+fn cancelled(r: Registers, new: u32, priority: &[u8; 32]) -> Registers
     ensures { λ x. ⌜ CancelledTo r new (now (priority .entry)) x ⌝ }
 {
     if r.copyin != 2 {
@@ -20,4 +22,22 @@ pub fn cancelled(r: Registers, new: u32, priority: &[u8; 32]) -> Registers
         };
     }
     r
+}
+
+// Steps c and d, with the tasks whose release is taken. Most instants of a run have no release, and then nothing changes.
+pub fn released(
+    r: Registers,
+    t: u64,
+    new: u32,
+    priority: &[u8; 32],
+    release: &mut [u64; 32],
+    blocked: &mut [u8; 32],
+) -> Registers
+    ensures { λ x. ⌜ Releases r t new (now (priority .entry)) (now (release .entry)) (now (blocked .entry)) x (now (release .exit)) (now (blocked .exit)) ⌝ }
+{
+    if new == 0 {
+        return r;
+    }
+    stamp(new, t, release, blocked);
+    cancelled(taken(r, new), new, priority)
 }

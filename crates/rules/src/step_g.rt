@@ -14,13 +14,13 @@ ghost use Rattle.rules.specs.Steps.{BeginProcessor, BeginCopyOut, BeginA
 fn wanted(r: Registers) -> bool
     ensures { λ x. ⌜ x ≡ instant.wanted (as-next (r .work) (r .task)) (as-outgoing (r .copyout) (r .outtask) (r .outstart)) (r .ready) ⌝ }
 {
-    if r.work != 0 {
+    if r.ready != 0 {
         return true;
     }
     if r.copyout != 0 {
         return true;
     }
-    r.ready != 0
+    r.work != 0
 }
 
 // R5: the processor copies in and then executes the promoted job; else it executes the loaded one; else it idles.
@@ -78,11 +78,8 @@ fn begin_copyout(kind: u8, n: u8, t: u64, copyout: &[u32; 32]) -> Unit
 fn work_of(work: u8) -> u8
     ensures { λ x. ⌜ ((n : ℕ) → x ≡ instant.work-of (as-next work n)) ⌝ }
 {
-    if work == 0 {
-        return 0;
-    }
-    if work == 1 {
-        return 1;
+    if work < 2 {
+        return work;
     }
     2
 }

@@ -339,6 +339,17 @@ module _ (n s k : ℕ) (l : k < 32) where
   unfolding remove
   removed = collected (λ k. not (eqb k n) && member k s) k l
 
+-- with the empty set
+pub union-none : (s : ℕ) → s < 2 ^ 32 → union s 0 ≡ s
+union-none s l = ext 32 (union s 0) s (union-small s 0) l (λ k m. united s 0 k m ∙ rw (none k) (or-false (member k s)))
+  where
+    or-false : (b : Bool) → (b || false) ≡ b
+    or-false true = refl
+    or-false false = refl
+
+pub intersection-none : (t : ℕ) → intersection 0 t ≡ 0
+intersection-none t = empty (intersection 0 t) (intersection-small 0 t) (λ k m. intersection-member 0 t k m ∙ rw (none k))
+
 pub same-task : (n : ℕ) → eqb n n ≡ true
 same-task n = eq-eqb n n refl
 
@@ -414,9 +425,6 @@ lowest-task s l h =
     by-test (ltb (lowest s) 32)
     (λ e. ltb-true (lowest s) 32 e)
     (λ e. absurd (h (empty s l (λ k m. lowest-first s k (lt-of-lt-of-le m (ltb-false (lowest s) 32 e))))))
-
-pub lowest-some : (s : ℕ) → lowest s < 32 → s ≡ 0 → ⊥
-lowest-some s l e = clash (member (lowest s) s) (lowest-member s l) (rw e (none (lowest 0)))
 
 pub lowest-none : lowest 0 ≡ 32
 unfolding lowest lowestIn member

@@ -1,6 +1,6 @@
 -- `tasks-from` by cases, one law for each way that a turn of the reading goes, and the search for a priority given before. Assumes nothing.
 use mathlib.Core.Path.{_≡_, refl, sym, ap, _∙_}
-use mathlib.Core.Bool.{Bool, true, false, cond, _&&_, _||_, false≢true}
+use mathlib.Core.Bool.{Bool, true, false, _&&_, _||_}
 use mathlib.Core.List.{List}
 use Prim.Native.Nat.{ℕ, zero, suc, _+_, _-_, _^_, _≤_, _<_}
 use native.Mathlib.Nat.{not-suc-le-zero}
@@ -12,7 +12,7 @@ use Rattle.sets.specs.Sets.{member, remove}
 use Rattle.sets.specs.Laws.{by-test, clash, none, both, either-left, either-right, remove-in, remove-out, remove-small}
 use Rattle.words.specs.Words.{numberAt}
 use Rattle.entries.specs.Entries.{entry-at, release-at}
-use Rattle.table.specs.Types.{TaskParameters, Release, Entry, Malformed, TaskEntry, ReleaseEntry, Table, Tasks}
+use Rattle.table.specs.Types.{TaskParameters, Release, Malformed, TaskEntry, ReleaseEntry, Table, Tasks}
 use Rattle.table.specs.Tasks.{behind-tasks, given, number-refused, mark-or-length-refusal, task-refusal, with-task, with-marked, refused-at, read-to, tasks-from, tasks-of}
 
 -- ---- a turn of the reading

@@ -1,14 +1,14 @@
 -- The task entries at the start of an input, checked entry by entry: 2, 1, then 4, 5, 6, 7. Reading ends at the input's end or at
 -- the first entry of kind 2, a release.
 use mathlib.Core.Bool.{Bool, true, false, cond, _&&_, _||_}
-use mathlib.Core.List.{List, [], _∷_}
+use mathlib.Core.List.{List}
 use Prim.Native.Nat.{ℕ, zero, suc, _+_}
 use lib.Dec.{eqb, ltb, leb}
 use lib.ListN.{length, getD, set, replicate}
 use Rattle.sets.specs.Sets.{member, insert}
 use Rattle.words.specs.Words.{numberAt}
 use Rattle.entries.specs.Entries.{entry-at}
-use Rattle.table.specs.Types.{TaskParameters, Release, Entry, Malformed, TaskEntry, ReleaseEntry, Table, Refusal, NoRefusal, AtEntry, Tasks}
+use Rattle.table.specs.Types.{TaskParameters, Malformed, TaskEntry, ReleaseEntry, Table, NoRefusal, AtEntry, Tasks}
 
 -- the table with no task
 abbrev pub no-table : Table

@@ -1,6 +1,6 @@
 -- The laws of numbers in bytes, over the width: lengths, bounds, the round trip, and how a number is made of its parts.
 use mathlib.Core.Path.{_≡_, refl, sym, ap, ap₂, _∙_}
-use mathlib.Core.Bool.{Bool, true, false, cond}
+use mathlib.Core.Bool.{Bool, true, false}
 use mathlib.Core.List.{List, [], _∷_, _++_, append-nil}
 use Prim.Native.Nat.{ℕ, zero, suc, _+_, _-_, _*_, _/_, _%_, _^_, _≤_, _<_}
 use native.Mathlib.Nat.{add-zero, add-suc, add-assoc, mul-zero, mul-assoc, mul-add, one-le-pow, le-trans, le-of-eq, le-add-right}
@@ -8,7 +8,7 @@ use native.Mathlib.Omega.{arith}
 use borrow.Author.Tests.{leb-true, leb-false, le-leb, lt-leb}
 use lib.Dec.{leb}
 use lib.Pow.{pow-add}
-use lib.ListN.{length, getD, take, drop, length-append, length-drop, drop-of-length-le, List·getD-eq-default}
+use lib.ListN.{length, getD, take, drop, length-drop, drop-of-length-le, List·getD-eq-default}
 use lib.Seq.{getD-append-add, getD-drop, take-all, sets, sets-eq}
 use Rattle.words.specs.Words.{bytesOf, numberAt, room, written, LeftAt}
 
@@ -99,14 +99,6 @@ left-more s at next v b e l f m h (suc w) r =
     (omega (arith, first-byte w s at, ap (numberAt w s) e, k .0), omega (arith, k .1))
 
 -- ---- writing into the front
-
-pub length-written : (w v : ℕ) (s : List ℕ) → length (written w v s) ≡ length s
-unfolding written
-length-written w v s = go (leb w (length s)) refl
-  where
-    go : (b : Bool) → leb w (length s) ≡ b → length (cond b (bytesOf w v ++ drop w s) s) ≡ length s
-    go true e = omega (arith, length-append (bytesOf w v) (drop w s), length-bytes w v, length-drop w s, leb-true w (length s) e)
-    go false e = refl
 
 pub written-whole : (w v : ℕ) (s : List ℕ) → w ≤ length s → written w v s ≡ bytesOf w v ++ drop w s
 unfolding written

@@ -1,56 +1,110 @@
--- `entries::entry_at` meets its contract: by the tests on the way to each answer. Assumes nothing.
-use borrow.Author.Tests.{eq-eqb, ne-eqb, le-leb, lt-leb}
-use Rattle.entries.specs.Entries.{entry-at}
+-- `entries::entry_at` meets its contract: the entry at a place is the one at the front of the rest from there, and that one by the tests on the
+-- way to each answer. Assumes nothing.
+use mathlib.Core.Path.{_≡_, sym, ap, _∙_}
+use mathlib.Core.List.{List}
+use Prim.Native.Nat.{ℕ, _-_, _≤_, _<_}
+use native.Mathlib.Nat.{add-zero}
+use native.Mathlib.Omega.{arith}
+use borrow.Author.Tests.{ne-eqb, le-leb, lt-leb}
 use borrow.Author.Needs.{needs}
+use lib.ListN.{length, take, drop}
+use Rattle.words.specs.Words.{numberAt}
+use Rattle.words.specs.Laws.{past, read-in-rest}
+use Rattle.entries.specs.Types.{TaskParameters, Release, Malformed, TaskEntry, ReleaseEntry}
+use Rattle.entries.specs.Entries.{entry-at, task-at, release-at}
 use Rattle.entries.proofs.entry_at.Statement.{statement}
 use Rattle.entries.proofs.entry_at.Tie as tie
+
+-- the entry at a place, by what is read in the rest from there
+module _ (s : List ℕ) (at : ℕ) where
+  abbrev rest : List ℕ
+  rest = take (length s - at) (drop at s)
+
+  kind-is : (k : ℕ) → numberAt 1 rest 0 ≡ k → numberAt 1 s at ≡ k
+  kind-is k e = sym (read-in-rest 1 at 0 s ∙ ap (numberAt 1 s) (add-zero at)) ∙ e
+
+  task-is : task-at rest 0 ≡ task-at s at
+  unfolding task-at
+  task-is = rw (read-in-rest 1 at 1 s, read-in-rest 1 at 2 s, read-in-rest 1 at 3 s, read-in-rest 4 at 4 s, read-in-rest 4 at 8 s, read-in-rest 4 at 12 s)
+
+  release-is : release-at rest 0 ≡ release-at s at
+  unfolding release-at
+  release-is = rw (read-in-rest 1 at 1 s, read-in-rest 8 at 2 s)
+
+  module _ (k : ℕ) (read : k ≡ numberAt 1 rest 0) where
+    a-task : (p : TaskParameters) → k ≡ 1 → 16 ≤ length s - at → p ≡ task-at rest 0 → TaskEntry p ≡ entry-at s at
+    unfolding entry-at
+    a-task p e l f = rw (kind-is 1 (sym read ∙ e), le-leb 16 (length s - at) l) (ap TaskEntry (f ∙ task-is))
+
+    cut-task : k ≡ 1 → length s - at < 16 → Malformed 1 ≡ entry-at s at
+    unfolding entry-at
+    cut-task e l = rw (kind-is 1 (sym read ∙ e), lt-leb 16 (length s - at) l)
+
+    a-release : (r : Release) → k ≡ 2 → 10 ≤ length s - at → r ≡ release-at rest 0 → ReleaseEntry r ≡ entry-at s at
+    unfolding entry-at
+    a-release r e l f = rw (kind-is 2 (sym read ∙ e), le-leb 10 (length s - at) l) (ap ReleaseEntry (f ∙ release-is))
+
+    cut-release : k ≡ 2 → length s - at < 10 → Malformed 1 ≡ entry-at s at
+    unfolding entry-at
+    cut-release e l = rw (kind-is 2 (sym read ∙ e), lt-leb 10 (length s - at) l)
+
+    no-kind : (k ≡ 1 → ⊥) → (k ≡ 2 → ⊥) → Malformed 2 ≡ entry-at s at
+    unfolding entry-at
+    no-kind a b = rw (ne-eqb (numberAt 1 s at) 1 (λ e. a (sym (kind-is k (sym read)) ∙ e)), ne-eqb (numberAt 1 s at) 2 (λ e. b (sym (kind-is k (sym read)) ∙ e)))
+
+behind-the-end : (s : List ℕ) (at : ℕ) → length s < at → Malformed 2 ≡ entry-at s at
+unfolding entry-at
+behind-the-end s at l = rw (past 1 s at (omega arith))
+
+returns : tie.Need-returns
+returns c = let a = c .before .before .args in behind-the-end (a .s .now) (a .at) (omega (arith, c .if1 .taken))
+
+sub-rest : tie.Need-sub-rest
+sub-rest c = search needs
+
+part-rest-start : tie.Need-part-rest-start
+part-rest-start c = search needs
+
+part-rest-end : tie.Need-part-rest-end
+part-rest-end c = search needs
 
 get-u8-requires : tie.Need-get-u8-requires
 get-u8-requires c κs = search needs
 
-left-requires : tie.Need-left-requires
-left-requires c κs = search needs
-
-task-at-requires : tie.Need-task-at-requires
-task-at-requires c κs = search needs
-
-returns : tie.Need-returns
-unfolding entry-at
-returns c = simp (← c .before .before .before .before .get-u8 .ensures, eq-eqb _ _ (c .before .before .before .if1 .taken), ← c .before .before .left .ensures, le-leb _ _ (c .before .if2 .taken), c .task-at .ensures)
+front-task-requires : tie.Need-front-task-requires
+front-task-requires c κs = search needs
 
 returns-2 : tie.Need-returns-2
-unfolding entry-at
-returns-2 c = simp (← c .before .before .before .get-u8 .ensures, eq-eqb _ _ (c .before .before .if1 .taken), ← c .before .left .ensures, lt-leb _ _ (c .if2 .left))
-
-left-requires-2 : tie.Need-left-requires-2
-left-requires-2 c κs = search needs
-
-release-at-requires : tie.Need-release-at-requires
-release-at-requires c κs = search needs
+returns-2 c = let a = c .before .before .before .before .before .before .before .args in a-task (a .s .now) (a .at) _ (c .before .before .before .get-u8 .ensures) _ (c .before .before .if2 .taken) (omega (arith, c .before .if3 .taken)) (c .front-task .ensures)
 
 returns-3 : tie.Need-returns-3
-unfolding entry-at
-returns-3 c = simp (← c .before .before .before .before .before .get-u8 .ensures, ne-eqb _ _ (c .before .before .before .before .if1 .left), eq-eqb _ _ (c .before .before .before .if3 .taken), ← c .before .before .left2 .ensures, le-leb _ _ (c .before .if4 .taken), c .release-at .ensures)
+returns-3 c = let a = c .before .before .before .before .before .before .args in cut-task (a .s .now) (a .at) _ (c .before .before .get-u8 .ensures) (c .before .if2 .taken) (omega (arith, c .if3 .left))
+
+front-release-requires : tie.Need-front-release-requires
+front-release-requires c κs = search needs
 
 returns-4 : tie.Need-returns-4
-unfolding entry-at
-returns-4 c = simp (← c .before .before .before .before .get-u8 .ensures, ne-eqb _ _ (c .before .before .before .if1 .left), eq-eqb _ _ (c .before .before .if3 .taken), ← c .before .left2 .ensures, lt-leb _ _ (c .if4 .left))
+returns-4 c = let a = c .before .before .before .before .before .before .before .before .args in a-release (a .s .now) (a .at) _ (c .before .before .before .before .get-u8 .ensures) _ (c .before .before .if4 .taken) (omega (arith, c .before .if5 .taken)) (c .front-release .ensures)
 
 returns-5 : tie.Need-returns-5
-unfolding entry-at
-returns-5 c = simp (← c .before .before .get-u8 .ensures, ne-eqb _ _ (c .before .if1 .left), ne-eqb _ _ (c .if3 .left))
+returns-5 c = let a = c .before .before .before .before .before .before .before .args in cut-release (a .s .now) (a .at) _ (c .before .before .before .get-u8 .ensures) (c .before .if4 .taken) (omega (arith, c .if5 .left))
+
+returns-6 : tie.Need-returns-6
+returns-6 c = let a = c .before .before .before .before .before .before .args in no-kind (a .s .now) (a .at) _ (c .before .before .get-u8 .ensures) (c .before .if2 .left) (c .if4 .left)
 
 pub entry-at-spec : {M : Type 1} → statement M
 entry-at-spec =
     tie.close
     (tie.spec
-    get-u8-requires
-    left-requires
-    task-at-requires
     returns
+    sub-rest
+    part-rest-start
+    part-rest-end
+    get-u8-requires
+    front-task-requires
     returns-2
-    left-requires-2
-    release-at-requires
     returns-3
+    front-release-requires
     returns-4
-    returns-5)
+    returns-5
+    returns-6)

@@ -1,9 +1,8 @@
 -- `entries::put_interval` meets its contract: field by field, from the front. Assumes nothing.
 use mathlib.Core.Path.{refl}
 use mathlib.Core.List.{[], _∷_, _++_}
-use lib.ListN.{length}
 use Rattle.words.specs.Words.{bytesOf}
-use Rattle.entries.proofs.Laws.{Front, next, fits, too-long}
+use Rattle.entries.proofs.Laws.{next, fits, too-long}
 use Rattle.entries.specs.Entries.{interval-bytes, choice-bytes}
 use borrow.Author.Needs.{needs}
 use Rattle.entries.proofs.put_interval.Statement.{statement}

@@ -1,8 +1,7 @@
 -- `guarantees::open` meets its contract: opening, with demand 3. Assumes nothing.
-use mathlib.Core.Path.{_≡_, sym, ap, _∙_, subst}
+use mathlib.Core.Path.{sym, ap, _∙_, subst}
 use borrow.Author.Needs.{needs}
-use Rattle.rules.specs.Calls.{opening}
-use Rattle.guarantees.specs.Types.{State, Refusal, Opening}
+use Rattle.guarantees.specs.Types.{State, Opening}
 use Rattle.guarantees.specs.Claim.{Claim}
 use Rattle.guarantees.proofs.Demand3.{demand-3}
 use Rattle.guarantees.specs.Claim

@@ -11,7 +11,7 @@ use mir.Syntax.{Name, Sym, Ty, mut, tyInt, tyRef, tyNamed, tyStruct, tcons, tnil
 use mir.Raw.{raw as rawTy}
 use mir.Val.{Val, WT, hasTy, vint, vptr, vstruct, ofList}
 use lib.Dec.{T as Holds}
-use base.Logic.{SProp, ent, sep, emp, via, fst∗, snd∗, exE, id⊢, guardI}
+use base.Logic.{SProp, ent, emp, via, fst∗, snd∗, exE, id⊢, guardI}
 use base.Fml.{GName, Lft, Share, ftrue, fat, froom, fdies, flft, fobs, fauth, fbor, fobor}
 use prog.Memory.{Memory}
 use prog.Routine.{Routine}

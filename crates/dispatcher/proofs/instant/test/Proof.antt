@@ -44,11 +44,8 @@ over-requires c κs = search needs
 promoted-requires : tie.Need-promoted-requires
 promoted-requires c κs = search needs
 
-blocks-requires : tie.Need-blocks-requires
-blocks-requires c κs = search needs
-
-count-requires : tie.Need-count-requires
-count-requires c κs = search needs
+count-blocked-requires : tie.Need-count-blocked-requires
+count-blocked-requires c κs = search needs
 
 close-requires : tie.Need-close-requires
 close-requires c κs = search needs
@@ -59,7 +56,7 @@ interval-entry-requires c κs = search needs
 returns : tie.Need-returns
 unfolding whole interval-in
 returns c table clock release s p e n =
-    let w = c .before .before .before .before .before in
+    let w = c .before .before .before .before in
     let a = w .before .before .before .args in
     let r = a .r in
     let i = interval-in r in
@@ -67,9 +64,9 @@ returns c table clock release s p e n =
     let h = sym (w .before .if1 .taken) ∙ w .before .before .over .ensures in
     let b = ap (step-b s (a .t)) (is-open r h) ∙ closes s (a .t) i (is-over r h) in
     let q = w .promoted .ensures table clock release (a .blocked .now) p in
-    let f = c .before .before .count .ensures ∙ ap (λ x. counted x 0 (a .blocked .now)) (c .before .before .before .before .blocks2 .ensures table clock release (a .blocked .now) p) in
+    let f = c .before .before .count-blocked .ensures table clock release (a .blocked .now) p in
     record {
-      state = c .before .close .ensures table clock release (c .before .before .count .last .1 .0) ∙ counted-first d (a .t) i q f ∙ sym (ap (λ x. x .state) b ∙ ap (λ x. close x (a .t) i) e);
+      state = c .before .close .ensures table clock release (c .before .before .count-blocked .last .1 .1 .0) ∙ counted-first d (a .t) i q f ∙ sym (ap (λ x. x .state) b ∙ ap (λ x. close x (a .t) i) e);
       closed = ap Span (c .interval-entry .ensures ∙ entry-is d (a .t) i q) ∙ sym (ap (λ x. x .closed) b ∙ ap (λ x. Span (interval-entry x (a .t) i)) e);
     }
 
@@ -88,8 +85,7 @@ test-spec =
     (tie.spec
     over-requires
     promoted-requires
-    blocks-requires
-    count-requires
+    count-blocked-requires
     close-requires
     interval-entry-requires
     returns

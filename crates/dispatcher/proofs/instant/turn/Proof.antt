@@ -1,10 +1,10 @@
 -- `dispatcher::instant::turn` meets its contract: the steps, one behind the other. Assumes nothing.
 use Rattle.dispatcher.specs.Types.{At, NoInterval, refl}
-use mathlib.Core.Path.{sym, ap, ap₂, _∙_}
+use mathlib.Core.Path.{sym, ap, _∙_}
 use borrow.Author.Needs.{needs}
 use Rattle.rules.specs.Instant.{taken, step-b, at-a, at-b}
 use Rattle.rules.specs.Apart.{whole, phase-in}
-use Rattle.rules.proofs.Turning.{Steps, none-closed, keeps-done, is-g, is-occurred}
+use Rattle.rules.proofs.Turning.{chosen-after, Steps, none-closed, keeps-done, is-g, is-occurred}
 use Rattle.dispatcher.proofs.instant.turn.Statement.{statement}
 use Rattle.dispatcher.proofs.instant.turn.Tie as tie
 
@@ -23,11 +23,11 @@ difference-requires c κs = search needs
 intersection-requires : tie.Need-intersection-requires
 intersection-requires c κs = search needs
 
-stamp-requires : tie.Need-stamp-requires
-stamp-requires c κs = search needs
-
 released-requires : tie.Need-released-requires
 released-requires c κs = search needs
+
+chosen-requires : tie.Need-chosen-requires
+chosen-requires c κs = search needs
 
 test-requires-2 : tie.Need-test-requires-2
 test-requires-2 c κs = search needs
@@ -49,9 +49,9 @@ unfolding whole taken at-a at-b
 returns c table clock p q e o =
     let begun = c .before .before in
     let second = begun .before .before .before in
-    let releases = second .before .before in
-    let stamps = releases .before in
-    let skips = stamps .before .before .before in
+    let chooses = second .before .before in
+    let releases = chooses .before in
+    let skips = releases .before .before .before in
     let first = skips .before .before .before in
     let ends = first .before .before in
     let s = ends .before .before .before .before .args in
@@ -59,14 +59,14 @@ returns c table clock p q e o =
     let release = s .release .now in
     let d = whole table clock release (s .blocked .now) (s .r) in
     let blocked-b = first .test .last .1 .1 .1 .0 in
-    let release-c = stamps .stamp .last .1 .1 .0 in
-    let blocked-c = stamps .stamp .last .1 .1 .1 .0 in
+    let release-c = releases .released .last .1 .1 .1 .1 .0 in
+    let blocked-c = releases .released .last .1 .1 .1 .1 .1 .0 in
     let blocked-f = second .test2 .last .1 .1 .1 .0 in
     let ended = ends .ended .ensures table (At t) release (s .blocked .now) e in
     let a = at-a d t in
     let tested-b = first .test .ensures table (At t) release a p (sym ended) (none-closed (whole table (At t) release (s .blocked .now) (s .r)) t (phase-in (s .r))) in
     let b = whole table (At t) release blocked-b (first .test .result .registers) in
-    let x = whole table (At t) release-c blocked-c (releases .released .result) in
+    let x = whole table (At t) release-c blocked-c (chooses .chosen .result) in
     let done = at-b d t .done in
     let tested-f = second .test2 .ensures table (At t) release-c (record { state = x; done = done; closed = NoInterval }) p refl refl in
     let g = begun .begun .ensures table (At t) release-c blocked-f p q e o in
@@ -74,8 +74,8 @@ returns c table clock p q e o =
     (whole table (At t) release-c blocked-f (second .test2 .result .registers)) (whole table (At t) release-c blocked-f (begun .begun .result)) = record {
       b-is = tested-b .state ∙ ap (λ y. step-b a t (y .phase) .state) ended;
       new-is = skips .before .difference .ensures;
-      e-is = ap₂ (λ y z. whole table (At t) y z (releases .released .result)) (stamps .stamp .ensures .0) (stamps .stamp .ensures .1)
-          ∙ releases .released .ensures table (At t) release blocked-b p q;
+      e-is = chosen-after b t (skips .before .difference .result)
+          (releases .released .ensures table (At t) p) (chooses .chosen .ensures table (At t) release-c blocked-c p q);
       f-is = tested-f .state;
       held-is = begun .before .held-over .ensures;
       g-is = g;
@@ -100,8 +100,8 @@ turn-spec =
     test-requires
     difference-requires
     intersection-requires
-    stamp-requires
     released-requires
+    chosen-requires
     test-requires-2
     held-over-requires
     begun-requires

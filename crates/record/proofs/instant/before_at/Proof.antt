@@ -34,18 +34,15 @@ over-requires c κs = search needs
 promoted-requires : tie.Need-promoted-requires
 promoted-requires c κs = search needs
 
-blocks-requires : tie.Need-blocks-requires
-blocks-requires c κs = search needs
-
-count-requires : tie.Need-count-requires
-count-requires c κs = search needs
+count-blocked-requires : tie.Need-count-blocked-requires
+count-blocked-requires c κs = search needs
 
 interval-entry-requires : tie.Need-interval-entry-requires
 interval-entry-requires c κs = search needs
 
 interval-at-requires : tie.Need-interval-at-requires
 interval-at-requires c κs =
-    let test = c .before .before .before .before .before .before in
+    let test = c .before .before .before .before .before in
     let ends = test .before .before in
     let put = ends .before .before .before in
     let m = put .before .before in
@@ -64,14 +61,14 @@ close-requires : tie.Need-close-requires
 close-requires c κs = search needs
 
 same-length : tie.Need-same-length
-same-length c = c .before .before .out2 .given ∙ c .before .before .before .before .before .before .before .before .before .before .before .before .before .before .out .given
+same-length c = c .before .before .out2 .given ∙ c .before .before .before .before .before .before .before .before .before .before .before .before .before .out .given
 
 returns : tie.Need-returns
 returns c =
     let q = c .before .before .before in
     let n = q .before .before .before in
     let k = n .before .before in
-    let test = k .before .before in
+    let test = k .before in
     let ends = test .before .before in
     let put = ends .before .before .before in
     let m = put .before .before in
@@ -81,15 +78,14 @@ returns c =
     let release = s .release .now in
     let blocked = s .blocked .now in
     let table = table-in (s .present) (s .priority .now) (s .copyin .now) (s .execution .now) (s .copyout .now) in
-    let after = n .count .last .1 .0 in
+    let after = n .count-blocked .last .1 .1 .0 in
     before-closes table t release blocked (s .r) (m .completed .result) (m .completed .ensures table (At t))
     (ends .ended .result) (ends .ended .ensures table (At t) release blocked refl)
     (s .at) (put .done-at .result) (s .out .now) (put .done-at .last .0) (put .done-at .ensures)
     (sym (test .before .over .ensures) ∙ test .if1 .taken)
-    (k .before .promoted .result) (k .blocks2 .result) after (c .close .result) (q .before .interval-entry .result)
-    (k .before .promoted .ensures table (At t) release blocked refl)
-    (k .blocks2 .ensures table (At t) release blocked refl)
-    (n .count .ensures)
+    (k .promoted .result) after (c .close .result) (q .before .interval-entry .result)
+    (k .promoted .ensures table (At t) release blocked refl)
+    (n .count-blocked .ensures table (At t) release blocked refl)
     (c .close .ensures table (At t) release after)
     (q .before .interval-entry .ensures)
     (q .interval-at .result) (q .interval-at .last .0) (fits (s .at) _ _ (w .pre)) (q .interval-at .ensures)
@@ -122,8 +118,7 @@ before-at-spec =
     ended-requires
     over-requires
     promoted-requires
-    blocks-requires
-    count-requires
+    count-blocked-requires
     interval-entry-requires
     interval-at-requires
     close-requires

@@ -1,9 +1,9 @@
 -- `record::instant::instant_at` meets its contract: steps a and b, the skipped releases, steps c to f, and step g. Assumes nothing.
-use mathlib.Core.Path.{refl, sym, ap, _∙_}
+use mathlib.Core.Path.{refl, _∙_}
 use mathlib.Core.List.{_++_}
 use native.Mathlib.Omega.{arith}
 use Rattle.rules.specs.Instant.{at-b}
-use Rattle.rules.specs.Apart.{whole, phase-in}
+use Rattle.rules.specs.Apart.{whole}
 use Rattle.record.specs.Types.{At}
 use Rattle.record.specs.Run.{skips-bytes}
 use Rattle.record.specs.Moments.{table-in, state-in, stage-bytes, span-bytes, closes}

@@ -1,6 +1,5 @@
 -- `record::done_at` meets its contract: by whether a job is done. Assumes nothing.
 use mathlib.Core.Path.{ap}
-use Prim.Native.Nat.{ℕ}
 use native.Mathlib.Omega.{arith}
 use lib.ListN.{length}
 use Rattle.record.specs.Types.{Done}

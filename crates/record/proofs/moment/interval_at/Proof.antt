@@ -1,7 +1,7 @@
 -- `record::interval_at` meets its contract: the entry is written into the rest of the slice. Assumes nothing.
 use native.Mathlib.Omega.{arith}
 use Rattle.entries.specs.Entries.{interval-bytes}
-use Rattle.record.proofs.Writing.{put-laid, interval-size}
+use Rattle.record.proofs.Writing.{put-whole, interval-size}
 use borrow.Author.Needs.{needs}
 use Rattle.record.proofs.moment.interval_at.Statement.{statement}
 use Rattle.record.proofs.moment.interval_at.Tie as tie
@@ -19,13 +19,13 @@ put-interval-requires : tie.Need-put-interval-requires
 put-interval-requires c κs = search needs
 
 add-result : tie.Need-add-result
-add-result c = let a = c .before .before .before .before .before .args in omega (arith, interval-size (a .e), put-laid (interval-bytes (a .e)) (a .at) (a .out .now) (c .before .before .put-interval .result) (c .before .before .put-interval .last .0) (omega (arith, interval-size (a .e))) (c .before .before .put-interval .ensures) .place-is)
+add-result c = search needs
 
 same-length : tie.Need-same-length
 same-length c = search needs
 
 returns : tie.Need-returns
-returns c = let a = c .before .before .before .before .before .args in put-laid (interval-bytes (a .e)) (a .at) (a .out .now) (c .before .before .put-interval .result) (c .before .before .put-interval .last .0) (omega (arith, interval-size (a .e))) (c .before .before .put-interval .ensures)
+returns c = let a = c .before .before .before .before .before .args in put-whole (interval-bytes (a .e)) (a .at) (a .out .now) _ (c .before .before .put-interval .last .0) (interval-size (a .e)) (omega (arith, interval-size (a .e))) (c .before .before .put-interval .ensures)
 
 pub interval-at-spec : {M : Type 1} → statement M
 interval-at-spec =

@@ -1,7 +1,7 @@
 -- `record::skipped_at` meets its contract: the entry is written into the rest of the slice. Assumes nothing.
 use native.Mathlib.Omega.{arith}
 use Rattle.entries.specs.Entries.{skipped-bytes}
-use Rattle.record.proofs.Writing.{put-laid, skipped-size}
+use Rattle.record.proofs.Writing.{put-whole, skipped-size}
 use borrow.Author.Needs.{needs}
 use Rattle.record.proofs.moment.skipped_at.Statement.{statement}
 use Rattle.record.proofs.moment.skipped_at.Tie as tie
@@ -19,13 +19,13 @@ put-skipped-requires : tie.Need-put-skipped-requires
 put-skipped-requires c κs = search needs
 
 add-result : tie.Need-add-result
-add-result c = let a = c .before .before .before .before .before .args in omega (arith, skipped-size (a .task) (a .time), put-laid (skipped-bytes (a .task) (a .time)) (a .at) (a .out .now) (c .before .before .put-skipped .result) (c .before .before .put-skipped .last .0) (omega (arith, skipped-size (a .task) (a .time))) (c .before .before .put-skipped .ensures) .place-is)
+add-result c = search needs
 
 same-length : tie.Need-same-length
 same-length c = search needs
 
 returns : tie.Need-returns
-returns c = let a = c .before .before .before .before .before .args in put-laid (skipped-bytes (a .task) (a .time)) (a .at) (a .out .now) (c .before .before .put-skipped .result) (c .before .before .put-skipped .last .0) (omega (arith, skipped-size (a .task) (a .time))) (c .before .before .put-skipped .ensures)
+returns c = let a = c .before .before .before .before .before .args in put-whole (skipped-bytes (a .task) (a .time)) (a .at) (a .out .now) _ (c .before .before .put-skipped .last .0) (skipped-size (a .task) (a .time)) (omega (arith, skipped-size (a .task) (a .time))) (c .before .before .put-skipped .ensures)
 
 pub skipped-at-spec : {M : Type 1} → statement M
 skipped-at-spec =

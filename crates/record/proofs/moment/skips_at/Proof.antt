@@ -1,6 +1,6 @@
 -- `record::skips_at` meets its contract: the skipped releases of the tasks passed are laid. Assumes nothing.
 use mathlib.Core.Path.{_≡_, refl}
-use Prim.Native.Nat.{ℕ, _-_}
+use Prim.Native.Nat.{_-_}
 use native.Mathlib.Omega.{arith}
 use lib.ListN.{length}
 use Rattle.sets.specs.Sets.{lowest}

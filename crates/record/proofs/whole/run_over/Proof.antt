@@ -26,10 +26,10 @@ loop-holds : tie.Need-loop-holds Inv-loop μ-loop
 loop-holds c = let f = c .before .before .before .before .before .before .before .before in sets-out (f .args .tasks) (c .empty .result) (c .empty .ensures) (f .pre)
 
 next-tick-requires : tie.Need-next-tick-requires Inv-loop μ-loop
-next-tick-requires c κs = search needs
+next-tick-requires c κs = c .before .loop .inv .served .within
 
 released-requires : tie.Need-released-requires Inv-loop μ-loop
-released-requires c κs = search needs
+released-requires c κs = (c .before .before .before .loop .inv .served .within, omega (arith, c .before .next-tick .ensures .small, c .if1 .left))
 
 instant-at-requires : tie.Need-instant-at-requires Inv-loop μ-loop
 instant-at-requires c κs =

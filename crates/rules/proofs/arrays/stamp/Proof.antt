@@ -10,7 +10,7 @@ use Rattle.rules.proofs.arrays.stamp.Statement.{statement}
 use Rattle.rules.proofs.arrays.stamp.Tie as tie
 
 abbrev Inv-loop : tie.InvT-loop
-Inv-loop set t times₀ counts₀ left₀ times counts left = Stored (λ x. t) set left times₀ times × Stored (λ x. 0) set left counts₀ counts
+Inv-loop set t times₀ counts₀ left₀ times counts left = Stored (λ k x. t) set left times₀ times × Stored (λ k x. 0) set left counts₀ counts
 
 abbrev μ-loop : tie.MeasureT-loop
 μ-loop set t times₀ counts₀ left₀ times counts left = 32 - lowest left

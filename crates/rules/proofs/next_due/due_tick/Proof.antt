@@ -1,4 +1,6 @@
 -- `rules::next_due::due_tick` meets its contract: by whether an interval is open. Assumes nothing.
+use mathlib.Core.Path.{_∙_}
+use native.Mathlib.Nat.{min-comm}
 use borrow.Author.Tests.{eq-eqb, ne-eqb}
 use Rattle.rules.specs.Instant.{due}
 use Rattle.rules.specs.Apart.{interval-in, phase-in}
@@ -30,7 +32,7 @@ returns-2 : tie.Need-returns-2
 unfolding due phase-in interval-in
 returns-2 c =
     let r = c .before .before .before .before .before .before .before .args .r in
-    rw (ne-eqb _ _ (c .before .before .before .before .before .if1 .left), c .least2 .ensures, c .before .before .least .ensures)
+    rw (ne-eqb _ _ (c .before .before .before .before .before .if1 .left), c .least2 .ensures ∙ min-comm _ _, c .before .before .least .ensures)
     (both _ _ _ _ (c .before .processor-tick .ensures (r .task) (r .start))
     (both _ _ _ _ (c .before .before .before .before .copyout-tick .ensures (r .outtask) (r .outstart)) (c .before .before .before .copyin-tick .ensures (r .intask))))
 
