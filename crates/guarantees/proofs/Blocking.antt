@@ -193,9 +193,9 @@ module _ (pr : List ℕ) (n : ℕ) (small : n < 32) where
     far-within : Awaits (d .jobs .ready) (held-task (i .copyin)) → Far (count d) (Waits d) (In (processor-task (i .processor)))
     far-within x = subst (λ (p : Phase). Awaits (d .jobs .ready) (up-next p) → Far (count d) (Waits d) (place p)) e (h .far) x
 
-    one-more : count (close d t i) ≤ count d + bit (member n (blocks d i))
+    one-more : count (close d i) ≤ count d + bit (member n (blocks d i))
     unfolding close
-    one-more = subst (λ (j : ℕ). count (close d t i) ≤ count d + bit (member j (blocks d i))) (zero-add n) (counted-at (blocks d i) 0 (d .jobs .blocked) n)
+    one-more = subst (λ (j : ℕ). count (close d i) ≤ count d + bit (member j (blocks d i))) (zero-add n) (counted-at (blocks d i) 0 (d .jobs .blocked) n)
 
     -- the next interval runs none that is lower
     next-high : Waits d → NotLower pr n (next-task (next-of (i .copyin) (promoted d i (i .copyin))))
@@ -207,7 +207,7 @@ module _ (pr : List ℕ) (n : ℕ) (small : n < 32) where
 
     -- the count of a job that awaits execution
     closed-far : Far (count d) (Waits d) (In (processor-task (i .processor)))
-        → Far (count (close d t i)) (Waits (close d t i)) (Out (next-task (next-of (i .copyin) (promoted d i (i .copyin)))))
+        → Far (count (close d i)) (Waits (close d i)) (Out (next-task (next-of (i .copyin) (promoted d i (i .copyin)))))
     unfolding blocks
     closed-far x =
         ⊎-elim (λ y. inl (omega (arith, one-more, bit-most (member n (blocks d i)))))
@@ -225,13 +225,13 @@ module _ (pr : List ℕ) (n : ℕ) (small : n < 32) where
             (subst (λ (p : List ℕ). NotLower p n (processor-task (i .processor))) (sym (h .table)) y)))
             (λ b. rw b)
 
-    close-bounded : Bounded (close d t i)
+    close-bounded : Bounded (close d i)
     unfolding close blocks
     close-bounded = record {
       table = h .table;
       most =
           by-test (member n (blocks d i))
-          (λ b. far-most (count (close d t i)) (Waits (close d t i)) (Out (next-task (next-of (i .copyin) (promoted d i (i .copyin)))))
+          (λ b. far-most (count (close d i)) (Waits (close d i)) (Out (next-task (next-of (i .copyin) (promoted d i (i .copyin)))))
           (closed-far (far-within (waiting-awaits (d .jobs .ready) (i .copyin)
           (higher-lower d (waiting (i .copyin) (d .jobs .ready)) (processor-task (i .processor)) b .0)))))
           (λ b. omega (arith, h .most, one-more, ap bit b));

@@ -1,4 +1,4 @@
--- What each step can do, as a rule for proofs: it leaves the dispatcher as it is, or does the one thing that it is for. A proof about a step
+-- What each step can do, as a rule for proofs: it leaves the state as it is, or does the one thing that it is for. A proof about a step
 -- gives its claim for each of the cases; where a rule of the instant list changes, its case changes here.
 use Rattle.guarantees.specs.Types.{_≡_, refl, Bool, true, false, cond, ℕ, Table, Processor, Idle, CopyingIn, Executing, Finished, CopyOut, NoCopyOut, CopyingOut, CopiedOut, CopyIn, Unchosen, NoneChosen, Copying, Loaded, Cancelled, Interval, Next, Outgoing, Phase, Between, Within, State, Stage}
 use lib.Dec.{eqb}
@@ -73,7 +73,7 @@ module _ (R : State → Type 0) where
   -- b, f
   pub b-cases : (s : Stage) (t : ℕ) → ((i : Interval) → s .state .phase ≡ Within i → over i ≡ false → R (s .state))
       → ((next : Next) (outgoing : Outgoing) → s .state .phase ≡ Between next outgoing → R (s .state))
-      → ((i : Interval) → s .state .phase ≡ Within i → over i ≡ true → R (close (s .state) t i)) → R (step-b s t (s .state .phase) .state)
+      → ((i : Interval) → s .state .phase ≡ Within i → over i ≡ true → R (close (s .state) i)) → R (step-b s t (s .state .phase) .state)
   unfolding step-b close-stage
   b-cases s t k h f = go (s .state .phase) refl
     where

@@ -234,7 +234,7 @@ module _ (lengths : List ℕ) (t : ℕ) where
 
 -- ---- along the calls
 
--- a settled dispatcher owes nothing
+-- a settled state owes nothing
 engine-settled : (d : State) (x y : ℕ) (p : Phase) → RestAt (d .jobs .ready) p → engine-of x p ≡ engine-of y p
 engine-settled d x y (Between next outgoing) h = rw (h .1)
 engine-settled d x y (Within i) h = refl

@@ -132,7 +132,7 @@ pub record Sound (d : State) (p : Phase) : Type 0 where
   pub few : d .jobs .ready < 2 ^ 32
   pub paid : Paid (d .jobs .ready) p
 
--- from a dispatcher d in the phase p to another, with b intervals begun and n jobs taken
+-- from a state d in the phase p to another, with b intervals begun and n jobs taken
 pub record Leads (d : State) (p : Phase) (d′ : State) (p′ : Phase) (b n : ℕ) : Type 0 where
   pub sound : Sound d′ p′
   pub weigh : weight d′ p′ + phase-debt p + b ≤ weight d p + phase-debt p′ + 3 * n
@@ -335,7 +335,7 @@ begins-one t (Within i) q = omega arith
 begins-one t (Between next outgoing) (Between x y) = omega arith
 begins-one t (Between next outgoing) (Within j) = omega arith
 
--- a dispatcher whose interval has just begun
+-- a state whose interval has just begun
 module _ (f : State) (t new : ℕ) (next : Next) (outgoing : Outgoing) (h : Sound f (Between next outgoing)) where
   new-interval : Interval
   new-interval = record {

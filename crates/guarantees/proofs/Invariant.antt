@@ -23,7 +23,7 @@ use Rattle.guarantees.proofs.Steps.{Sub}
 use Rattle.guarantees.proofs.Served.{instant-sinks, last, Served-at, served-at, NotBefore}
 use Rattle.guarantees.proofs.Count
 
--- the weight of a dispatcher is bounded
+-- the weight of a state is bounded
 phase-weight-small : (p : Phase) → phase-weight p ≤ 3
 phase-weight-small (Between next outgoing) = omega (arith, go next, go-outgoing outgoing)
   where
@@ -179,7 +179,7 @@ pub debt-less : (d : State) → Sound d (d .phase) → debt d ≤ mass d
 unfolding mass debt
 debt-less d h = omega (arith, debt-covered d (d .phase) h)
 
--- ---- the invariant of the dispatchers that calls make
+-- ---- the invariant of the states that calls make
 
 module _ (table : Table) (marks : ℕ) (fair : Fair table marks) where
   pub record Good (d : State) : Type 0 where

@@ -67,7 +67,7 @@ module _ (present : ℕ) (tasks : present < 2 ^ 32) where
     pub known : phase-known present p
     pub parts : (k : ℕ) → k < 32 → bit (member k (d .jobs .pending)) ≡ bit (member k (d .jobs .ready)) + stage k p
 
-  -- from a dispatcher in a phase to another, with c jobs completed and n taken
+  -- from a state in a phase to another, with c jobs completed and n taken
   pub record Moves (d : State) (p : Phase) (d′ : State) (p′ : Phase) (c n : ℕ) : Type 0 where
     pub parted : Parted d′ p′
     pub sizes : size (d′ .jobs .pending) + c ≡ size (d .jobs .pending) + n

@@ -6,7 +6,7 @@ use Rattle.rules.specs.Instant.{at-g}
 use Rattle.rules.specs.Calls.{refusal, instant as instant-step, served as served-step, mark-refusal, with-mark, mark as mark-step}
 use Rattle.guarantees.specs.History.{Event, Call, Instant, Mark, happens, after-call, by-call, after-calls, history}
 
--- ---- the dispatcher after a call, served or refused
+-- ---- the state after a call, served or refused
 
 module _ (d : State) (t set : ℕ) where
   pub served : eqb (refusal d t set) 0 ≡ true → after-call d (Instant t set) ≡ at-g d t set
@@ -26,7 +26,7 @@ module _ (d : State) (n m : ℕ) where
   unfolding after-call mark-step
   mark-refused e = rw (after-call, mark-step, e)
 
--- ---- a property of a dispatcher, of what occurs by calls from it, and of the dispatcher that they leave
+-- ---- a property of a state, of what occurs by calls from it, and of the state that they leave
 
 module _ (P : State → List Event → State → Type 0)
     (none : (d : State) → P d [] d)
@@ -55,7 +55,7 @@ module _ (P : State → List Event → State → Type 0)
   walk-to (Instant t set ∷ cs) d = at-instant d t set cs (λ g. walk-to cs g)
   walk-to (Mark n m ∷ cs) d = at-mark d n m cs (λ g. walk-to cs g)
 
--- the same where the dispatcher that they leave does not matter
+-- the same where the state that they leave does not matter
 module _ (P : State → List Event → Type 0)
     (none : (d : State) → P d [])
     (more : (d : State) (t set : ℕ) (cs : List Call) → eqb (refusal d t set) 0 ≡ true → let g : State = at-g d t set in
@@ -65,7 +65,7 @@ module _ (P : State → List Event → Type 0)
   pub walk : (cs : List Call) (d : State) → P d (history d cs)
   walk = walk-to (λ d h g. P d h) none more mark
 
--- a property of the dispatchers that calls make
+-- a property of the states that calls make
 module _ (R : State → Type 0)
     (instant : (d : State) (t set : ℕ) → eqb (refusal d t set) 0 ≡ true → R d → R (at-g d t set))
     (mark : (d : State) (n m : ℕ) → eqb (mark-refusal d n m) 0 ≡ true → R d → R (with-mark d n m)) where

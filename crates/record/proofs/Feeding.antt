@@ -101,7 +101,7 @@ module _ (table : Table) (marks : ℕ) (fair : Fair table marks) where
   abbrev G : State → Type 0
   G d = Good table marks fair d
 
-  -- a dispatcher that calls made, and the releases that are left
+  -- a state that calls made, and the releases that are left
   pub record Fit (d : State) (rs : List Release) : Type 0 where
     pub good : G d
     pub sorted : Sorted (table .present) rs

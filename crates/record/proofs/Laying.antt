@@ -8,7 +8,7 @@ use lib.ListN.{length, length-append}
 use Rattle.entries.specs.Entries.{interval-bytes}
 use Rattle.rules.specs.Instant.{promoted, blocks, counted, close-stage, interval-entry, step-a, step-b, step-e, at-a, at-b}
 use Rattle.rules.specs.Apart.{as-task, copyin-in, interval-in, phase-in, whole, ends, closed-with, entry-with, with-releases, after-releases}
-use Rattle.rules.proofs.Turning.{none-closed, keeps-done}
+use Rattle.rules.proofs.Turning.{none-closed, keeps-done, chosen-after}
 use Rattle.record.specs.Types.{Table, State, Registers, Stage, At, Done, NoJob, Closed, NoInterval, Span, IntervalEntry, Phase, Between, Within}
 use Rattle.record.specs.Run.{done-bytes}
 use Rattle.record.specs.Advance.{Laid}
@@ -100,8 +100,7 @@ module _ (table : Table) (t new : ℕ) (release blocked : List ℕ) (r : Registe
   g = record { state = after-releases (whole table (At t) release blocked r) t new; done = NoJob; closed = NoInterval }
 
   is-e : whole table (At t) release′ blocked′ e ≡ after-releases (whole table (At t) release blocked r) t new
-  unfolding after-releases
-  is-e = chosen-is ∙ same ∙ ap (λ (y : State). step-e y t (y .phase)) released-is
+  is-e = chosen-after f t new released-is (chosen-is ∙ same)
     where
       same : step-e (whole table (At t) release′ blocked′ x) t (phase-in x) ≡ step-e (whole table (At t) release′ blocked′ x) t (whole table (At t) release′ blocked′ x .phase)
       same = unfold whole in refl

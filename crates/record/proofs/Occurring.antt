@@ -48,7 +48,7 @@ at-once : (d : State) (t : ℕ) → Once (at-b d t)
 unfolding at-b at-a
 at-once d t = b-once (at-a d t) t (at-a d t .state .phase) (none-closed _ t (d .phase))
 
--- a dispatcher with no open interval has none after the releases
+-- a state with no open interval has none after the releases
 shut-test : (s : Stage) (t : ℕ) (p : Phase) → Shut p → step-b s t p .closed ≡ s .closed
 unfolding step-b
 shut-test s t (Between next outgoing) h = refl

@@ -1,4 +1,4 @@
--- A run over the parts of the dispatcher: what an instant leaves of them goes on with the run. Assumes nothing.
+-- A run over the parts of the state: what an instant leaves of them goes on with the run. Assumes nothing.
 use mathlib.Core.Path.{_≡_, refl, sym, ap, _∙_, subst}
 use mathlib.Core.Bool.{Bool, true, false}
 use mathlib.Core.List.{List}
@@ -47,7 +47,7 @@ comes h f = ⊎-elim (λ e. e) (λ w. absurd (f (w .0))) (h .is)
 abbrev pub cursor-in : Table → Clock → List ℕ → List ℕ → Registers → ℕ → Cursor
 cursor-in table clock release blocked r at = record { state = whole table clock release blocked r; at = at }
 
--- the registers are those of a dispatcher that was just opened, and its arrays hold zeros
+-- the registers are those of a state that was just opened, and its arrays hold zeros
 abbrev pub first-cursor : Tasks → Registers → Cursor
 first-cursor k r = cursor-in (k .table) Unset (replicate 32 0) (replicate 32 0) r (k .end)
 

@@ -14,7 +14,7 @@ unfolding ends step-b close-stage
 stays-at s t (Between next outgoing) h = refl
 stays-at s t (Within i) h = rw (h, close-stage)
 
-closes-at : (s : Stage) (t : ℕ) (i : Interval) → over i ≡ true → step-b s t (Within i) ≡ record { state = close (s .state) t i; done = s .done; closed = Span (interval-entry (s .state) t i) }
+closes-at : (s : Stage) (t : ℕ) (i : Interval) → over i ≡ true → step-b s t (Within i) ≡ record { state = close (s .state) i; done = s .done; closed = Span (interval-entry (s .state) t i) }
 unfolding step-b close-stage
 closes-at s t i h = rw (h, close-stage)
 
@@ -42,10 +42,10 @@ module _ (table : Table) (clock : Clock) (release blocked : List ℕ) (r : Regis
     unfolding ends
     ended = subst (λ (q : Phase). ends q ≡ true) (open-in r h) h
 
-    is-closed : step-b s t (phase-in r) ≡ record { state = close (whole table clock release blocked r) t (interval-in r); done = s .done; closed = Span (interval-entry (whole table clock release blocked r) t (interval-in r)) }
+    is-closed : step-b s t (phase-in r) ≡ record { state = close (whole table clock release blocked r) (interval-in r); done = s .done; closed = Span (interval-entry (whole table clock release blocked r) t (interval-in r)) }
     is-closed =
         ap (step-b s t) (open-in r h) ∙ closes-at s t i ended
-        ∙ ap (λ (w : State). record { state = close w t i; done = s .done; closed = Span (interval-entry w t i) }) state
+        ∙ ap (λ (w : State). record { state = close w i; done = s .done; closed = Span (interval-entry w t i) }) state
 
     pub closes-state : whole table clock release after x ≡ step-b s t (phase-in r) .state
     closes-state =
@@ -55,7 +55,7 @@ module _ (table : Table) (clock : Clock) (release blocked : List ℕ) (r : Regis
         ∙ same
         ∙ sym (ap (λ (w : Stage). w .state) is-closed)
       where
-        same : closed-with (whole table clock release (counted (blocks (whole table clock release blocked r) (interval-in r)) 0 blocked) r) (interval-in r) (promoted (whole table clock release blocked r) (interval-in r) (copyin-in r)) ≡ close (whole table clock release blocked r) t (interval-in r)
+        same : closed-with (whole table clock release (counted (blocks (whole table clock release blocked r) (interval-in r)) 0 blocked) r) (interval-in r) (promoted (whole table clock release blocked r) (interval-in r) (copyin-in r)) ≡ close (whole table clock release blocked r) (interval-in r)
         same = unfold closed-with close whole interval-in in refl
 
     pub closes-entry : Span e ≡ step-b s t (phase-in r) .closed

@@ -17,7 +17,7 @@ pub record Released (s : List ℕ) (at t : ℕ) (b : Batch) : Type 0 where
   pub rest : releases-at s (b .at) ≡ released-after t (releases-at s at)
   pub within : b .at ≤ length s
 
--- how far a run has come: the dispatcher, and the place of the next release
+-- how far a run has come: the state, and the place of the next release
 pub record Cursor : Type 0 where
   pub state : State
   pub at : ℕ

@@ -1,4 +1,4 @@
--- One instant of a run over the parts of the dispatcher, with its entries laid over the lent slice as things occur.
+-- One instant of a run over the parts of the state, with its entries laid over the lent slice as things occur.
 use mathlib.Core.Path.{_≡_}
 use Rattle.entries.specs.Entries.{interval-bytes}
 use Rattle.rules.specs.Instant.{step-b, at-b, at-g, occurred}

@@ -1,4 +1,4 @@
-// One instant of a run, with its entries laid over the lent slice as things occur. The steps are the dispatcher's, over its parts; `present`
+// One instant of a run, with its entries laid over the lent slice as things occur. The steps are the rules', over the parts of the state; `present`
 // is there for the promises alone, which speak of the whole table.
 use crate::moment::done_at;
 use crate::moment::interval_at;
@@ -11,7 +11,7 @@ ghost use Rattle.rules.specs.Instant.{at-b, occurred};
 ghost use Rattle.rules.specs.Apart.{whole};
 ghost use Rattle.record.specs.Moments.{state-in, table-in, stage-bytes, span-bytes, closes, served-bytes, LaidBefore, LaidAfter, LaidInstant};
 
-// What is left of the dispatcher, and the place behind what was laid.
+// What is left of the state, and the place behind what was laid.
 pub struct Placed {
     pub registers: Registers,
     pub end: usize,

@@ -156,9 +156,9 @@ unfoldable pub counted : ℕ → ℕ → List ℕ → List ℕ
 counted s k [] = []
 counted s k (x ∷ xs) = cond (member k s) (min (x + 1) 255) x ∷ counted s (suc k) xs
 
-unfoldable pub close : State → ℕ → Interval → State
+unfoldable pub close : State → Interval → State
 unfolding counted
-close d t i =
+close d i =
     let p : MaybeTask = promoted d i (i .copyin) in
     with-phase
     (with-jobs d (record {
@@ -184,7 +184,7 @@ interval-entry d t i = record {
 
 unfoldable pub close-stage : Stage → ℕ → Interval → Bool → Stage
 close-stage s t i false = s
-close-stage s t i true = record { state = close (s .state) t i; done = s .done; closed = Span (interval-entry (s .state) t i) }
+close-stage s t i true = record { state = close (s .state) i; done = s .done; closed = Span (interval-entry (s .state) t i) }
 
 unfoldable pub step-b : Stage → ℕ → Phase → Stage
 step-b s t (Between next outgoing) = s

@@ -23,14 +23,14 @@ unfolding ends step-b close-stage
 stays s t (Between next outgoing) e = refl
 stays s t (Within i) e = rw (sym e)
 
-closes : (s : Stage) (t : ℕ) (i : Interval) → over i ≡ true → step-b s t (Within i) ≡ record { state = close (s .state) t i; done = s .done; closed = Span (interval-entry (s .state) t i) }
+closes : (s : Stage) (t : ℕ) (i : Interval) → over i ≡ true → step-b s t (Within i) ≡ record { state = close (s .state) i; done = s .done; closed = Span (interval-entry (s .state) t i) }
 unfolding step-b close-stage
 closes s t i e = rw e
 
 -- the blocked intervals are counted before the interval is closed
 counted-first : {p : MaybeTask} {after : List ℕ} (d : State) (t : ℕ) (i : Interval)
     → p ≡ promoted d i (i .copyin) → after ≡ counted (blocks d i) 0 (d .jobs .blocked)
-    → closed-with (with-jobs d (record { pending = d .jobs .pending; ready = d .jobs .ready; release = d .jobs .release; blocked = after })) i p ≡ close d t i
+    → closed-with (with-jobs d (record { pending = d .jobs .pending; ready = d .jobs .ready; release = d .jobs .release; blocked = after })) i p ≡ close d i
 unfolding closed-with close
 counted-first d t i e f = rw (e, f)
 
@@ -66,7 +66,7 @@ returns c table clock release s p e n =
     let q = w .promoted .ensures table clock release (a .blocked .now) p in
     let f = c .before .before .count-blocked .ensures table clock release (a .blocked .now) p in
     record {
-      state = c .before .close .ensures table clock release (c .before .before .count-blocked .last .1 .1 .0) ∙ counted-first d (a .t) i q f ∙ sym (ap (λ x. x .state) b ∙ ap (λ x. close x (a .t) i) e);
+      state = c .before .close .ensures table clock release (c .before .before .count-blocked .last .1 .1 .0) ∙ counted-first d (a .t) i q f ∙ sym (ap (λ x. x .state) b ∙ ap (λ x. close x i) e);
       closed = ap Span (c .interval-entry .ensures ∙ entry-is d (a .t) i q) ∙ sym (ap (λ x. x .closed) b ∙ ap (λ x. Span (interval-entry x (a .t) i)) e);
     }
 
