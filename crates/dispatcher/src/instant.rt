@@ -28,7 +28,7 @@ ghost use lib.Dec.{eqb, ltb};
 ghost use Rattle.rules.specs.Calls as calls;
 ghost use Rattle.rules.specs.Instant as instant;
 ghost use Rattle.dispatcher.specs.Reading.{state-of, step-of, Answers};
-ghost use Rattle.dispatcher.specs.Promises.{Refuses, Tests, Turns};
+ghost use Rattle.dispatcher.specs.Promises.{Refuses, TestsBefore, TestsAfter, Turns};
 
 fn not_after(clock: Clock, t: u64) -> bool
     ensures { λ r. ⌜ r ≡ calls.not-after clock t ⌝ }
@@ -90,60 +90,87 @@ fn closing(before: Closed, after: Closed) -> Closing
     }
 }
 
-// The test of steps b and f.
-fn test(r: Registers, t: u64, priority: &[u8; 32], blocked: &mut [u8; 32]) -> Tested
-    ensures { λ x. ⌜ Tests r t (now (priority .entry)) (now (blocked .entry)) (now (blocked .exit)) x ⌝ }
+// Steps a and b: what is left, and the interval that ends before the releases.
+fn before(
+    r: Registers,
+    t: u64,
+    priority: &[u8; 32],
+    execution: &[u32; 32],
+    blocked: &mut [u8; 32],
+) -> Tested
+    ensures { λ x. ⌜ TestsBefore r t (now (priority .entry)) (now (execution .entry)) (now (blocked .entry)) (now (blocked .exit)) x ⌝ }
 {
-    if over(r) {
-        let p = promoted(r, priority);
-        count_blocked(r, priority, blocked);
+    let a = ended(r, t, execution);
+    if over(a) {
+        let p = promoted(a, priority);
+        count_blocked(a, priority, blocked);
         return Tested {
-            registers: close(r, p),
-            closed: Closed::Span(interval_entry(r, t, p)),
+            registers: close(a, p),
+            closed: Closed::Span(interval_entry(a, t, p)),
         };
     }
     Tested {
-        registers: r,
+        registers: a,
         closed: Closed::NoInterval,
     }
 }
 
-// Steps a to g, over the parts.
-fn turn(
+// Steps c to f, with the tasks whose release is taken: what is left, and the interval that ends after the releases.
+fn after(
+    r: Registers,
+    t: u64,
+    new: u32,
+    priority: &[u8; 32],
+    copyin: &[u32; 32],
+    release: &mut [u64; 32],
+    blocked: &mut [u8; 32],
+) -> Tested
+    ensures { λ x. ⌜ TestsAfter r t new (now (priority .entry)) (now (copyin .entry)) (now (release .entry)) (now (blocked .entry)) (now (release .exit)) (now (blocked .exit)) x ⌝ }
+{
+    let d = released(r, t, new, priority, release, blocked);
+    let e = chosen(d, t, priority, copyin);
+    if over(e) {
+        let p = promoted(e, priority);
+        count_blocked(e, priority, blocked);
+        return Tested {
+            registers: close(e, p),
+            closed: Closed::Span(interval_entry(e, t, p)),
+        };
+    }
+    Tested {
+        registers: e,
+        closed: Closed::NoInterval,
+    }
+}
+
+// Steps a to g, over the parts. The arrays of the table are lent together, and so for one lifetime.
+fn turn<'a>(
     r: Registers,
     t: u64,
     set: u32,
-    priority: &[u8; 32],
-    copyin: &[u32; 32],
-    execution: &[u32; 32],
-    copyout: &[u32; 32],
+    priority: &'a [u8; 32],
+    copyin: &'a [u32; 32],
+    execution: &'a [u32; 32],
+    copyout: &'a [u32; 32],
     release: &mut [u64; 32],
     blocked: &mut [u8; 32],
 ) -> Turned
     ensures { λ x. ⌜ Turns r t set (now (priority .entry)) (now (copyin .entry)) (now (execution .entry)) (now (copyout .entry)) (now (release .entry)) (now (blocked .entry)) (now (release .exit)) (now (blocked .exit)) x ⌝ }
 {
     let done = completed(r, t, release, blocked);
-    let b = test(ended(r, t, execution), t, priority, blocked);
-    let before = b.closed;
+    let b = before(r, t, priority, execution, blocked);
+    let first = b.closed;
     let open = b.registers;
     let new = sets::difference(set, open.pending);
     let skipped = sets::intersection(set, open.pending);
-    let d = released(open, t, new, priority, release, blocked);
-    let f = test(chosen(d, t, priority, copyin), t, priority, blocked);
-    let after = f.closed;
+    let f = after(open, t, new, priority, copyin, release, blocked);
+    let last = f.closed;
     let left = f.registers;
-    let registers = begun(
-        left,
-        t,
-        held_over(open, new),
-        priority,
-        copyin,
-        execution,
-        copyout,
-    );
+    let held = held_over(open, new);
+    let registers = begun(left, t, held, priority, copyin, execution, copyout);
     let occurred = Occurred {
         done,
-        closed: closing(before, after),
+        closed: closing(first, last),
         skipped,
         due: due_time(registers),
     };
@@ -157,21 +184,16 @@ fn turn(
 fn served(d: Dispatcher, t: u64, set: u32) -> Step
     ensures { λ x. ⌜ step-of x ≡ calls.served (state-of d) t set ⌝ }
 {
-    let table = d.table;
-    let priority = table.priority;
-    let copyin = table.copyin;
-    let execution = table.execution;
-    let copyout = table.copyout;
     let mut release = d.release;
     let mut blocked = d.blocked;
     let x = turn(
         d.registers,
         t,
         set,
-        &priority,
-        &copyin,
-        &execution,
-        &copyout,
+        &d.table.priority,
+        &d.table.copyin,
+        &d.table.execution,
+        &d.table.copyout,
         &mut release,
         &mut blocked,
     );
@@ -179,7 +201,7 @@ fn served(d: Dispatcher, t: u64, set: u32) -> Step
     let occurred = x.occurred;
     Step {
         state: Dispatcher {
-            table,
+            table: d.table,
             clock: Clock::At(t),
             release,
             blocked,

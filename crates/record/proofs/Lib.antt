@@ -1,7 +1,6 @@
 pub mod Reading
 pub mod Cursor
 pub mod Writing
-pub mod Testing
 pub mod Laying
 pub mod Occurring
 pub mod Running

@@ -6,22 +6,13 @@ use Prim.Native.Nat.{ℕ, _+_, _≤_}
 use native.Mathlib.Omega.{arith}
 use lib.ListN.{length, length-append}
 use Rattle.sets.specs.Sets.{difference, intersection}
-use Rattle.sets.specs.Laws.{by-test}
 use Rattle.entries.specs.Entries.{interval-bytes}
-use Rattle.rules.specs.Instant.{step-b, step-c, step-d, step-e, step-g, close, close-stage, over, with-candidates, taken, skipped, held-over, closing, at-a, at-b, new-at, at-e, at-f, at-g, occurred}
-use Rattle.rules.specs.Apart.{with-releases, after-releases}
-use Rattle.rules.proofs.Turning.{none-closed, by-state}
-use Rattle.record.specs.Types.{State, Stage, Done, NoJob, Closed, NoInterval, Span, Interval, Phase, Between, Within}
+use Rattle.rules.specs.Instant.{step-b, step-c, step-d, step-e, close, close-stage, over, with-candidates, taken, skipped, closing, at-a, at-b, new-at, at-f, occurred}
+use Rattle.rules.specs.Apart.{with-releases, after-releases, closes}
+use Rattle.rules.proofs.Turning.{none-closed, f-closed}
+use Rattle.record.specs.Types.{State, Stage, NoJob, Closed, NoInterval, Span, Interval, Phase, Between, Within}
 use Rattle.record.specs.Run.{done-bytes, skips-bytes, closed-bytes, moment-bytes}
-use Rattle.record.specs.Moments.{span-bytes, stage-bytes, served-bytes, closes}
-
--- ---- the interval that the test of steps b and f ends goes by the state alone
-
-test-closed : (e : State) (a b : Done) (t : ℕ) (p : Phase)
-    → step-b (record { state = e; done = a; closed = NoInterval }) t p .closed ≡ step-b (record { state = e; done = b; closed = NoInterval }) t p .closed
-unfolding step-b close-stage
-test-closed e a b t (Between next outgoing) = refl
-test-closed e a b t (Within i) = by-test (over i) (λ h. rw h) (λ h. rw h)
+use Rattle.record.specs.Moments.{span-bytes, stage-bytes, served-bytes}
 
 -- ---- an interval that ended before the releases is the only one that ends
 
@@ -109,36 +100,13 @@ module _ (d : State) (t set : ℕ) where
   abbrev new : ℕ
   new = new-at d t set
 
-  is-e : at-e d t set ≡ after-releases (at-b d t .state) t (new-at d t set)
-  unfolding at-e with-releases after-releases
-  is-e = refl
-
-  f-state : at-f d t set .state ≡ closes (at-b d t .state) t (new-at d t set) .state
-  unfolding at-f closes
-  f-state =
-      subst (λ (e : State). step-b (record { state = e; done = b .done; closed = b .closed }) t (e .phase) .state ≡ closes (b .state) t new .state) (sym is-e)
-      (let e : State = after-releases (b .state) t new in unfold closes in by-state e (b .done) NoJob (b .closed) NoInterval t (e .phase))
-
-  f-closed : b .closed ≡ NoInterval → at-f d t set .closed ≡ closes (at-b d t .state) t (new-at d t set) .closed
-  unfolding at-f closes
-  f-closed h =
-      subst (λ (e : State). step-b (record { state = e; done = b .done; closed = b .closed }) t (e .phase) .closed ≡ closes (b .state) t new .closed) (sym is-e)
-      (let e : State = after-releases (b .state) t new in
-      unfold closes in
-      subst (λ (x : Closed). step-b (record { state = e; done = b .done; closed = x }) t (e .phase) .closed ≡ step-b (record { state = e; done = NoJob; closed = NoInterval }) t (e .phase) .closed) (sym h)
-      (test-closed e (b .done) NoJob t (e .phase)))
-
-  pub g-state : (f : State) → f ≡ closes (at-b d t .state) t (new-at d t set) .state → step-g f t (held-over (at-b d t .state .phase) (new-at d t set)) (f .phase) ≡ at-g d t set
-  unfolding at-g
-  g-state f e = ap (λ (x : State). step-g x t (held-over (b .state .phase) new) (x .phase)) (e ∙ sym f-state)
-
   pub parts : served-bytes t (occurred d t set) ≡ stage-bytes (at-b d t) ++ (skips-bytes 32 (skipped (at-b d t .state) set) t ++ span-bytes (closes (at-b d t .state) t (new-at d t set) .closed))
   unfolding served-bytes moment-bytes occurred stage-bytes
   parts =
       let skips : List ℕ = skips-bytes 32 (skipped (b .state) set) t in
       let z : Closed = closes (b .state) t new .closed in
       ap (λ (x : List ℕ). done-bytes (b .done) ++ x)
-      (in-parts (b .closed) (at-f d t set .closed) z skips f-closed (λ h. closes-none (b .state) t new (at-once d t h)))
+      (in-parts (b .closed) (at-f d t set .closed) z skips (f-closed d t set) (λ h. closes-none (b .state) t new (at-once d t h)))
       ∙ sym (append-assoc (done-bytes (b .done)) (span-bytes (b .closed)) (skips ++ span-bytes z))
 
 -- ---- the parts, by what the writers find
@@ -170,9 +138,3 @@ module _ (d : State) (t set : ℕ) where
 
     pub sizes : length (served-bytes t (occurred d t set)) ≡ length (stage-bytes (at-b d t)) + (length (skips-bytes 32 skips t) + length (span-bytes (closes b t new .closed)))
     sizes = ap length in-order ∙ simp length-append
-
-    pub last-state : (held : ℕ) (f g : State) → f ≡ closes b t new .state → held ≡ held-over (b .phase) new → g ≡ step-g f t held (f .phase) → g ≡ at-g d t set
-    last-state held f g e h k =
-        k
-        ∙ ap (λ (x : ℕ). step-g f t x (f .phase)) (h ∙ ap (λ (x : State). held-over (x .phase) new) state ∙ ap (held-over (at-b d t .state .phase)) is-new)
-        ∙ g-state d t set f (e ∙ ap (λ (x : Stage). x .state) same)

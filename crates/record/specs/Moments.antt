@@ -1,9 +1,9 @@
 -- One instant of a run over the parts of the state, with its entries laid over the lent slice as things occur.
 use mathlib.Core.Path.{_≡_}
 use Rattle.entries.specs.Entries.{interval-bytes}
-use Rattle.rules.specs.Instant.{step-b, at-b, at-g, occurred}
-use Rattle.rules.specs.Apart.{whole, after-releases}
-use Rattle.record.specs.Types.{List, [], _++_, ℕ, Table, State, Registers, Stage, NoJob, Closed, NoInterval, Span, Unset, At, Occurred, Placed}
+use Rattle.rules.specs.Instant.{at-b, at-g, occurred}
+use Rattle.rules.specs.Apart.{whole, closes}
+use Rattle.record.specs.Types.{List, [], _++_, ℕ, Table, State, Registers, Stage, Closed, NoInterval, Span, Unset, At, Occurred, Placed}
 use Rattle.record.specs.Run.{moment-bytes, done-bytes}
 use Rattle.record.specs.Advance.{Laid}
 
@@ -28,12 +28,6 @@ stage-bytes s = done-bytes (s .done) ++ span-bytes (s .closed)
 -- all
 unfoldable pub served-bytes : ℕ → Occurred → List ℕ
 served-bytes t o = moment-bytes (record { time = t; occurred = o })
-
--- steps c to f of what steps a and b left, with the tasks whose release is taken
-unfoldable pub closes : State → ℕ → ℕ → Stage
-closes d t new =
-    let e : State = after-releases d t new in
-    step-b (record { state = e; done = NoJob; closed = NoInterval }) t (e .phase)
 
 -- ---- What the writers promise
 

@@ -8,8 +8,8 @@ use rules::Registers;
 ghost use Prim.Native.Nat.{_+_, _≤_};
 ghost use lib.ListN.{length};
 ghost use Rattle.rules.specs.Instant.{at-b, occurred};
-ghost use Rattle.rules.specs.Apart.{whole};
-ghost use Rattle.record.specs.Moments.{state-in, table-in, stage-bytes, span-bytes, closes, served-bytes, LaidBefore, LaidAfter, LaidInstant};
+ghost use Rattle.rules.specs.Apart.{whole, closes};
+ghost use Rattle.record.specs.Moments.{state-in, table-in, stage-bytes, span-bytes, served-bytes, LaidBefore, LaidAfter, LaidInstant};
 
 // What is left of the state, and the place behind what was laid.
 pub struct Placed {

@@ -1,9 +1,9 @@
 -- The state taken apart, as the code has it: numbers that go by value (`Registers`) beside arrays that are lent. Read back, they are
 -- the state that the rules speak of.
-use Rattle.rules.specs.Types.{Bool, false, cond, List, ℕ, Table, Clock, MaybeTask, NoTask, Task, Processor, Idle, CopyingIn, Executing, Finished, CopyOut, NoCopyOut, CopyingOut, CopiedOut, CopyIn, Unchosen, NoneChosen, Copying, Loaded, Cancelled, Interval, Next, NoneNext, LoadedNext, PromotedNext, Outgoing, NoneOutgoing, AwaitsCopyOut, Phase, Between, Within, State, IntervalEntry, Registers}
+use Rattle.rules.specs.Types.{Bool, false, cond, List, ℕ, Table, Clock, MaybeTask, NoTask, Task, Processor, Idle, CopyingIn, Executing, Finished, CopyOut, NoCopyOut, CopyingOut, CopiedOut, CopyIn, Unchosen, NoneChosen, Copying, Loaded, Cancelled, Interval, Next, NoneNext, LoadedNext, PromotedNext, Outgoing, NoneOutgoing, AwaitsCopyOut, Phase, Between, Within, State, IntervalEntry, NoJob, NoInterval, Stage, Registers}
 use lib.Dec.{eqb, ltb}
 use Rattle.rules.specs.With.{with-jobs, with-phase}
-use Rattle.rules.specs.Instant.{over, processor-task, copyout-task, copyin-task, copyin-fate, without-promoted, next-of, awaiting-copyout, step-c, step-d, step-e}
+use Rattle.rules.specs.Instant.{over, processor-task, copyout-task, copyin-task, copyin-fate, without-promoted, next-of, awaiting-copyout, step-b, step-c, step-d, step-e}
 
 -- 32 and more stand for no task
 abbrev pub as-task : ℕ → MaybeTask
@@ -112,7 +112,7 @@ entry-with half t i p = record {
   promoted = p;
 }
 
--- ---- Steps c to e
+-- ---- Steps c to f
 
 -- steps c and d
 unfoldable pub with-releases : State → ℕ → ℕ → State
@@ -124,3 +124,9 @@ unfoldable pub after-releases : State → ℕ → ℕ → State
 after-releases d t new =
     let x : State = with-releases d t new in
     step-e x t (x .phase)
+
+-- all four, of what steps a and b left, with the tasks whose release is taken
+unfoldable pub closes : State → ℕ → ℕ → Stage
+closes d t new =
+    let e : State = after-releases d t new in
+    step-b (record { state = e; done = NoJob; closed = NoInterval }) t (e .phase)

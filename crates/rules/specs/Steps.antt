@@ -1,6 +1,6 @@
 -- What each function over the state taken apart promises: read back, its outcome is that of the rules, whatever stands in the parts
 -- that it is not handed.
-use Rattle.rules.specs.Types.{Bool, List, ℕ, _-_, _^_, _≤_, _≡_, _⊎_, Table, Clock, Unset, MaybeTask, State, Done, Due, Never, Tick, Registers, Unit}
+use Rattle.rules.specs.Types.{Bool, List, ℕ, _-_, _^_, _≤_, _≡_, _⊎_, Table, Clock, Unset, MaybeTask, State, Done, Closed, Due, Never, Tick, Stage, Registers, Unit}
 use lib.Dec.{eqb}
 use lib.ListN.{replicate}
 use Rattle.rules.specs.Order.{outranks}
@@ -77,6 +77,11 @@ abbrev pub ClosedTo : Registers → ℕ → Registers → Type 0
 ClosedTo r p x =
     (table : Table) (clock : Clock) (release blocked : List ℕ)
     → whole table clock release blocked x ≡ closed-with (whole table clock release blocked r) (interval-in r) (as-task p)
+
+-- after the test of steps b and f: what is left, and the interval that ended
+pub record TestedTo (s : Stage) (table : Table) (clock : Clock) (release blocked : List ℕ) (x : Registers) (closed : Closed) : Type 0 where
+  pub state : whole table clock release blocked x ≡ s .state
+  pub interval : closed ≡ s .closed
 
 -- ---- c
 

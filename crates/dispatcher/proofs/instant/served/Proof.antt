@@ -17,10 +17,10 @@ turn-requires c κs = search needs
 
 returns : tie.Need-returns
 returns c =
-    let turn = c .before .before in
-    let s = turn .before .before .before .before .before .before .before .before .before .before .before .before .before .before .args in
-    let x = turn .turn .ensures (s .d .table) (s .d .clock) refl refl refl refl in
-    is-served (state-of (s .d)) (s .t) (s .set) (x .state) (x .occurs)
+    let turn = c .before .before .before in
+    let s = turn .before .before .before .before .before .before .before .before .before .before .before .args in
+    let x = turn .turn .ensures (s .t1 .table) (s .t1 .clock) refl refl refl refl in
+    is-served (state-of (s .t1)) (s .t) (s .set) (x .state) (x .occurs)
 
 pub served-spec : {M : Type 1} → statement M
 served-spec = tie.close (tie.spec turn-requires returns)

@@ -1,9 +1,10 @@
 -- `record::after_at` meets its contract: the releases are taken, and the interval that ends is laid. Assumes nothing.
 use mathlib.Core.Path.{refl, sym, _∙_}
 use lib.ListN.{length}
+use Rattle.rules.proofs.Testing.{after-stays, after-closes}
 use Rattle.record.specs.Types.{At}
 use Rattle.record.specs.Moments.{table-in}
-use Rattle.record.proofs.Laying.{span-room, after-stays, after-closes}
+use Rattle.record.proofs.Laying.{span-room, after-none, after-span}
 use borrow.Author.Needs.{needs}
 use Rattle.record.proofs.instant.after_at.Statement.{statement}
 use Rattle.record.proofs.instant.after_at.Tie as tie
@@ -48,37 +49,43 @@ same-length c = search needs
 
 returns : tie.Need-returns
 returns c =
-    let e = c .before .before .before .before .before .before .before .before .before .before .before in
+    let put = c .before .before .before in
+    let counts = put .before .before .before .count-blocked in
+    let promotes = put .before .before .before .before .before in
+    let test = promotes .before in
+    let e = test .before .before in
     let x = e .before in
-    let w = x .before .before .before .before in
-    let s = w .args in
+    let s = x .before .before .before .before .args in
     let t = s .t in
     let table = table-in (s .present) (s .priority .now) (s .copyin .now) (s .execution .now) (s .copyout .now) in
     let release = x .released .last .1 .1 .1 .1 .0 in
     let blocked = x .released .last .1 .1 .1 .1 .1 .0 in
-    let after = c .before .before .before .before .before .before .count-blocked .last .1 .1 .0 in
-    after-closes table t (s .new) (s .release .now) (s .blocked .now) (s .r) release blocked (x .released .result) (e .chosen .result)
+    let after = counts .last .1 .1 .0 in
+    let ends = after-closes table (At t) t (s .new) (s .release .now) (s .blocked .now) (s .r) release blocked (x .released .result) (e .chosen .result)
     (x .released .ensures table (At t) refl) (e .chosen .ensures table (At t) release blocked refl refl)
-    (sym (c .before .before .before .before .before .before .before .before .before .before .over .ensures) ∙ c .before .before .before .before .before .before .before .before .before .if1 .taken) (c .before .before .before .before .before .before .before .before .promoted .result) after (c .close .result) (c .before .before .before .before .interval-entry .result)
-    (c .before .before .before .before .before .before .before .before .promoted .ensures table (At t) release blocked refl)
-    (c .before .before .before .before .before .before .count-blocked .ensures table (At t) release blocked refl)
-    (c .close .ensures table (At t) release after)
-    (c .before .before .before .before .interval-entry .ensures)
-    (s .at) (c .before .before .before .interval-at .result) (s .out .now) (c .before .before .before .interval-at .last .0) (c .before .before .before .interval-at .ensures)
+    (promotes .promoted .result) (record {
+      ends-now = sym (test .before .over .ensures) ∙ test .if1 .taken;
+      promoted-is = promotes .promoted .ensures table (At t) release blocked refl;
+      counted-is = counts .ensures table (At t) release blocked refl;
+      closed-is = c .close .ensures table (At t) release after;
+      entry-is = put .before .interval-entry .ensures;
+    }) in
+    after-span table t (s .new) (s .release .now) (s .blocked .now) (s .r) (s .at) (s .out .now) release after
+    (c .close .result) (put .before .interval-entry .result) ends (put .interval-at .result) (put .interval-at .last .0) (put .interval-at .ensures)
 
 returns-2 : tie.Need-returns-2
 returns-2 c =
     let e = c .before .before in
     let x = e .before in
-    let w = x .before .before .before .before in
-    let s = w .args in
+    let s = x .before .before .before .before .args in
     let t = s .t in
     let table = table-in (s .present) (s .priority .now) (s .copyin .now) (s .execution .now) (s .copyout .now) in
     let release = x .released .last .1 .1 .1 .1 .0 in
     let blocked = x .released .last .1 .1 .1 .1 .1 .0 in
-    after-stays table t (s .new) (s .release .now) (s .blocked .now) (s .r) release blocked (x .released .result) (e .chosen .result)
+    after-none table t (s .new) (s .release .now) (s .blocked .now) (s .r) (s .at) (s .out .now) release blocked (e .chosen .result)
+    (after-stays table (At t) t (s .new) (s .release .now) (s .blocked .now) (s .r) release blocked (x .released .result) (e .chosen .result)
     (x .released .ensures table (At t) refl) (e .chosen .ensures table (At t) release blocked refl refl)
-    (s .at) (s .out .now) (sym (c .before .over .ensures) ∙ c .if1 .left)
+    (sym (c .before .over .ensures) ∙ c .if1 .left))
 
 pub after-at-spec : {M : Type 1} → statement M
 after-at-spec =

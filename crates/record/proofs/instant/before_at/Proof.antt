@@ -3,9 +3,10 @@ use mathlib.Core.Path.{refl, sym, _∙_}
 use Prim.Native.Nat.{ℕ, _+_, _≤_}
 use native.Mathlib.Omega.{arith}
 use lib.ListN.{length}
-use Rattle.record.specs.Types.{At}
+use Rattle.rules.proofs.Testing.{before-stays, before-closes}
+use Rattle.record.specs.Types.{Unset, At}
 use Rattle.record.specs.Moments.{table-in}
-use Rattle.record.proofs.Laying.{done-room, interval-room, before-stays, before-closes}
+use Rattle.record.proofs.Laying.{done-room, interval-room, before-none, before-span}
 use borrow.Author.Needs.{needs}
 use Rattle.record.proofs.instant.before_at.Statement.{statement}
 use Rattle.record.proofs.instant.before_at.Tie as tie
@@ -79,15 +80,17 @@ returns c =
     let blocked = s .blocked .now in
     let table = table-in (s .present) (s .priority .now) (s .copyin .now) (s .execution .now) (s .copyout .now) in
     let after = n .count-blocked .last .1 .1 .0 in
-    before-closes table t release blocked (s .r) (m .completed .result) (m .completed .ensures table (At t))
-    (ends .ended .result) (ends .ended .ensures table (At t) release blocked refl)
+    let x = before-closes table Unset t release blocked (s .r) (ends .ended .result) (ends .ended .ensures table (At t) release blocked refl)
+    (k .promoted .result) (record {
+      ends-now = sym (test .before .over .ensures) ∙ test .if1 .taken;
+      promoted-is = k .promoted .ensures table (At t) release blocked refl;
+      counted-is = n .count-blocked .ensures table (At t) release blocked refl;
+      closed-is = c .close .ensures table (At t) release after;
+      entry-is = q .before .interval-entry .ensures;
+    }) in
+    before-span table t release blocked (s .r) (m .completed .result) (m .completed .ensures table (At t))
     (s .at) (put .done-at .result) (s .out .now) (put .done-at .last .0) (put .done-at .ensures)
-    (sym (test .before .over .ensures) ∙ test .if1 .taken)
-    (k .promoted .result) after (c .close .result) (q .before .interval-entry .result)
-    (k .promoted .ensures table (At t) release blocked refl)
-    (n .count-blocked .ensures table (At t) release blocked refl)
-    (c .close .ensures table (At t) release after)
-    (q .before .interval-entry .ensures)
+    (c .close .result) (q .before .interval-entry .result) after x
     (q .interval-at .result) (q .interval-at .last .0) (fits (s .at) _ _ (w .pre)) (q .interval-at .ensures)
 
 same-length-2 : tie.Need-same-length-2
@@ -104,10 +107,11 @@ returns-2 c =
     let release = s .release .now in
     let blocked = s .blocked .now in
     let table = table-in (s .present) (s .priority .now) (s .copyin .now) (s .execution .now) (s .copyout .now) in
-    before-stays table t release blocked (s .r) (m .completed .result) (m .completed .ensures table (At t))
-    (ends .ended .result) (ends .ended .ensures table (At t) release blocked refl)
+    before-none table t release blocked (s .r) (m .completed .result) (m .completed .ensures table (At t))
     (s .at) (put .done-at .result) (s .out .now) (put .done-at .last .0) (put .done-at .ensures)
-    (sym (c .before .over .ensures) ∙ c .if1 .left)
+    (ends .ended .result)
+    (before-stays table Unset t release blocked (s .r) (ends .ended .result) (ends .ended .ensures table (At t) release blocked refl)
+    (sym (c .before .over .ensures) ∙ c .if1 .left))
 
 pub before-at-spec : {M : Type 1} → statement M
 before-at-spec =

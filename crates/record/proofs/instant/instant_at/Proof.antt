@@ -2,13 +2,14 @@
 use mathlib.Core.Path.{refl, _∙_}
 use mathlib.Core.List.{_++_}
 use native.Mathlib.Omega.{arith}
-use Rattle.rules.specs.Instant.{at-b}
-use Rattle.rules.specs.Apart.{whole}
+use Rattle.rules.specs.Instant.{taken, at-b}
+use Rattle.rules.specs.Apart.{whole, closes}
+use Rattle.rules.proofs.Turning.{Steps, is-g}
 use Rattle.record.specs.Types.{At}
 use Rattle.record.specs.Run.{skips-bytes}
-use Rattle.record.specs.Moments.{table-in, state-in, stage-bytes, span-bytes, closes}
+use Rattle.record.specs.Moments.{table-in, state-in, stage-bytes, span-bytes}
 use Rattle.record.proofs.Writing.{both}
-use Rattle.record.proofs.Occurring.{stage-fits, in-order, sizes, last-state}
+use Rattle.record.proofs.Occurring.{stage-fits, in-order, sizes}
 use borrow.Author.Needs.{needs}
 use Rattle.record.proofs.instant.instant_at.Statement.{statement}
 use Rattle.record.proofs.instant.instant_at.Tie as tie
@@ -59,7 +60,7 @@ same-length : tie.Need-same-length
 same-length c = c .before .before .before .before .out3 .given ∙ c .before .before .before .before .before .before .before .before .before .before .out2 .given ∙ c .before .before .before .before .before .before .before .before .before .before .before .before .before .before .before .before .before .out .given
 
 returns : tie.Need-returns
-unfolding whole
+unfolding whole taken
 returns c =
     let a = c .before .before .before .before .before .before .before .before .before .before .before .before .before .before .before .before .before .before .before .before .before .before .before .args in
     let w = c .before .before .before .before .before .before .before .before .before .before .before .before .before .before .before .before .before .before .before-at in
@@ -74,9 +75,15 @@ returns c =
     let next = whole table (At (a .t)) (y .last .1 .1 .1 .1 .1 .1 .1 .1 .1 .1 .0) (y .last .1 .1 .1 .1 .1 .1 .1 .1 .1 .1 .1 .0) (c .begun .result) in
     let skipped = skips-bytes 32 (skips .result) (a .t) in
     let span = span-bytes (closes b (a .t) (new .result) .closed) in
+    let steps : Steps d (a .t) (a .set) (new .result) (c .before .held-over .result) b left next = record {
+      b-is = w .ensures .state;
+      new-is = new .ensures;
+      f-is = y .ensures .state;
+      held-is = c .before .held-over .ensures;
+      g-is = c .begun .ensures table (At (a .t)) (y .last .1 .1 .1 .1 .1 .1 .1 .1 .1 .1 .0) (y .last .1 .1 .1 .1 .1 .1 .1 .1 .1 .1 .1 .0) refl refl refl refl;
+    } in
     record {
-      state = last-state d (a .t) (a .set) b (new .result) (skips .result) (w .ensures .state) (new .ensures) (skips .ensures) (c .before .held-over .result) left next (y .ensures .state) (c .before .held-over .ensures)
-          (c .begun .ensures table (At (a .t)) (y .last .1 .1 .1 .1 .1 .1 .1 .1 .1 .1 .0) (y .last .1 .1 .1 .1 .1 .1 .1 .1 .1 .1 .1 .0) refl refl refl refl);
+      state = is-g d (a .t) (a .set) steps;
       laid = rw (in-order d (a .t) (a .set) b (new .result) (skips .result) (w .ensures .state) (new .ensures) (skips .ensures))
           (both (a .at) (stage-bytes (at-b d (a .t))) (skipped ++ span) (a .out .now) (w .result .end) (w .last .0) (y .result .end) (y .last .0)
           (omega (arith, c .before .before .before .before .before .before .before .before .before .before .before .before .before .before .before .before .before .before .before .before .before .before .before .pre))
