@@ -1,2 +1,4 @@
 pub mod Filling
 pub mod RoundTrip
+pub mod Fitting
+pub mod FileLines

@@ -10,8 +10,10 @@ use Rattle.rules.specs.declared.Done.the-variants.{NoJob, Job}
 use Rattle.rules.specs.declared.Closing.{Closing}
 use Rattle.rules.specs.declared.Closing.the-variants.{Unclosed, BeforeReleases, AfterReleases}
 use Rattle.lines.specs.Lines.{interval-line, skipped-line, done-lines}
-use Rattle.record.specs.Run.{Moment}
-use Rattle.printing.specs.Types.{MaybeTask, NoTask, Task, JobEntry, IntervalEntry}
+use Rattle.record.specs.Files.{Releases, releases-of}
+use Rattle.record.specs.Run.{Moment, record-bytes, moments-of}
+use Rattle.printing.specs.Types.{MaybeTask, NoTask, Task, Release, JobEntry, IntervalEntry}
+use Rattle.printing.specs.Lines.{record-lines}
 
 -- ---- The lines
 
@@ -30,6 +32,13 @@ moment-lines m = let o : Occurred = m .occurred in done-lines (o .done) ++ close
 unfoldable pub moments-lines : List Moment → List ℕ
 moments-lines [] = []
 moments-lines (m ∷ ms) = moment-lines m ++ moments-lines ms
+
+-- ---- The claim
+
+-- for every input that is accepted: the lines of its record's bytes are those of its run
+unfoldable pub FilePrinted : Type 0
+FilePrinted = (s : List ℕ) (rs : List Release) → releases-of s ≡ Releases rs →
+    let ms : List Moment = moments-of s rs in record-lines (record-bytes ms) ≡ moments-lines ms
 
 -- ---- Numbers that fit their fields: a time has 8 bytes, and no task has the number that stands for none
 
