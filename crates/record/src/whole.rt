@@ -18,11 +18,6 @@ fn run_over(s: &[u8], tasks: Tasks, budget: usize, out: &mut [u8], keep: bool) -
     requires { ⌜ Room (now s) (start tasks) budget (now out) keep ⌝ }
     ensures { λ r. ⌜ Ran (now (s .entry)) (start tasks) budget (now (out .entry)) keep r (now (out .exit)) ⌝ }
 {
-    let table = tasks.table;
-    let priority = table.priority;
-    let copyin = table.copyin;
-    let execution = table.execution;
-    let copyout = table.copyout;
     let mut release = [0u64; 32];
     let mut blocked = [0u8; 32];
     let mut r = rules::empty(tasks.marked);
@@ -42,11 +37,10 @@ fn run_over(s: &[u8], tasks: Tasks, budget: usize, out: &mut [u8], keep: bool) -
             r,
             t,
             batch.set,
-            table.present,
-            &priority,
-            &copyin,
-            &execution,
-            &copyout,
+            &tasks.table.priority,
+            &tasks.table.copyin,
+            &tasks.table.execution,
+            &tasks.table.copyout,
             &mut release,
             &mut blocked,
         );
