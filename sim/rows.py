@@ -1,16 +1,17 @@
 """Small random cases with their outcomes, for a comparison by computation: runs are short on purpose.
 
-    python3 -m sim.rows SEED COUNT   prints a row a line: input bytes, then record bytes or the refusal
+    python3 -m sim.rows                prints a row a line: the input's entries, then the record's or the refusal
+    python3 -m sim.rows --check FILE   tells whether FILE is what would be printed
 """
 
 import random
 import sys
-import sys
 
 from sim.dispatcher import Dispatcher
-from sim.entries import Refused, decode, release_entry
+from sim.entries import FIELDS, INTERVAL, JOB_DONE, NO_TASK, RELEASE, SKIPPED, TASK, Refused, decode, entry_length, release_entry
 from sim.files import instant_entries, record
 from sim.generate import damage_entries, make_call, random_calls, small_length, some_tasks
+from sim.lines import OPTIONAL_TASKS
 from sim.sessions import INSTANT, MARK
 
 MOST_TASKS = 4
@@ -72,8 +73,10 @@ def call_lists(seed, count):
 
 HEADER = """\
 -- Small random files and call lists with what the simulator makes of them. Written by `python3 -m sim.rows`; not by hand.
-use mathlib.Core.List.{List, [], _∷_}
-use Rattle.plans.specs.Rows.{Row, AtInstant, ToMark, recorded, refused, answered}
+use mathlib.Core.List.{List, [], _∷_, _++_}
+use Rattle.rules.specs.declared.Call.the-variants.{Instant, Mark}
+use Rattle.plans.specs.Rows.{Row, recorded, refused, answered}
+use Rattle.plans.specs.Plans.{task, release, none, interval, job, skipped}
 
 unfoldable pub runs : List Row
 runs =
@@ -86,20 +89,46 @@ CALL_LISTS = 40
 # What stands behind a record in the slice that a row lends, so that a row sees it left alone.
 BEHIND = 2
 
+# The name of the definition that gives an entry's bytes from its fields.
+NAMES = {TASK: "task", RELEASE: "release", JOB_DONE: "job", INTERVAL: "interval", SKIPPED: "skipped"}
+
 
 def number_list(values):
     return "(" + "".join(f"{value} ∷ " for value in values) + "[])"
 
 
+def entry_term(entry):
+    kind, fields = entry[0], decode(entry)
+    if kind == RELEASE:  # a plan's release is (time, task)
+        fields = reversed(fields)
+    absent = OPTIONAL_TASKS.get(kind, ())
+    values = ("none" if value == NO_TASK and index in absent else str(value) for index, value in enumerate(fields))
+    return " ".join([NAMES[kind], *values])
+
+
+def bytes_term(data):
+    """Whole entries by their fields; what no entry begins, as after a damage, byte by byte."""
+    terms = []
+    while data and data[0] in FIELDS and len(data) >= entry_length(FIELDS[data[0]]):
+        length = entry_length(FIELDS[data[0]])
+        terms.append(entry_term(data[:length]))
+        data = data[length:]
+    if not terms:
+        return number_list(data)
+    if data:
+        terms.append(number_list(data))
+    return "(" + " ++ ".join(terms) + ")"
+
+
 def file_row(data, result):
     if result[0] == "record":
         size = len(result[1])
-        return f"recorded {number_list(data)} {number_list(result[1])} {size} {size + BEHIND}"
-    return f"refused {number_list(data)} {BEHIND} {result[1]} {result[2] or 0}"
+        return f"recorded {bytes_term(data)} {bytes_term(result[1])} {size} {size + BEHIND}"
+    return f"refused {bytes_term(data)} {BEHIND} {result[1]} {result[2] or 0}"
 
 
 def call_term(call):
-    name = {INSTANT: "AtInstant", MARK: "ToMark"}[call[0]]
+    name = {INSTANT: "Instant", MARK: "Mark"}[call[0]]
     return f"{name} {call[1]} {call[2]}"
 
 
@@ -116,7 +145,7 @@ def call_row(opening, calls):
         else:
             numbers += [0, answer.skipped] + ([] if answer.due is None else [answer.due])
             record_bytes += b"".join(instant_entries(call[1], answer))
-    return f"answered {number_list(opening)} {number_list(map(call_term, calls))} {number_list(numbers)} {number_list(record_bytes)}"
+    return f"answered {bytes_term(opening)} {number_list(map(call_term, calls))} {number_list(numbers)} {bytes_term(record_bytes)}"
 
 
 def antt():

@@ -3,9 +3,9 @@
 import unittest
 
 from sim.dispatcher import Answer, Dispatcher
-from sim.entries import Refused
-from sim.files import read_file, record
-from sim.rows import MOST_RELEASES, MOST_TASKS, answer_of, call_lists, file_row, rows
+from sim.entries import INTERVAL, NO_TASK, SKIPPED, Refused, encode, release_entry, task_entry
+from sim.files import job_entry, read_file, record
+from sim.rows import MOST_RELEASES, MOST_TASKS, answer_of, bytes_term, call_lists, file_row, rows
 
 
 class Rows(unittest.TestCase):
@@ -38,6 +38,18 @@ class Rows(unittest.TestCase):
 
     def test_a_file_that_runs_is_written_with_its_record_and_the_bytes_behind_it(self):
         self.assertEqual(file_row(b"\1\2", ("record", b"\3")), "recorded (1 ∷ 2 ∷ []) (3 ∷ []) 1 3")
+
+    def test_whole_entries_are_written_by_their_fields(self):
+        self.assertEqual(bytes_term(task_entry(1, 2, 0, 3, 4, 256) + release_entry(300, 1)), "(task 1 2 0 3 4 256 ++ release 300 1)")
+        interval = encode(INTERVAL, 2, 7, 1, 3, 1, NO_TASK, 2, 2, 1)
+        written = job_entry((3, 0, 2, 9, 0)) + interval + encode(SKIPPED, 1, 5)
+        self.assertEqual(bytes_term(written), "(job 3 0 2 9 0 ++ interval 2 7 1 3 1 none 2 2 1 ++ skipped 1 5)")
+
+    def test_what_no_entry_begins_is_written_byte_by_byte(self):
+        whole = release_entry(0, 1)
+        self.assertEqual(bytes_term(whole + whole[:3]), "(release 0 1 ++ (2 ∷ 1 ∷ 0 ∷ []))")
+        self.assertEqual(bytes_term(b"\7" + whole[:1]), "(7 ∷ 2 ∷ [])")
+        self.assertEqual(bytes_term(b""), "([])")
 
     def test_a_refusal_is_written_with_its_number_and_place(self):
         self.assertEqual(file_row(b"\7", ("refused", 2, 0)), "refused (7 ∷ []) 2 2 0")

@@ -1,3 +1,3 @@
 pub mod Types
-pub mod Reading
+pub mod Dispatcher
 pub mod Promises

@@ -1,32 +1,31 @@
--- What each part of an instant promises: read back, its outcome is that of the rules, whatever stands in the parts that it is not handed.
-use Rattle.dispatcher.specs.Types.{List, ℕ, _≡_, Table, Clock, At, State, Registers, Tested, Turned}
-use Rattle.rules.specs.Instant.{at-b, at-g, occurred}
+-- What each part of an instant promises: read back, its outcome is that of the rules, whatever stands in the memory that it is not handed.
+use Rattle.dispatcher.specs.Types.{List, ℕ, _≡_, Clock, State, Registers, Tested, Stepped}
+use Rattle.rules.specs.Instant.{steps-c-to-f, at-b, at-g, occurred}
 use Rattle.rules.specs.Calls.{refusal}
-use Rattle.rules.specs.Apart.{phase-in, whole, closes}
+use Rattle.rules.specs.Registers.{phase-in, Arrays, Memory, with-arrays, with-counts, at-tick, state-in}
 use Rattle.rules.specs.Steps.{TestedTo}
 
 abbrev pub Refuses : ℕ → Clock → Registers → ℕ → ℕ → ℕ → Type 0
 Refuses present clock r t set x = (d : State) → d .table .present ≡ present → d .clock ≡ clock → d .phase ≡ phase-in r → x ≡ refusal d t set
 
 -- steps a and b
-abbrev pub TestsBefore : Registers → ℕ → List ℕ → List ℕ → List ℕ → List ℕ → Tested → Type 0
-TestsBefore r t priority execution blocked blocked-after x =
-    (table : Table) (clock : Clock) (release : List ℕ) → table .priority ≡ priority → table .execution ≡ execution
-    → TestedTo (at-b (whole table clock release blocked r) t) table (At t) release blocked-after (x .registers) (x .closed)
+abbrev pub StepsAB : Registers → ℕ → List ℕ → List ℕ → List ℕ → List ℕ → Tested → Type 0
+StepsAB r t priority columns before after x =
+    (m : Memory) → m .table .priority ≡ priority → m .table .columns ≡ columns
+    → TestedTo (at-b (state-in (with-counts m before) r) t) (with-counts (at-tick m t) after) (x .registers) (x .closed)
 
 -- steps c to f
-abbrev pub TestsAfter : Registers → ℕ → ℕ → List ℕ → List ℕ → List ℕ → List ℕ → List ℕ → List ℕ → Tested → Type 0
-TestsAfter r t new priority copyin release blocked release-after blocked-after x =
-    (table : Table) (clock : Clock) → table .priority ≡ priority → table .copyin ≡ copyin
-    → TestedTo (closes (whole table clock release blocked r) t new) table clock release-after blocked-after (x .registers) (x .closed)
+abbrev pub StepsCToF : Registers → ℕ → ℕ → List ℕ → List ℕ → Arrays → Arrays → Tested → Type 0
+StepsCToF r t new priority columns before after x =
+    (m : Memory) → m .table .priority ≡ priority → m .table .columns ≡ columns
+    → TestedTo (steps-c-to-f (state-in (with-arrays m before) r) t new) (with-arrays m after) (x .registers) (x .closed)
 
 -- steps a to g
-pub record TurnedTo (d : State) (t set : ℕ) (table : Table) (release blocked : List ℕ) (x : Turned) : Type 0 where
-  pub state : whole table (At t) release blocked (x .registers) ≡ at-g d t set
+pub record SteppedTo (d : State) (t set : ℕ) (m : Memory) (x : Stepped) : Type 0 where
+  pub state : state-in (at-tick m t) (x .registers) ≡ at-g d t set
   pub occurs : x .occurred ≡ occurred d t set
 
-abbrev pub Turns : Registers → ℕ → ℕ → List ℕ → List ℕ → List ℕ → List ℕ → List ℕ → List ℕ → List ℕ → List ℕ → Turned → Type 0
-Turns r t set priority copyin execution copyout release blocked release-after blocked-after x =
-    (table : Table) (clock : Clock)
-    → table .priority ≡ priority → table .copyin ≡ copyin → table .execution ≡ execution → table .copyout ≡ copyout
-    → TurnedTo (whole table clock release blocked r) t set table release-after blocked-after x
+abbrev pub StepsAToG : Registers → ℕ → ℕ → List ℕ → List ℕ → Arrays → Arrays → Stepped → Type 0
+StepsAToG r t set priority columns before after x =
+    (m : Memory) → m .table .priority ≡ priority → m .table .columns ≡ columns
+    → SteppedTo (state-in (with-arrays m before) r) t set (with-arrays m after) x

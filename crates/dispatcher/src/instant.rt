@@ -1,8 +1,8 @@
 // An instant, with its refusals in their order. A refused call hands the state back as it was.
 use crate::Dispatcher;
 use crate::Step;
+use crate::Stepped;
 use crate::Tested;
-use crate::Turned;
 use rules::Answer;
 use rules::Clock;
 use rules::Closed;
@@ -19,16 +19,18 @@ use rules::due_time;
 use rules::ended;
 use rules::held_over;
 use rules::interval_entry;
-use rules::over;
+use rules::is_over;
 use rules::promoted;
-use rules::released;
+use rules::steps_c_d;
+use table::Columns;
 ghost use mathlib.Core.Path.{_≡_};
 ghost use mathlib.Core.Bool.{not, _&&_};
 ghost use lib.Dec.{eqb, ltb};
 ghost use Rattle.rules.specs.Calls as calls;
 ghost use Rattle.rules.specs.Instant as instant;
-ghost use Rattle.dispatcher.specs.Reading.{state-of, step-of, Answers};
-ghost use Rattle.dispatcher.specs.Promises.{Refuses, TestsBefore, TestsAfter, Turns};
+ghost use Rattle.rules.specs.Registers.{arrays};
+ghost use Rattle.dispatcher.specs.Dispatcher.{state-of, step-of, Answers};
+ghost use Rattle.dispatcher.specs.Promises.{Refuses, StepsAB, StepsCToF, StepsAToG};
 
 fn not_after(clock: Clock, t: u64) -> bool
     ensures { λ r. ⌜ r ≡ calls.not-after clock t ⌝ }
@@ -91,17 +93,17 @@ fn closing(before: Closed, after: Closed) -> Closing
 }
 
 // Steps a and b: what is left, and the interval that ends before the releases.
-fn before(
+fn steps_a_b(
     r: Registers,
     t: u64,
     priority: &[u8; 32],
-    execution: &[u32; 32],
+    columns: &Columns,
     blocked: &mut [u8; 32],
 ) -> Tested
-    ensures { λ x. ⌜ TestsBefore r t (now (priority .entry)) (now (execution .entry)) (now (blocked .entry)) (now (blocked .exit)) x ⌝ }
+    ensures { λ x. ⌜ StepsAB r t (now (priority .entry)) (now (columns .entry)) (now (blocked .entry)) (now (blocked .exit)) x ⌝ }
 {
-    let a = ended(r, t, execution);
-    if over(a) {
+    let a = ended(r, t, columns);
+    if is_over(a) {
         let p = promoted(a, priority);
         count_blocked(a, priority, blocked);
         return Tested {
@@ -116,20 +118,20 @@ fn before(
 }
 
 // Steps c to f, with the tasks whose release is taken: what is left, and the interval that ends after the releases.
-fn after(
+fn steps_c_to_f(
     r: Registers,
     t: u64,
     new: u32,
     priority: &[u8; 32],
-    copyin: &[u32; 32],
+    columns: &Columns,
     release: &mut [u64; 32],
     blocked: &mut [u8; 32],
 ) -> Tested
-    ensures { λ x. ⌜ TestsAfter r t new (now (priority .entry)) (now (copyin .entry)) (now (release .entry)) (now (blocked .entry)) (now (release .exit)) (now (blocked .exit)) x ⌝ }
+    ensures { λ x. ⌜ StepsCToF r t new (now (priority .entry)) (now (columns .entry)) (arrays (now (release .entry)) (now (blocked .entry))) (arrays (now (release .exit)) (now (blocked .exit))) x ⌝ }
 {
-    let d = released(r, t, new, priority, release, blocked);
-    let e = chosen(d, t, priority, copyin);
-    if over(e) {
+    let d = steps_c_d(r, t, new, priority, release, blocked);
+    let e = chosen(d, t, priority, columns);
+    if is_over(e) {
         let p = promoted(e, priority);
         count_blocked(e, priority, blocked);
         return Tested {
@@ -143,38 +145,36 @@ fn after(
     }
 }
 
-// Steps a to g, over the parts. The arrays of the table are lent together, and so for one lifetime.
-fn turn<'a>(
+// Steps a to g, over the registers. The table's arrays are lent together, and so for one lifetime.
+fn steps_a_to_g<'a>(
     r: Registers,
     t: u64,
     set: u32,
     priority: &'a [u8; 32],
-    copyin: &'a [u32; 32],
-    execution: &'a [u32; 32],
-    copyout: &'a [u32; 32],
+    columns: &'a Columns,
     release: &mut [u64; 32],
     blocked: &mut [u8; 32],
-) -> Turned
-    ensures { λ x. ⌜ Turns r t set (now (priority .entry)) (now (copyin .entry)) (now (execution .entry)) (now (copyout .entry)) (now (release .entry)) (now (blocked .entry)) (now (release .exit)) (now (blocked .exit)) x ⌝ }
+) -> Stepped
+    ensures { λ x. ⌜ StepsAToG r t set (now (priority .entry)) (now (columns .entry)) (arrays (now (release .entry)) (now (blocked .entry))) (arrays (now (release .exit)) (now (blocked .exit))) x ⌝ }
 {
     let done = completed(r, t, release, blocked);
-    let b = before(r, t, priority, execution, blocked);
+    let b = steps_a_b(r, t, priority, columns, blocked);
     let first = b.closed;
     let open = b.registers;
     let new = sets::difference(set, open.pending);
     let skipped = sets::intersection(set, open.pending);
-    let f = after(open, t, new, priority, copyin, release, blocked);
+    let f = steps_c_to_f(open, t, new, priority, columns, release, blocked);
     let last = f.closed;
     let left = f.registers;
     let held = held_over(open, new);
-    let registers = begun(left, t, held, priority, copyin, execution, copyout);
+    let registers = begun(left, t, held, priority, columns);
     let occurred = Occurred {
         done,
         closed: closing(first, last),
         skipped,
         due: due_time(registers),
     };
-    Turned {
+    Stepped {
         registers,
         occurred,
     }
@@ -186,14 +186,12 @@ fn served(d: Dispatcher, t: u64, set: u32) -> Step
 {
     let mut release = d.release;
     let mut blocked = d.blocked;
-    let x = turn(
+    let x = steps_a_to_g(
         d.registers,
         t,
         set,
         &d.table.priority,
-        &d.table.copyin,
-        &d.table.execution,
-        &d.table.copyout,
+        &d.table.columns,
         &mut release,
         &mut blocked,
     );

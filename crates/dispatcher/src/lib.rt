@@ -13,7 +13,7 @@ use rules::Registers;
 use table::Refusal;
 use table::Table;
 
-// The state of the rules as an instant has it: the two arrays by task stand beside the registers, so that nothing is taken apart or put
+// The state of the rules as an instant has it: the arrays by task stand beside the registers, so that nothing is taken apart or put
 // together from call to call.
 pub struct Dispatcher {
     pub table: Table,
@@ -30,7 +30,7 @@ pub struct Tested {
 }
 
 // After steps a to g: what is left, and what occurred.
-pub struct Turned {
+pub struct Stepped {
     pub registers: Registers,
     pub occurred: Occurred,
 }

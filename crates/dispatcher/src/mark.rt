@@ -5,7 +5,7 @@ use rules::MarkAnswer;
 use rules::Registers;
 ghost use mathlib.Core.Path.{_≡_};
 ghost use Rattle.rules.specs.Calls as calls;
-ghost use Rattle.dispatcher.specs.Reading.{state-of, MarkAnswers};
+ghost use Rattle.dispatcher.specs.Dispatcher.{state-of, MarkAnswers};
 
 // 16, 6, 17, in this order; 0 is none.
 fn mark_refusal(d: Dispatcher, task: u8, mark: u8) -> u8

@@ -6,7 +6,7 @@ use table::Refusal;
 use table::Table;
 ghost use mathlib.Core.Path.{_≡_};
 ghost use Rattle.rules.specs.Calls as calls;
-ghost use Rattle.dispatcher.specs.Reading.{state-of, opening-of};
+ghost use Rattle.dispatcher.specs.Dispatcher.{state-of, opening-of};
 
 // No task has a job, and the first interval gives the processor half 0.
 pub fn opened(table: Table, marked: u32) -> Dispatcher

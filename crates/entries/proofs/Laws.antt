@@ -8,7 +8,7 @@ use borrow.Author.Tests.{le-leb, lt-leb}
 use lib.ListN.{length, take, drop, length-append, length-drop, take-append-drop}
 use lib.Seq.{length-take-le, take-append-seam, drop-append-add, drop-drop}
 use Rattle.words.specs.Words.{bytesOf, written}
-use Rattle.words.specs.Laws.{lent, written-whole, length-bytes}
+use Rattle.words.proofs.Laws.{lent, written-whole, length-bytes}
 use Rattle.entries.specs.Entries.{laid, Put}
 
 -- a slice whose front is so, and whose rest is what stood there

@@ -1,1 +1,4 @@
 pub mod Laws
+pub mod Places
+pub mod Front
+pub mod RoundTrip

@@ -6,7 +6,7 @@ use lib.Dec.{eqb, leb}
 use mathlib.Core.Path.{_≡_}
 use lib.ListN.{length, take, drop}
 use Rattle.words.specs.Words.{bytesOf, numberAt}
-use Rattle.entries.specs.Types.{MaybeTask, NoTask, Task, TaskParameters, Release, Entry, Malformed, TaskEntry, ReleaseEntry, JobEntry, IntervalEntry}
+use Rattle.entries.specs.Types.{MaybeTask, NoTask, Task, TaskParameters, Release, Entry, Malformed, TaskEntry, ReleaseEntry, JobEntry, IntervalEntry, RecordEntry, MalformedRecord, JobDone, IntervalEnded, ReleaseSkipped}
 
 -- the length of an entry of each kind, its kind byte included; 0 for what is no kind
 abbrev pub size : ℕ → ℕ
@@ -42,7 +42,7 @@ entry-at s at =
     (cond (eqb kind 2) (cond (leb (size 2) (length s - at)) (ReleaseEntry (release-at s at)) (Malformed 1))
     (Malformed 2))
 
--- ---- The entries of the record
+-- ---- An entry of the record, written
 
 -- 255 is "no task"
 abbrev pub task-byte : MaybeTask → ℕ
@@ -65,6 +65,50 @@ interval-bytes e = 17 ∷ (bytesOf 8 (e .begin) ++ (bytesOf 8 (e .end) ++ choice
 -- kind 18: task (1), time (8)
 unfoldable pub skipped-bytes : ℕ → ℕ → List ℕ
 skipped-bytes n t = 18 ∷ n ∷ bytesOf 8 t
+
+-- ---- An entry of the record, taken apart: each field at its place behind the kind byte, as it is written above
+
+unfoldable pub task-of : ℕ → MaybeTask
+task-of b = cond (eqb b 255) NoTask (Task b)
+
+unfoldable pub job-at : List ℕ → ℕ → JobEntry
+job-at s at = record {
+  task = numberAt 1 s (at + 1);
+  release = numberAt 8 s (at + 2);
+  start = numberAt 8 s (at + 10);
+  completion = numberAt 8 s (at + 18);
+  blocked = numberAt 1 s (at + 26);
+}
+
+unfoldable pub interval-at : List ℕ → ℕ → IntervalEntry
+interval-at s at = record {
+  begin = numberAt 8 s (at + 1);
+  end = numberAt 8 s (at + 9);
+  half = numberAt 1 s (at + 17);
+  task = task-of (numberAt 1 s (at + 18));
+  work = numberAt 1 s (at + 19);
+  copiedout = task-of (numberAt 1 s (at + 20));
+  chosen = task-of (numberAt 1 s (at + 21));
+  fate = numberAt 1 s (at + 22);
+  promoted = task-of (numberAt 1 s (at + 23));
+}
+
+-- the entry whose kind byte is at a place: 2 where the kind is not 16 to 18, as at the end of the bytes and behind it, then 1 where the
+-- entry is cut short; kind 18 has the body of a release
+unfoldable pub record-entry-at : List ℕ → ℕ → RecordEntry
+record-entry-at s at =
+    let kind : ℕ = numberAt 1 s at in
+    cond (eqb kind 16) (cond (leb (size 16) (length s - at)) (JobDone (job-at s at)) (MalformedRecord 1))
+    (cond (eqb kind 17) (cond (leb (size 17) (length s - at)) (IntervalEnded (interval-at s at)) (MalformedRecord 1))
+    (cond (eqb kind 18) (cond (leb (size 18) (length s - at)) (ReleaseSkipped (release-at s at)) (MalformedRecord 1))
+    (MalformedRecord 2)))
+
+-- its length: 0 where it is refused
+abbrev pub record-entry-size : RecordEntry → ℕ
+record-entry-size (MalformedRecord n) = 0
+record-entry-size (JobDone e) = size 16
+record-entry-size (IntervalEnded e) = size 17
+record-entry-size (ReleaseSkipped e) = size 18
 
 -- ---- An entry written into the front of a lent slice: all of it, or nothing where it does not fit
 

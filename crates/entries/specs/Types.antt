@@ -7,3 +7,5 @@ pub use Rattle.entries.specs.declared.Entry.{Entry}
 pub use Rattle.entries.specs.declared.Entry.the-variants.{Malformed, TaskEntry, ReleaseEntry}
 pub use Rattle.entries.specs.declared.JobEntry.{JobEntry}
 pub use Rattle.entries.specs.declared.IntervalEntry.{IntervalEntry}
+pub use Rattle.entries.specs.declared.RecordEntry.{RecordEntry}
+pub use Rattle.entries.specs.declared.RecordEntry.the-variants.{MalformedRecord, JobDone, IntervalEnded, ReleaseSkipped}

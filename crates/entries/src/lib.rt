@@ -1,4 +1,4 @@
-// The wire format: the entries of an input and of a record.
+// The wire format: the entries of an input and of a record, written and taken apart.
 ghost use mathlib.Core.Path.{_≡_};
 ghost use mathlib.Core.List.{[], _∷_};
 ghost use Prim.Native.Nat.{_+_, _≤_};
@@ -7,7 +7,78 @@ ghost use Rattle.entries.specs.Entries as entries;
 ghost use Rattle.entries.specs.Entries.{Put, laid};
 ghost use Rattle.words.specs.Words.{bytesOf};
 
-// A task's number, or none, which is byte 255 in an entry.
+// An entry's first byte is its kind.
+pub const TASK_KIND: u8 = 1;
+
+pub const RELEASE_KIND: u8 = 2;
+
+pub const JOB_KIND: u8 = 16;
+
+pub const INTERVAL_KIND: u8 = 17;
+
+pub const SKIPPED_KIND: u8 = 18;
+
+// An entry's length, its kind byte included.
+pub const TASK_SIZE: usize = 16;
+
+pub const RELEASE_SIZE: usize = 10;
+
+pub const JOB_SIZE: usize = 27;
+
+pub const INTERVAL_SIZE: usize = 24;
+
+pub const SKIPPED_SIZE: usize = 10;
+
+// The byte for "no task".
+pub const NO_TASK: u8 = 255;
+
+// The places of an entry's fields, the kind byte at 0: one list for what is written and what is taken apart.
+const TASK_NUMBER: usize = 1;
+
+const TASK_PRIORITY: usize = 2;
+
+const TASK_MARK: usize = 3;
+
+const TASK_COPYIN: usize = 4;
+
+const TASK_EXECUTION: usize = 8;
+
+const TASK_COPYOUT: usize = 12;
+
+// Of a release, and of a release skipped.
+const RELEASE_TASK: usize = 1;
+
+const RELEASE_TIME: usize = 2;
+
+const JOB_TASK: usize = 1;
+
+const JOB_RELEASE: usize = 2;
+
+const JOB_START: usize = 10;
+
+const JOB_COMPLETION: usize = 18;
+
+const JOB_BLOCKED: usize = 26;
+
+const INTERVAL_BEGIN: usize = 1;
+
+const INTERVAL_END: usize = 9;
+
+const INTERVAL_HALF: usize = 17;
+
+const INTERVAL_TASK: usize = 18;
+
+const INTERVAL_WORK: usize = 19;
+
+const INTERVAL_COPIEDOUT: usize = 20;
+
+const INTERVAL_CHOSEN: usize = 21;
+
+const INTERVAL_FATE: usize = 22;
+
+const INTERVAL_PROMOTED: usize = 23;
+
+// A task's number, or none.
 pub enum MaybeTask {
     NoTask,
     Task(u8),
@@ -58,33 +129,41 @@ pub struct IntervalEntry {
     pub promoted: MaybeTask,
 }
 
+// An entry of a record taken apart, or the number by which it is refused. Kind 18 is a release that was skipped.
+pub enum RecordEntry {
+    MalformedRecord(u8),
+    JobDone(JobEntry),
+    IntervalEnded(IntervalEntry),
+    ReleaseSkipped(Release),
+}
+
 // The task of the entry at the front. One test of the slice's length, by the caller, serves all its bytes.
 fn front_task(rest: &[u8]) -> TaskParameters
-    requires { ⌜ 16 ≤ length (now rest) ⌝ }
+    requires { ⌜ entries.size 1 ≤ length (now rest) ⌝ }
     ensures { λ r. ⌜ r ≡ entries.task-at (now (rest .entry)) 0 ⌝ }
 {
     TaskParameters {
-        number: words::get_u8(rest, 1),
-        priority: words::get_u8(rest, 2),
-        mark: words::get_u8(rest, 3),
-        copyin: words::get_u32(rest, 4),
-        execution: words::get_u32(rest, 8),
-        copyout: words::get_u32(rest, 12),
+        number: words::get_u8(rest, TASK_NUMBER),
+        priority: words::get_u8(rest, TASK_PRIORITY),
+        mark: words::get_u8(rest, TASK_MARK),
+        copyin: words::get_u32(rest, TASK_COPYIN),
+        execution: words::get_u32(rest, TASK_EXECUTION),
+        copyout: words::get_u32(rest, TASK_COPYOUT),
     }
 }
 
-// The release of the entry at the front.
+// The release of the entry at the front, also where it was skipped.
 fn front_release(rest: &[u8]) -> Release
-    requires { ⌜ 10 ≤ length (now rest) ⌝ }
+    requires { ⌜ entries.size 2 ≤ length (now rest) ⌝ }
     ensures { λ r. ⌜ r ≡ entries.release-at (now (rest .entry)) 0 ⌝ }
 {
     Release {
-        task: words::get_u8(rest, 1),
-        time: words::get_u64(rest, 2),
+        task: words::get_u8(rest, RELEASE_TASK),
+        time: words::get_u64(rest, RELEASE_TIME),
     }
 }
 
-// The entry whose kind byte is at `at`: 2 where the kind is not 1 or 2, then 1 where the entry is cut short.
+// The entry of an input whose kind byte is at `at`: 2 where the kind is not 1 or 2, then 1 where the entry is cut short.
 pub fn entry_at(s: &[u8], at: usize) -> Entry
     ensures { λ r. ⌜ r ≡ entries.entry-at (now (s .entry)) at ⌝ }
 {
@@ -93,14 +172,14 @@ pub fn entry_at(s: &[u8], at: usize) -> Entry
     }
     let rest = &s[at..];
     let kind = words::get_u8(rest, 0);
-    if kind == 1 {
-        if 16 <= rest.len() {
+    if kind == TASK_KIND {
+        if TASK_SIZE <= rest.len() {
             return Entry::TaskEntry(front_task(rest));
         }
         return Entry::Malformed(1);
     }
-    if kind == 2 {
-        if 10 <= rest.len() {
+    if kind == RELEASE_KIND {
+        if RELEASE_SIZE <= rest.len() {
             return Entry::ReleaseEntry(front_release(rest));
         }
         return Entry::Malformed(1);
@@ -108,12 +187,97 @@ pub fn entry_at(s: &[u8], at: usize) -> Entry
     Entry::Malformed(2)
 }
 
-// The byte of a task that may be there: 255 is "no task".
+// The task that a byte names.
+fn task_of(b: u8) -> MaybeTask
+    ensures { λ r. ⌜ r ≡ entries.task-of b ⌝ }
+{
+    if b == NO_TASK {
+        MaybeTask::NoTask
+    } else {
+        MaybeTask::Task(b)
+    }
+}
+
+// The job of the entry at the front.
+fn front_job(rest: &[u8]) -> JobEntry
+    requires { ⌜ entries.size 16 ≤ length (now rest) ⌝ }
+    ensures { λ r. ⌜ r ≡ entries.job-at (now (rest .entry)) 0 ⌝ }
+{
+    JobEntry {
+        task: words::get_u8(rest, JOB_TASK),
+        release: words::get_u64(rest, JOB_RELEASE),
+        start: words::get_u64(rest, JOB_START),
+        completion: words::get_u64(rest, JOB_COMPLETION),
+        blocked: words::get_u8(rest, JOB_BLOCKED),
+    }
+}
+
+// The interval of the entry at the front.
+fn front_interval(rest: &[u8]) -> IntervalEntry
+    requires { ⌜ entries.size 17 ≤ length (now rest) ⌝ }
+    ensures { λ r. ⌜ r ≡ entries.interval-at (now (rest .entry)) 0 ⌝ }
+{
+    IntervalEntry {
+        begin: words::get_u64(rest, INTERVAL_BEGIN),
+        end: words::get_u64(rest, INTERVAL_END),
+        half: words::get_u8(rest, INTERVAL_HALF),
+        task: task_of(words::get_u8(rest, INTERVAL_TASK)),
+        work: words::get_u8(rest, INTERVAL_WORK),
+        copiedout: task_of(words::get_u8(rest, INTERVAL_COPIEDOUT)),
+        chosen: task_of(words::get_u8(rest, INTERVAL_CHOSEN)),
+        fate: words::get_u8(rest, INTERVAL_FATE),
+        promoted: task_of(words::get_u8(rest, INTERVAL_PROMOTED)),
+    }
+}
+
+// The entry of a record whose kind byte is at `at`: 2 where the kind is not 16 to 18, then 1 where the entry is cut short.
+pub fn record_entry_at(s: &[u8], at: usize) -> RecordEntry
+    ensures { λ r. ⌜ r ≡ entries.record-entry-at (now (s .entry)) at ⌝ }
+{
+    if s.len() < at {
+        return RecordEntry::MalformedRecord(2);
+    }
+    let rest = &s[at..];
+    let kind = words::get_u8(rest, 0);
+    if kind == JOB_KIND {
+        if JOB_SIZE <= rest.len() {
+            return RecordEntry::JobDone(front_job(rest));
+        }
+        return RecordEntry::MalformedRecord(1);
+    }
+    if kind == INTERVAL_KIND {
+        if INTERVAL_SIZE <= rest.len() {
+            return RecordEntry::IntervalEnded(front_interval(rest));
+        }
+        return RecordEntry::MalformedRecord(1);
+    }
+    if kind == SKIPPED_KIND {
+        if SKIPPED_SIZE <= rest.len() {
+            return RecordEntry::ReleaseSkipped(front_release(rest));
+        }
+        return RecordEntry::MalformedRecord(1);
+    }
+    RecordEntry::MalformedRecord(2)
+}
+
+// The length of an entry of a record: none of one that is refused.
+pub fn record_entry_size(e: RecordEntry) -> usize
+    ensures { λ r. ⌜ r ≡ entries.record-entry-size e ⌝ }
+{
+    match e {
+        RecordEntry::MalformedRecord(_) => 0,
+        RecordEntry::JobDone(_) => JOB_SIZE,
+        RecordEntry::IntervalEnded(_) => INTERVAL_SIZE,
+        RecordEntry::ReleaseSkipped(_) => SKIPPED_SIZE,
+    }
+}
+
+// The byte of a task that may be there.
 fn task_byte(t: MaybeTask) -> u8
     ensures { λ r. ⌜ r ≡ entries.task-byte t ⌝ }
 {
     match t {
-        MaybeTask::NoTask => 255,
+        MaybeTask::NoTask => NO_TASK,
         MaybeTask::Task(n) => n,
     }
 }
@@ -138,59 +302,59 @@ fn put_time(out: &mut [u8], at: usize, v: u64)
 pub fn put_skipped(out: &mut [u8], task: u8, time: u64) -> usize
     ensures { λ r. ⌜ Put (entries.skipped-bytes task time) (now (out .entry)) r (now (out .exit)) ⌝ }
 {
-    if out.len() < 10 {
+    if out.len() < SKIPPED_SIZE {
         return 0;
     }
-    put_byte(out, 0, 18);
-    put_byte(out, 1, task);
-    put_time(out, 2, time);
-    10
+    put_byte(out, 0, SKIPPED_KIND);
+    put_byte(out, RELEASE_TASK, task);
+    put_time(out, RELEASE_TIME, time);
+    SKIPPED_SIZE
 }
 
 // Kind 16.
 pub fn put_job(out: &mut [u8], e: JobEntry) -> usize
     ensures { λ r. ⌜ Put (entries.job-bytes e) (now (out .entry)) r (now (out .exit)) ⌝ }
 {
-    if out.len() < 27 {
+    if out.len() < JOB_SIZE {
         return 0;
     }
-    put_byte(out, 0, 16);
-    put_byte(out, 1, e.task);
-    put_time(out, 2, e.release);
-    put_time(out, 10, e.start);
-    put_time(out, 18, e.completion);
-    put_byte(out, 26, e.blocked);
-    27
+    put_byte(out, 0, JOB_KIND);
+    put_byte(out, JOB_TASK, e.task);
+    put_time(out, JOB_RELEASE, e.release);
+    put_time(out, JOB_START, e.start);
+    put_time(out, JOB_COMPLETION, e.completion);
+    put_byte(out, JOB_BLOCKED, e.blocked);
+    JOB_SIZE
 }
 
 // The last seven bytes of kind 17.
 fn put_choices(out: &mut [u8], e: IntervalEntry)
-    requires { ⌜ 24 ≤ length (now out) ⌝ }
+    requires { ⌜ entries.size 17 ≤ length (now out) ⌝ }
     ensures { λ r. ⌜ now (out .exit) ≡ laid 17 (entries.choice-bytes e) (now (out .entry)) ⌝ }
 {
     let task = e.task;
     let copiedout = e.copiedout;
     let chosen = e.chosen;
     let promoted = e.promoted;
-    put_byte(out, 17, e.half);
-    put_byte(out, 18, task_byte(task));
-    put_byte(out, 19, e.work);
-    put_byte(out, 20, task_byte(copiedout));
-    put_byte(out, 21, task_byte(chosen));
-    put_byte(out, 22, e.fate);
-    put_byte(out, 23, task_byte(promoted));
+    put_byte(out, INTERVAL_HALF, e.half);
+    put_byte(out, INTERVAL_TASK, task_byte(task));
+    put_byte(out, INTERVAL_WORK, e.work);
+    put_byte(out, INTERVAL_COPIEDOUT, task_byte(copiedout));
+    put_byte(out, INTERVAL_CHOSEN, task_byte(chosen));
+    put_byte(out, INTERVAL_FATE, e.fate);
+    put_byte(out, INTERVAL_PROMOTED, task_byte(promoted));
 }
 
 // Kind 17.
 pub fn put_interval(out: &mut [u8], e: IntervalEntry) -> usize
     ensures { λ r. ⌜ Put (entries.interval-bytes e) (now (out .entry)) r (now (out .exit)) ⌝ }
 {
-    if out.len() < 24 {
+    if out.len() < INTERVAL_SIZE {
         return 0;
     }
-    put_byte(out, 0, 17);
-    put_time(out, 1, e.begin);
-    put_time(out, 9, e.end);
+    put_byte(out, 0, INTERVAL_KIND);
+    put_time(out, INTERVAL_BEGIN, e.begin);
+    put_time(out, INTERVAL_END, e.end);
     put_choices(out, e);
-    24
+    INTERVAL_SIZE
 }

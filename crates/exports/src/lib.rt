@@ -1,13 +1,13 @@
 // The record function for programs in C and Rust: slices and numbers, and no type of this repository.
 use record::Outcome;
 ghost use mathlib.Core.Path.{_≡_};
-ghost use Rattle.record.specs.Run.{file, outcome-number, outcome-value};
+ghost use Rattle.record.specs.Writing.{file, outcome-number, outcome-value};
 
 fn number(outcome: Outcome) -> u8
     ensures { λ r. ⌜ r ≡ outcome-number outcome ⌝ }
 {
     match outcome {
-        Outcome::RefusedInput(refusal) => lines::number_of(refusal),
+        Outcome::RefusedInput(refusal) => table::number_of(refusal),
         Outcome::TooShort(_) => 13,
         Outcome::Recorded(_) => 0,
     }
@@ -17,14 +17,15 @@ fn value(outcome: Outcome) -> usize
     ensures { λ r. ⌜ r ≡ outcome-value outcome ⌝ }
 {
     match outcome {
-        Outcome::RefusedInput(refusal) => lines::place_of(refusal),
+        Outcome::RefusedInput(refusal) => table::place_of(refusal),
         Outcome::TooShort(needed) => needed,
         Outcome::Recorded(size) => size,
     }
 }
 
 // The record of `input` in the front of `out`. The answer is the number of the refusal, 0 where there is none; what `told` holds then is the
-// record's length, the length needed with 13, or the place of the entry that is refused. Nothing is asked of a caller.
+// record's length, the length needed with 13, or the place of the entry that is refused. Nothing is asked of the bytes. That the
+// three are live and apart from each other, which a reference is by itself, a caller in C sees to (link/gateway.h).
 #[no_mangle]
 pub extern "C" fn gateway_record(input: &[u8], out: &mut [u8], told: &mut usize) -> u8
     ensures { λ r. ⌜ r ≡ outcome-number (file (now (input .entry)) (now (out .entry)) .outcome) ⌝ }

@@ -1,21 +1,22 @@
 -- Every state that calls made names tasks of the table alone, and no time and no count of it comes near the end of its type.
-use Rattle.guarantees.specs.Types.{_≡_, refl, sym, ap, _∙_, subst, List, _⊎_, inl, inr, ℕ, _+_, _≤_, _<_, min, Table, Jobs, NoneNext, NoneOutgoing, Phase, Between, State, Due, Never, Tick}
+use Rattle.guarantees.specs.Types.{_≡_, refl, sym, ap, _∙_, subst, List, _⊎_, inl, inr, ℕ, _+_, _≤_, _<_, min, Table, Jobs, NoneNext, NoneOutgoing, Phase, Between, State, Due, Never, Tick, Call}
 use native.Mathlib.Omega.{arith}
 use mathlib.Core.Path.{ap₂}
 use borrow.Author.Tests.{eqb-true, eq-eqb, leb-true, leb-false}
 use lib.Dec.{eqb, leb}
 use lib.ListN.{getD}
+use Rattle.table.specs.Table.{copyin-length, execution-length, copyout-length}
 use Rattle.sets.specs.Sets.{member, below, collect, union, difference}
-use Rattle.sets.specs.Laws.{by-test, member-task}
+use Rattle.sets.proofs.Laws.{by-test, member-task}
 use Rattle.rules.specs.With.{with-jobs, with-phase, at-clock, later}
 use Rattle.rules.specs.Instant.{step-a, step-b, step-c, step-d, step-e, step-g, taken, with-candidates, due, at-a, at-b, at-e, at-f, at-g, new-at}
 use Rattle.rules.specs.Calls.{opened, opening, refusal}
 use Rattle.rules.proofs.ByTask.{stamped-none}
-use Rattle.guarantees.specs.History.{Call, after-calls}
+use Rattle.guarantees.specs.History.{after-calls}
 use Rattle.guarantees.specs.States.{Named, PlainTime, PlainState, PlainArithmetic}
 use Rattle.guarantees.proofs.Proper.{Fair, Opens, opens}
 use Rattle.guarantees.proofs.Walk.{after}
-use Rattle.guarantees.proofs.Blocking.{Bounded, bounded-opened, bounded-mark, bounded-a, bounded-e, bounded-g}
+use Rattle.guarantees.proofs.Blocking.{Bounded, bounded-opened, bounded-quiet, bounded-a, bounded-e, bounded-g}
 use Rattle.guarantees.proofs.Served.{Served-at, served-at, due-drop, NotBefore}
 use Rattle.guarantees.proofs.Invariant.{Good, good-opened, good-after, drop-one, debt-less}
 use Rattle.guarantees.proofs.Completion.{AtRest, rests, due-times}
@@ -64,9 +65,9 @@ module _ (table : Table) (marks : ℕ) (fair : Fair table marks) where
   -- up to here a time has room for every length
   plain-time : (t : ℕ) → t ≤ 2000000000 → PlainTime table t
   plain-time t l = record {
-    copyin = λ n k. room (getD (table .copyin) n 0) (fair .copyins n k .1);
-    execution = λ n k. room (getD (table .execution) n 0) (fair .executions n k .1);
-    copyout = λ n k. room (getD (table .copyout) n 0) (fair .copyouts n k .1);
+    copyin = λ n k. room (copyin-length (table .columns) n) (fair .copyins n k .1);
+    execution = λ n k. room (execution-length (table .columns) n) (fair .executions n k .1);
+    copyout = λ n k. room (copyout-length (table .columns) n) (fair .copyouts n k .1);
   }
     where
       room : (x : ℕ) → x ≤ 1000000 → later t x ≡ t + x
@@ -106,7 +107,7 @@ module _ (table : Table) (marks : ℕ) (fair : Fair table marks) where
 
       bounded : (n : ℕ) (l : n < 32) → Bounded (table .priority) n l (after-calls (opened table marks) calls)
       bounded n l =
-          after (Bounded (table .priority) n l) (λ d t set e h. bounded-g (table .priority) n l d t set h) (λ d k m e h. bounded-mark (table .priority) n l d k m h)
+          after (Bounded (table .priority) n l) (λ d t set e h. bounded-g (table .priority) n l d t set h) (λ d m e h. bounded-quiet (table .priority) n l d m h)
           calls (opened table marks) (bounded-opened (table .priority) n l table marks refl)
 
 pub plain-arithmetic : PlainArithmetic

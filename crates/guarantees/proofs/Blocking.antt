@@ -1,25 +1,26 @@
 -- No blocked count goes over 2: a job's first and second interval may each count one, and from the third on none does.
+use Rattle.guarantees.specs.Queries.{is-task}
 use Rattle.guarantees.specs.Types.{_≡_, refl, sym, ap, _∙_, subst, Bool, true, false, cond, _&&_, false≢true, List, [], _∷_, _⊎_, inl, inr, ⊎-elim, ℕ, zero, suc, _+_, _≤_, _<_, min, Table, MaybeTask, NoTask, Task, CopyIn, Unchosen, NoneChosen, Copying, Loaded, Cancelled, Interval, Next, Outgoing, Phase, Between, Within, State, Stage}
 use native.Mathlib.Omega.{arith}
 use native.Mathlib.Nat.{add-zero, zero-add}
 use borrow.Author.Tests.{eqb-true, ltb-true}
 use lib.Dec.{ltb}
 use lib.ListN.{getD, replicate}
-use Rattle.sets.specs.Sets.{member, intersection}
-use Rattle.sets.specs.Laws.{bit, by-test, clash, left, right, none, collect-out, union-out, intersection-right, insert-out, remove-out}
+use Rattle.sets.specs.Sets.{member, intersection, bit}
+use Rattle.sets.proofs.Laws.{by-test, clash, left, right, none, collect-out, union-out, intersection-right, insert-out, remove-out}
 use Rattle.rules.specs.With.{at-clock}
 use Rattle.rules.specs.Order.{highest-of, higher, higher-than}
-use Rattle.rules.specs.Instant.{step-a, step-b, step-c, step-d, step-e, step-g, over, promoted, without-promoted, next-of, waiting, blocks, counted, stamped, close, with-candidates, cancel, choose, begin, begin-processor, without-done, ended, copyin-at, processor-task, at-a, at-b, at-e, at-f, at-g, new-at}
-use Rattle.rules.specs.Calls.{opened, with-mark}
+use Rattle.rules.specs.Instant.{step-a, step-b, step-c, step-d, step-e, step-g, over, promoted, without-promoted, next-of, awaiting-execution, blocks, counted, stamped, close, with-candidates, cancel, choose, begin, begin-processor, without-done, ended, copyin-at, processor-task, at-a, at-b, at-e, at-f, at-g, new-at, fresh-stage}
+use Rattle.rules.specs.Calls.{opened}
 use Rattle.guarantees.proofs.Highest.{Best}
+use Rattle.guarantees.proofs.Walk.{with-marks}
 use Rattle.guarantees.proofs.Cases.{held-at, copyin-cases, a-cases, b-cases, d-cases, e-cases, g-cases}
 use Rattle.guarantees.proofs.Steps.{best-of, settles, c-new, NewAt, processor-task-same}
 use Rattle.guarantees.proofs.Waiting.{NotLower, Bound, Old, rule-old, held-task, next-task, up-next, runs, Left, closed, ready-at, fate-at, a-waiting, c-waiting, d-waiting, e-waiting}
-use Rattle.guarantees.specs.Claim.{executes}
 
 -- ---- the counts of a list
 
-shift : (k n : ℕ) → suc k + n ≡ k + suc n
+pub shift : (k n : ℕ) → suc k + n ≡ k + suc n
 shift k n = omega arith
 
 -- one more at most, for a task that is blocked
@@ -60,12 +61,12 @@ abbrev pub place : Phase → Place
 place (Between next outgoing) = Out (next-task next)
 place (Within i) = In (processor-task (i .processor))
 
-c-place : (d : State) (new : ℕ) (p : Phase) → place (with-candidates d new p) ≡ place p
+pub c-place : (d : State) (new : ℕ) (p : Phase) → place (with-candidates d new p) ≡ place p
 unfolding with-candidates
 c-place d new (Between next outgoing) = refl
 c-place d new (Within i) = refl
 
-c-up-next : (d : State) (new : ℕ) (p : Phase) → up-next (with-candidates d new p) ≡ up-next p
+pub c-up-next : (d : State) (new : ℕ) (p : Phase) → up-next (with-candidates d new p) ≡ up-next p
 unfolding with-candidates
 c-up-next d new (Between next outgoing) = refl
 c-up-next d new (Within i) = refl
@@ -76,7 +77,7 @@ module _ (pr : List ℕ) (n : ℕ) (small : n < 32) where
 
   -- n's job is to be executed in a later interval
   abbrev pub Awaits : ℕ → MaybeTask → Type 0
-  Awaits ready h = (member n ready ≡ true) ⊎ (executes n h ≡ true)
+  Awaits ready h = (member n ready ≡ true) ⊎ (is-task n h ≡ true)
 
   abbrev pub AwaitsIn : State → Type 0
   AwaitsIn d = Awaits (d .jobs .ready) (up-next (d .phase))
@@ -108,7 +109,7 @@ module _ (pr : List ℕ) (n : ℕ) (small : n < 32) where
     pub far : AwaitsIn d → Far (count d) (Waits d) (place (d .phase))
 
   -- a step that leaves the place, and raises no count
-  record Like (d g : State) : Type 0 where
+  pub record Like (d g : State) : Type 0 where
     pub table : g .table .priority ≡ d .table .priority
     pub count : getD (g .jobs .blocked) n 0 ≡ getD (d .jobs .blocked) n 0
     pub place : place (d .phase) ≡ place (g .phase)
@@ -126,24 +127,27 @@ module _ (pr : List ℕ) (n : ℕ) (small : n < 32) where
   -- ---- step by step
 
   -- a
-  a-held : (t : ℕ) (c : CopyIn) → held-task (copyin-at t c) ≡ held-task c
+  pub a-held : (t : ℕ) (c : CopyIn) → held-task (copyin-at t c) ≡ held-task c
   a-held t c = copyin-cases t (λ x. held-task x ≡ held-task c) c refl (λ k u e x. ap held-task (sym e))
 
-  a-bounded : (t : ℕ) (d : State) → Bounded d → Bounded (step-a d t (d .phase) .state)
+  pub a-like : (t : ℕ) (d : State) → Like d (step-a d t (d .phase) .state)
   unfolding without-done ended
-  a-bounded t d =
-      keeps d (step-a d t (d .phase) .state)
-      (a-cases (Like d) d t (λ next outgoing e. record { table = refl; count = refl; place = refl; awaits = λ x. x })
+  a-like t d =
+      a-cases (Like d) d t (λ next outgoing e. record { table = refl; count = refl; place = refl; awaits = λ x. x })
       (λ i e. record {
         table = refl;
         count = refl;
         place = ap place e ∙ ap In (sym (processor-task-same (d .table) t (i .processor)));
         awaits = λ x. subst (λ (p : Phase). Awaits (d .jobs .ready) (up-next p)) (sym e) (subst (Awaits (d .jobs .ready)) (a-held t (i .copyin)) x);
-      }))
+      })
+
+  a-bounded : (t : ℕ) (d : State) → Bounded d → Bounded (step-a d t (d .phase) .state)
+  a-bounded t d =
+      keeps d (step-a d t (d .phase) .state) (a-like t d)
       (a-waiting pr n (Bound pr n) (NotLower pr n) (rule-old pr n small) small t d)
 
   -- b, f: whom an interval that is over has blocked
-  waiting-awaits : (ready : ℕ) (c : CopyIn) → member n (waiting c ready) ≡ true → Awaits ready (held-task c)
+  waiting-awaits : (ready : ℕ) (c : CopyIn) → member n (awaiting-execution c ready) ≡ true → Awaits ready (held-task c)
   waiting-awaits ready Unchosen h = inl h
   waiting-awaits ready NoneChosen h = inl h
   waiting-awaits ready (Copying c until) h = inl h
@@ -161,7 +165,7 @@ module _ (pr : List ℕ) (n : ℕ) (small : n < 32) where
       (left (member n s) (ltb (getD (d .table .priority) n 0) (getD (d .table .priority) r 0)) x, λ y. omega arith)
 
   -- and who awaits execution after it did before it
-  promoted-awaits : (ready : ℕ) (c : CopyIn) (q : MaybeTask) → (executes n q ≡ true → member n ready ≡ true) → Awaits (without-promoted ready q) (next-task (next-of c q)) → Awaits ready (held-task c)
+  pub promoted-awaits : (ready : ℕ) (c : CopyIn) (q : MaybeTask) → (is-task n q ≡ true → member n ready ≡ true) → Awaits (without-promoted ready q) (next-task (next-of c q)) → Awaits ready (held-task c)
   promoted-awaits ready c (Task q) f x = inl (⊎-elim (λ m. remove-out q ready n m) f x)
   promoted-awaits ready Unchosen NoTask f x = x
   promoted-awaits ready NoneChosen NoTask f x = x
@@ -169,20 +173,20 @@ module _ (pr : List ℕ) (n : ℕ) (small : n < 32) where
   promoted-awaits ready (Loaded c) NoTask f x = x
   promoted-awaits ready (Cancelled c) NoTask f x = x
 
-  promoted-ready : (d : State) (i : Interval) (c : CopyIn) → executes n (promoted d i c) ≡ true → member n (d .jobs .ready) ≡ true
+  pub promoted-ready : (d : State) (i : Interval) (c : CopyIn) → is-task n (promoted d i c) ≡ true → member n (d .jobs .ready) ≡ true
   unfolding promoted
   promoted-ready d i c = go c
     where
       s : ℕ
       s = intersection (i .candidates) (d .jobs .ready)
 
-      picked : (q : MaybeTask) → Best (d .table .priority) (intersection (i .candidates) (d .jobs .ready)) q → executes n q ≡ true → member n (d .jobs .ready) ≡ true
+      picked : (q : MaybeTask) → Best (d .table .priority) (intersection (i .candidates) (d .jobs .ready)) q → is-task n q ≡ true → member n (d .jobs .ready) ≡ true
       picked NoTask b e = absurd (false≢true e)
       picked (Task q) b e =
           intersection-right (i .candidates) (d .jobs .ready) n
           (ap (λ (k : ℕ). member k (intersection (i .candidates) (d .jobs .ready))) (eqb-true n q e) ∙ b .1)
 
-      go : (c : CopyIn) → executes n (promoted d i c) ≡ true → member n (d .jobs .ready) ≡ true
+      go : (c : CopyIn) → is-task n (promoted d i c) ≡ true → member n (d .jobs .ready) ≡ true
       go Unchosen e = absurd (false≢true e)
       go NoneChosen e = picked (highest-of d (intersection (i .candidates) (d .jobs .ready))) (best-of d (intersection (i .candidates) (d .jobs .ready))) e
       go (Copying m until) e = absurd (false≢true e)
@@ -221,7 +225,7 @@ module _ (pr : List ℕ) (n : ℕ) (small : n < 32) where
         unblocked : NotLower pr n (processor-task (i .processor)) → bit (member n (blocks d i)) ≡ 0
         unblocked y =
             by-test (member n (blocks d i))
-            (λ b. absurd (higher-lower d (waiting (i .copyin) (d .jobs .ready)) (processor-task (i .processor)) b .1
+            (λ b. absurd (higher-lower d (awaiting-execution (i .copyin) (d .jobs .ready)) (processor-task (i .processor)) b .1
             (subst (λ (p : List ℕ). NotLower p n (processor-task (i .processor))) (sym (h .table)) y)))
             (λ b. rw b)
 
@@ -233,7 +237,7 @@ module _ (pr : List ℕ) (n : ℕ) (small : n < 32) where
           by-test (member n (blocks d i))
           (λ b. far-most (count (close d i)) (Waits (close d i)) (Out (next-task (next-of (i .copyin) (promoted d i (i .copyin)))))
           (closed-far (far-within (waiting-awaits (d .jobs .ready) (i .copyin)
-          (higher-lower d (waiting (i .copyin) (d .jobs .ready)) (processor-task (i .processor)) b .0)))))
+          (higher-lower d (awaiting-execution (i .copyin) (d .jobs .ready)) (processor-task (i .processor)) b .0)))))
           (λ b. omega (arith, h .most, one-more, ap bit b));
       far = λ x. closed-far (far-within (promoted-awaits (d .jobs .ready) (i .copyin) (promoted d i (i .copyin)) (promoted-ready d i (i .copyin)) x));
     }
@@ -259,27 +263,30 @@ module _ (pr : List ℕ) (n : ℕ) (small : n < 32) where
             (far-map (count d) (count (step-c d t new)) (Waits d) (Waits (step-c d t new)) (place (d .phase)) z
             (c-waiting pr n (Bound pr n) (NotLower pr n) (rule-old pr n small) small t new d)
             (h .far (⊎-elim (λ y. inl (⊎-elim (λ z. z) (λ z. clash (member n new) z m) (union-out (d .jobs .ready) new n y)))
-            (λ y. inr (ap (executes n) (sym (c-up-next d new (d .phase))) ∙ y)) x)));
+            (λ y. inr (ap (is-task n) (sym (c-up-next d new (d .phase))) ∙ y)) x)));
       })
     where
       fewer : count (step-c d t new) ≤ cond (member n new) 0 (count d)
       fewer = unfold step-c in subst (λ (j : ℕ). count (step-c d t new) ≤ cond (member j new) 0 (count d)) (zero-add n) (stamped-at new 0 (d .jobs .blocked) n)
 
   -- d
-  d-bounded : (new : ℕ) (d : State) → NewAt d new (d .phase) → Bounded d → Bounded (step-d d new (d .phase))
+  pub d-like : (new : ℕ) (d : State) → Like d (step-d d new (d .phase))
   unfolding cancel
-  d-bounded new d k =
-      keeps d (step-d d new (d .phase))
-      (d-cases (Like d) d new (record { table = refl; count = refl; place = refl; awaits = λ x. x })
+  d-like new d =
+      d-cases (Like d) d new (record { table = refl; count = refl; place = refl; awaits = λ x. x })
       (λ i c u e s b. record {
         table = refl;
         count = refl;
         place = ap place e;
         awaits = λ x.
             subst (λ (p : Phase). Awaits (d .jobs .ready) (up-next p)) (sym e)
-            (⊎-elim (λ y. ⊎-elim (λ z. inr (ap (λ (c : CopyIn). executes n (held-task c)) s ∙ z)) (λ z. inl z) (insert-out c (d .jobs .ready) n y))
+            (⊎-elim (λ y. ⊎-elim (λ z. inr (ap (λ (c : CopyIn). is-task n (held-task c)) s ∙ z)) (λ z. inl z) (insert-out c (d .jobs .ready) n y))
             (λ y. absurd (false≢true y)) x);
-      }))
+      })
+
+  d-bounded : (new : ℕ) (d : State) → NewAt d new (d .phase) → Bounded d → Bounded (step-d d new (d .phase))
+  d-bounded new d k =
+      keeps d (step-d d new (d .phase)) (d-like new d)
       (d-waiting pr n (Bound pr n) (NotLower pr n) (rule-old pr n small) small new d k)
 
   -- e
@@ -298,11 +305,14 @@ module _ (pr : List ℕ) (n : ℕ) (small : n < 32) where
     awaits = λ x. inl (⊎-elim (λ y. remove-out q (d .jobs .ready) n y) (λ y. ap (λ (k : ℕ). member k (d .jobs .ready)) (eqb-true n q y) ∙ b .1) x);
   }
 
+  pub e-like : (t : ℕ) (d : State) → Like d (step-e d t (d .phase))
+  e-like t d =
+      e-cases (Like d) d t (record { table = refl; count = refl; place = refl; awaits = λ x. x })
+      (λ i e s u. choose-like d t i (highest-of d (d .jobs .ready)) e (best-of d (d .jobs .ready)))
+
   e-bounded : (t : ℕ) (d : State) → Bounded d → Bounded (step-e d t (d .phase))
   e-bounded t d =
-      keeps d (step-e d t (d .phase))
-      (e-cases (Like d) d t (record { table = refl; count = refl; place = refl; awaits = λ x. x })
-      (λ i e s u. choose-like d t i (highest-of d (d .jobs .ready)) e (best-of d (d .jobs .ready))))
+      keeps d (step-e d t (d .phase)) (e-like t d)
       (e-waiting pr n (Bound pr n) (NotLower pr n) (rule-old pr n small) small t d)
 
   -- g
@@ -352,9 +362,9 @@ module _ (pr : List ℕ) (n : ℕ) (small : n < 32) where
     unfolding at-g at-f
     bounded-g =
         g-bounded t (held-at d t set) (at-f d t set .state)
-        (b-bounded t (record { state = at-e d t set; done = at-b d t .done; closed = at-b d t .closed }) bounded-e)
+        (b-bounded t (fresh-stage (at-e d t set)) bounded-e)
 
-  -- ---- at the opening, and at a mark call
+  -- ---- at the opening, and at a call that is no instant
 
   -- without a job there is nothing to count
   pub bounded-opened : (table : Table) (marks : ℕ) → table .priority ≡ pr → Bounded (opened table marks)
@@ -365,11 +375,11 @@ module _ (pr : List ℕ) (n : ℕ) (small : n < 32) where
     far = λ x. ⊎-elim (λ m. clash (member n 0) m (none n)) (λ y. absurd (false≢true y)) x;
   }
 
-  pub bounded-mark : (d : State) (k m : ℕ) → Bounded d → Bounded (with-mark d k m)
-  bounded-mark d k m h = record {
+  pub bounded-quiet : (d : State) (marks : ℕ) → Bounded d → Bounded (with-marks d marks)
+  bounded-quiet d marks h = record {
     table = h .table;
     most = h .most;
     far = λ x.
-        far-map (count d) (count d) (Waits d) (Waits (with-mark d k m)) (place (d .phase)) (omega arith)
+        far-map (count d) (count d) (Waits d) (Waits (with-marks d marks)) (place (d .phase)) (omega arith)
         (λ w. record { table = w .table; ready = w .ready; fate = w .fate }) (h .far x);
   }

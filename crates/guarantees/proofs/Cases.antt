@@ -3,6 +3,7 @@
 use Rattle.guarantees.specs.Types.{_≡_, refl, Bool, true, false, cond, ℕ, Table, Processor, Idle, CopyingIn, Executing, Finished, CopyOut, NoCopyOut, CopyingOut, CopiedOut, CopyIn, Unchosen, NoneChosen, Copying, Loaded, Cancelled, Interval, Next, Outgoing, Phase, Between, Within, State, Stage}
 use lib.Dec.{eqb}
 use lib.ListN.{getD}
+use Rattle.table.specs.Table.{execution-length}
 use Rattle.sets.specs.Sets.{intersection}
 use Rattle.rules.specs.Instant.{processor-at, copyout-at, copyin-at, over, close, close-stage, step-b, copying-out, cancel, cancel-by, step-d, choose, choose-if, step-e, begin, wanted, step-g, step-a, without-done, completed, ended, at-b, new-at, held-over}
 use Rattle.rules.specs.With.{later, with-phase, with-jobs}
@@ -39,14 +40,14 @@ module _ (t : ℕ) where
   copyout-cases R (CopiedOut n) h f = h
 
   pub processor-cases : (table : Table) (R : Processor → Type 0) (q : Processor) → R q
-      → ((n until : ℕ) → q ≡ CopyingIn n until → eqb until t ≡ true → R (Executing n t (later t (getD (table .execution) n 0))))
+      → ((n until : ℕ) → q ≡ CopyingIn n until → eqb until t ≡ true → R (Executing n t (later t (execution-length (table .columns) n))))
       → ((n start until : ℕ) → q ≡ Executing n start until → eqb until t ≡ true → R (Finished n start))
       → R (processor-at table t q)
   unfolding processor-at
   processor-cases table R Idle h f g = h
   processor-cases table R (CopyingIn n until) h f g = go (eqb until t) refl
     where
-      go : (b : Bool) → eqb until t ≡ b → R (cond b (Executing n t (later t (getD (table .execution) n 0))) (CopyingIn n until))
+      go : (b : Bool) → eqb until t ≡ b → R (cond b (Executing n t (later t (execution-length (table .columns) n))) (CopyingIn n until))
       go true e = f n until refl e
       go false e = h
   processor-cases table R (Executing n start until) h f g = go (eqb until t) refl

@@ -1,22 +1,22 @@
 -- Empty sets at the due times come to an end, and then nothing is pending: each of them brings some phase to its end, and nothing is due
 -- only where nothing is pending.
-use Rattle.guarantees.specs.Types.{_≡_, refl, sym, ap, _∙_, subst, Bool, true, false, List, [], _∷_, ℕ, zero, suc, _+_, _≤_, _<_, Table, Clock, Unset, At, Processor, Idle, CopyingIn, Executing, Finished, CopyOut, NoCopyOut, CopyingOut, CopiedOut, CopyIn, Unchosen, NoneChosen, Copying, Loaded, Cancelled, Next, NoneNext, Outgoing, NoneOutgoing, Phase, Between, Within, State, Due, Never, Tick}
+use Rattle.guarantees.specs.Types.{_≡_, refl, sym, ap, _∙_, subst, Bool, true, false, List, [], _∷_, ℕ, zero, suc, _+_, _≤_, _<_, Table, Clock, Unset, At, Processor, Idle, CopyingIn, Executing, Finished, CopyOut, NoCopyOut, CopyingOut, CopiedOut, CopyIn, Unchosen, NoneChosen, Copying, Loaded, Cancelled, Next, NoneNext, Outgoing, NoneOutgoing, Phase, Between, Within, State, Due, Never, Tick, Call, Instant}
 use native.Mathlib.Omega.{arith}
 use borrow.Author.Tests.{eq-eqb, le-ltb, lt-leb}
 use lib.Dec.{eqb}
-use Rattle.sets.specs.Sets.{member, difference}
-use Rattle.sets.specs.Laws.{bit, none, by-test, clash, difference-left, size, empty, difference-small}
+use Rattle.sets.specs.Sets.{member, difference, bit, size}
+use Rattle.sets.proofs.Laws.{none, by-test, clash, difference-left, empty, difference-small}
 use Rattle.rules.specs.Instant.{over, copying-out, resting, settled, due, sooner, processor-due, copyout-due, copyin-due, at-g}
-use Rattle.rules.specs.Calls.{unknown, not-after, refusal}
-use Rattle.guarantees.specs.History.{Event, Call, Instant, after-call, by-call, after-calls, history, EmptySets}
-use Rattle.guarantees.specs.Reading.{total, is-take, is-completion}
+use Rattle.rules.specs.Calls.{unknown, not-after, refusal, after-call}
+use Rattle.guarantees.specs.History.{Event, by-call, after-calls, history, EmptySets}
+use Rattle.guarantees.specs.Queries.{total, is-take, is-completion}
 use Rattle.guarantees.proofs.Proper.{Fair}
 use Rattle.guarantees.proofs.Walk.{walk-to, served}
 use Rattle.guarantees.proofs.Settled.{Decided, DecidedAt, OpenAt, RestAt}
 use Rattle.guarantees.proofs.Places.{instant-moves, stage}
 use Rattle.guarantees.proofs.Steps.{Sub}
 use Rattle.guarantees.proofs.Served.{due-drop, last, Served-at, served-at, sooner-never}
-use Rattle.guarantees.proofs.Invariant.{Good, Until, mass, debt, sinks, debt-less, new-none, drop-one, good-next, good-mark}
+use Rattle.guarantees.proofs.Invariant.{Good, Until, mass, debt, sinks, debt-less, new-none, drop-one, good-next, good-quiet}
 use Rattle.guarantees.proofs.Totals.{takes-of, completes-of}
 
 -- ---- nothing is due only where nothing is pending
@@ -171,5 +171,5 @@ module _ (table : Table) (marks : ℕ) (fair : Fair table marks) where
         takes-of d t set h,
         instant-moves (table .present) (fair .present) d t set known (g .parted) .sizes,
       ))
-      (λ d n m cs e k g. k (good-mark table marks fair d n m e g))
+      (λ d m e h z k g. k (good-quiet table marks fair d m e g))
       cs d

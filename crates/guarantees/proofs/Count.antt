@@ -1,19 +1,19 @@
 -- At most three intervals to a job. A job weighs 3 while ready, 2 while it is being copied in, loaded or promoted, 1 while it executes or waits
 -- for its copy-out, and then 0; a cancelled copy-in, whose job is ready again, owes 1, which the job that is promoted pays. Every interval
 -- that begins takes a weight of 1 at least. Beside it a mass falls at every phase's end, so that the empty sets come to an end.
-use Rattle.guarantees.specs.Types.{_≡_, refl, sym, ap, subst, Bool, true, false, cond, false≢true, List, ℕ, _+_, _*_, _^_, _≤_, _<_, Table, MaybeTask, NoTask, Task, Processor, Idle, CopyingIn, Executing, Finished, CopyOut, NoCopyOut, CopyingOut, CopiedOut, CopyIn, Unchosen, NoneChosen, Copying, Loaded, Cancelled, Interval, Next, NoneNext, LoadedNext, PromotedNext, Outgoing, NoneOutgoing, AwaitsCopyOut, Phase, Between, Within, State, Stage}
+use Rattle.guarantees.specs.Types.{_≡_, refl, sym, ap, subst, Bool, true, false, cond, false≢true, List, ℕ, _+_, _*_, _^_, _≤_, _<_, Table, MaybeTask, NoTask, Task, Processor, Idle, CopyingIn, Executing, Finished, CopyOut, NoCopyOut, CopyingOut, CopiedOut, CopyIn, Unchosen, NoneChosen, Copying, Loaded, Cancelled, Interval, Next, NoneNext, LoadedNext, PromotedNext, Outgoing, NoneOutgoing, AwaitsCopyOut, Phase, Between, Within, State, Stage, Call}
 use native.Mathlib.Omega.{arith}
 use borrow.Author.Tests.{eqb-false, not-true}
 use lib.Dec.{eqb}
-use Rattle.sets.specs.Sets.{member, union, intersection, insert}
-use Rattle.sets.specs.Laws.{clash, union-left, intersection-in, intersection-left, intersection-right, insert-other, size, size-union, size-remove, size-insert, size-none, size-some, empty, union-small, remove-small, insert-small}
+use Rattle.sets.specs.Sets.{member, union, intersection, insert, size}
+use Rattle.sets.proofs.Laws.{clash, union-left, intersection-in, intersection-left, intersection-right, insert-other, size-union, size-remove, size-insert, size-none, size-some, empty, union-small, remove-small, insert-small}
 use Rattle.guarantees.proofs.Highest.{Best}
 use Rattle.guarantees.proofs.Walk.{walk}
 use Rattle.guarantees.proofs.Totals.{begins-of, takes-of}
-use Rattle.guarantees.specs.History.{history, Event, Call, begins}
+use Rattle.guarantees.specs.History.{history, Event, begin-events}
 use Rattle.rules.specs.Calls.{opened}
-use Rattle.guarantees.specs.Reading.{total, is-take, is-begin}
-use Rattle.rules.specs.Instant.{step-a, step-b, step-c, step-d, step-e, step-g, promoted, next-of, without-promoted, close, close-stage, over, with-candidates, cancel, choose, choose-if, begin, begin-processor, begin-copyout, wanted, without-done, ended, copyin-at, processor-at, awaiting-copyout, at-a, at-b, at-e, at-f, at-g, new-at, copyout-at}
+use Rattle.guarantees.specs.Queries.{total, is-take, is-begin}
+use Rattle.rules.specs.Instant.{step-a, step-b, step-c, step-d, step-e, step-g, promoted, next-of, without-promoted, close, close-stage, over, with-candidates, cancel, choose, choose-if, begin, begin-processor, begin-copyout, wanted, without-done, ended, copyin-at, processor-at, awaiting-copyout, at-a, at-b, at-e, at-f, at-g, new-at, copyout-at, fresh-stage}
 use Rattle.rules.specs.With.{at-clock}
 use Rattle.rules.specs.Order.{highest-of, outranks}
 use Rattle.guarantees.proofs.Steps.{Sub, c-new, NewIn, NewAt, best-of}
@@ -329,8 +329,8 @@ e-leads d t h =
     (λ i e s u. subst (λ (p : Phase). Leads d p (choose d t i q) (choose d t i q .phase) 0 0) (sym e) (choose-leads d t i q s (subst (Sound d) e h) (best-of d (d .jobs .ready))))
 
 -- g
-begins-one : (t : ℕ) (p q : Phase) → total is-begin (begins t p q) ≤ 1
-unfolding begins total
+begins-one : (t : ℕ) (p q : Phase) → total is-begin (begin-events t p q) ≤ 1
+unfolding begin-events total
 begins-one t (Within i) q = omega arith
 begins-one t (Between next outgoing) (Between x y) = omega arith
 begins-one t (Between next outgoing) (Within j) = omega arith
@@ -365,19 +365,19 @@ g-falls f t new NoneNext NoneOutgoing h w =
     omega (arith, choose-falls b t (new-interval f t new NoneNext NoneOutgoing h) (highest-of b (f .jobs .ready)) refl (h .few) (not-true (eqb (f .jobs .ready) 0) w) (best-of b (f .jobs .ready)))
 
 g-leads : (f : State) (t new : ℕ) (p : Phase) → f .phase ≡ p → Sound f p
-    → Leads f p (step-g f t new p) (step-g f t new p .phase) (total is-begin (begins t p (step-g f t new p .phase))) 0
-unfolding step-g begins total
+    → Leads f p (step-g f t new p) (step-g f t new p .phase) (total is-begin (begin-events t p (step-g f t new p .phase))) 0
+unfolding step-g begin-events total
 g-leads f t new (Within i) e h = back f (Within i) e h
 g-leads f t new (Between next outgoing) e h = go (wanted next outgoing (f .jobs .ready)) refl
   where
     b : State
     b = begin f t new next outgoing
 
-    stays : (q : Phase) → q ≡ Between next outgoing → Leads f (Between next outgoing) f q (total is-begin (begins t (Between next outgoing) q)) 0
-    stays q x = subst (λ (q : Phase). Leads f (Between next outgoing) f q (total is-begin (begins t (Between next outgoing) q)) 0) (sym x) (record { sound = h; weigh = omega arith; sink = omega arith })
+    stays : (q : Phase) → q ≡ Between next outgoing → Leads f (Between next outgoing) f q (total is-begin (begin-events t (Between next outgoing) q)) 0
+    stays q x = subst (λ (q : Phase). Leads f (Between next outgoing) f q (total is-begin (begin-events t (Between next outgoing) q)) 0) (sym x) (record { sound = h; weigh = omega arith; sink = omega arith })
 
     go : (w : Bool) → wanted next outgoing (f .jobs .ready) ≡ w
-        → Leads f (Between next outgoing) (cond w (step-e b t (b .phase)) f) (cond w (step-e b t (b .phase)) f .phase) (total is-begin (begins t (Between next outgoing) (cond w (step-e b t (b .phase)) f .phase))) 0
+        → Leads f (Between next outgoing) (cond w (step-e b t (b .phase)) f) (cond w (step-e b t (b .phase)) f .phase) (total is-begin (begin-events t (Between next outgoing) (cond w (step-e b t (b .phase)) f .phase))) 0
     go true x = record {
       sound = opened-leads f t new next outgoing h .sound;
       weigh = omega (arith, g-falls f t new next outgoing h x, begins-one t (Between next outgoing) (step-e b t (b .phase) .phase));
@@ -410,22 +410,22 @@ to-e d t set h =
     record { sound = l3 .sound; weigh = omega (arith, l1 .weigh, l2 .weigh, l3 .weigh); sink = omega (arith, l1 .sink, l2 .sink, l3 .sink) }
 
 pub to-g : (d : State) (t set : ℕ) → Sound (at-e d t set) (at-e d t set .phase)
-    → Leads (at-e d t set) (at-e d t set .phase) (at-g d t set) (at-g d t set .phase) (total is-begin (begins t (at-f d t set .state .phase) (at-g d t set .phase))) 0
+    → Leads (at-e d t set) (at-e d t set .phase) (at-g d t set) (at-g d t set .phase) (total is-begin (begin-events t (at-f d t set .state .phase) (at-g d t set .phase))) 0
 unfolding at-f at-g
 to-g d t set h =
     let e : State = at-e d t set in
     let f : State = at-f d t set .state in
     let g : State = at-g d t set in
-    let x : Leads e (e .phase) f (f .phase) 0 0 = b-leads (record { state = e; done = at-b d t .done; closed = at-b d t .closed }) t (e .phase) refl h in
-    let y : Leads f (f .phase) g (g .phase) (total is-begin (begins t (f .phase) (g .phase))) 0 = g-leads f t (held-at d t set) (f .phase) refl (x .sound) in
+    let x : Leads e (e .phase) f (f .phase) 0 0 = b-leads (fresh-stage e) t (e .phase) refl h in
+    let y : Leads f (f .phase) g (g .phase) (total is-begin (begin-events t (f .phase) (g .phase))) 0 = g-leads f t (held-at d t set) (f .phase) refl (x .sound) in
     record { sound = y .sound; weigh = omega (arith, x .weigh, y .weigh); sink = omega (arith, x .sink, y .sink) }
 
 pub instant-leads : (d : State) (t set : ℕ) → Sound d (d .phase)
-    → Leads d (d .phase) (at-g d t set) (at-g d t set .phase) (total is-begin (begins t (at-f d t set .state .phase) (at-g d t set .phase))) (size (new-at d t set))
+    → Leads d (d .phase) (at-g d t set) (at-g d t set .phase) (total is-begin (begin-events t (at-f d t set .state .phase) (at-g d t set .phase))) (size (new-at d t set))
 instant-leads d t set h =
     let x : Leads d (d .phase) (at-b d t .state) (at-b d t .state .phase) 0 0 = to-b d t h in
     let y : Leads (at-b d t .state) (at-b d t .state .phase) (at-e d t set) (at-e d t set .phase) 0 (size (new-at d t set)) = to-e d t set (x .sound) in
-    let z : Leads (at-e d t set) (at-e d t set .phase) (at-g d t set) (at-g d t set .phase) (total is-begin (begins t (at-f d t set .state .phase) (at-g d t set .phase))) 0 = to-g d t set (y .sound) in
+    let z : Leads (at-e d t set) (at-e d t set .phase) (at-g d t set) (at-g d t set .phase) (total is-begin (begin-events t (at-f d t set .state .phase) (at-g d t set .phase))) 0 = to-g d t set (y .sound) in
     record { sound = z .sound; weigh = omega (arith, x .weigh, y .weigh, z .weigh); sink = omega (arith, x .sink, y .sink, z .sink) }
 
 -- ---- along the calls
@@ -448,9 +448,9 @@ counted d cs =
     (λ d s. unfold total in omega (arith, debt-covered d (d .phase) s))
     (λ d t set cs e k s.
     let h : List Event = history (at-g d t set) cs in
-    let l : Leads d (d .phase) (at-g d t set) (at-g d t set .phase) (total is-begin (begins t (at-f d t set .state .phase) (at-g d t set .phase))) (size (new-at d t set)) = instant-leads d t set s in
+    let l : Leads d (d .phase) (at-g d t set) (at-g d t set .phase) (total is-begin (begin-events t (at-f d t set .state .phase) (at-g d t set .phase))) (size (new-at d t set)) = instant-leads d t set s in
     omega (arith, begins-of d t set h, takes-of d t set h, l .weigh, k (l .sound)))
-    (λ d n m cs e k s. k (record { few = s .few; paid = s .paid }))
+    (λ d m e h k s. k (record { few = s .few; paid = s .paid }))
     cs d
 
 pub at-most-three : (table : Table) (marked : ℕ) (cs : List Call)

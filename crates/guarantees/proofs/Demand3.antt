@@ -1,17 +1,17 @@
 -- Demand 3: the claim holds of every list of calls.
-use Rattle.guarantees.specs.Types.{_≡_, refl, sym, ap, _∙_, subst, Bool, true, false, List, _++_, inl, inr, ℕ, zero, suc, _≤_, _<_, Table, MaybeTask, NoTask, Task, State}
+use Rattle.guarantees.specs.Types.{_≡_, refl, sym, ap, _∙_, subst, Bool, true, false, List, _++_, inl, inr, ℕ, zero, suc, _≤_, _<_, Table, MaybeTask, NoTask, Task, State, Call}
 use native.Mathlib.Omega.{arith}
 use native.Mathlib.Nat.{le-of-suc-le-suc}
 use borrow.Author.Tests.{ltb-true, ltb-false}
 use lib.Dec.{ltb}
 use lib.ListN.{getD, length}
-use Rattle.sets.specs.Sets.{member}
-use Rattle.sets.specs.Laws.{by-test, none, member-task, size, size-none}
+use Rattle.sets.specs.Sets.{member, size}
+use Rattle.sets.proofs.Laws.{by-test, none, member-task, size-none}
 use Rattle.rules.specs.Instant.{due}
 use Rattle.rules.specs.Calls.{opened, opening}
-use Rattle.guarantees.specs.History.{Event, Call, history, after-calls}
-use Rattle.guarantees.specs.Reading.{Situation, NoneOpen, Open, situation, intervals, total, is-take}
-use Rattle.guarantees.specs.Claim.{met, Lower, ThisOrHigher, InOrder, Holds, AllCompleted, Claim, Demand3}
+use Rattle.guarantees.specs.History.{Event, history, after-calls}
+use Rattle.guarantees.specs.Queries.{none-yet, Situation, NoneOpen, Open, situation, intervals, total, is-take, met}
+use Rattle.guarantees.specs.Claim.{Lower, ThisOrHigher, InOrder, Holds, AllCompleted, Claim, Demand3}
 use Rattle.guarantees.proofs.Proper.{Fair, Opens, opens}
 use Rattle.guarantees.proofs.Walk.{after-append, history-append}
 use Rattle.guarantees.proofs.Waiting.{NotLower}
@@ -21,7 +21,12 @@ use Rattle.guarantees.proofs.Count.{at-most-three}
 use Rattle.guarantees.proofs.Invariant.{Good, mass, good-opened, good-after}
 use Rattle.guarantees.proofs.Engine.{Free, executed-in, copied-out-so, completed-so}
 use Rattle.guarantees.proofs.CopyOuts.{copied-out}
-use Rattle.guarantees.proofs.Known.{KnownTask, AllKnown, release-known, interval-known, all-known}
+use Rattle.guarantees.proofs.Processing.{execution-in, started-so, stopped-so, ended-so}
+use Rattle.guarantees.proofs.Executions.{executed}
+use Rattle.guarantees.proofs.Promotions.{promoted-in, promotions}
+use Rattle.guarantees.proofs.Told.{tells}
+use Rattle.guarantees.proofs.Closings.{closings, all-done}
+use Rattle.guarantees.proofs.Known.{KnownTask, AllKnown, release-known, begins-known, interval-known, all-known}
 use Rattle.guarantees.proofs.Pending.{pending-in, pending-same, completes-after}
 use Rattle.guarantees.proofs.Completion.{rests, drains, Drained, drained, balanced}
 
@@ -62,10 +67,20 @@ module _ (table : Table) (marks : ℕ) (fair : Fair table marks) where
   holds calls = record {
     each-job = λ before after n t m e.
         let k : (member n (table .present) ≡ true) × AllKnown (table .present) after = release-known (table .present) before after n t m (subst (AllKnown (table .present)) e known) in
-        in-order n m (situation NoneOpen before) after (k .0) (k .1) (released-in (table .priority) h before after n t m in-turn e);
-    each-executed = λ before after n t l e. executed-in (table .copyout) n h before after t 0 l Free (copied-out table marks fair calls) e;
-    each-copyout = λ before after n b r e. copied-out-so (table .copyout) h (copied-out table marks fair calls) before after n b r e;
-    each-completion = λ before after n c e. completed-so (table .copyout) h (copied-out table marks fair calls) before after n c e;
+        in-order n m (situation NoneOpen before) after (k .0) (k .1) (released-in (table .priority) h before after n t m in-turn e .0);
+    each-taking = λ before after n t m e. released-in (table .priority) h before after n t m in-turn e .1;
+    each-execution = λ before after n t l e. execution-in (table .columns) n h before after t l (executed table marks fair calls) e;
+    each-promotion = λ before after n t l e.
+        promoted-in n h before after t l
+        (promotions table marks fair n
+        (member-task n (table .present) (fair .present) (begins-known (table .present) before after t (Task n) l (subst (AllKnown (table .present)) e known))) calls)
+        e;
+    each-start = λ before after n s e. started-so (table .columns) h (executed table marks fair calls) before after n s e;
+    each-stop = λ before after n u e. stopped-so (table .columns) h (executed table marks fair calls) before after n u e;
+    each-end = λ before after n e x y. ended-so (table .columns) h (executed table marks fair calls) before after n e x y;
+    each-executed = λ before after n t l e. executed-in (table .columns) n h before after t 0 l Free (copied-out table marks fair calls) e;
+    each-copyout = λ before after n b r e. copied-out-so (table .columns) h (copied-out table marks fair calls) before after n b r e;
+    each-completion = λ before after n c e. completed-so (table .columns) h (copied-out table marks fair calls) before after n c e;
     at-most-three = at-most-three table marks calls;
   }
     where
@@ -107,6 +122,11 @@ module _ (table : Table) (marks : ℕ) (fair : Fair table marks) where
   claim : (calls : List Call) → Claim (opened table marks) calls
   claim calls = record {
     of-the-list = unfold opened in holds calls;
+    entries = record {
+      each-job = λ before after t set o e c. unfold opened in tells table marks fair before t set o e;
+      each-done = all-done calls d;
+      each-interval = unfold opened in closings calls d none-yet tt;
+    };
     come-to-an-end = drains table marks fair (mass (after-calls d calls)) (after-calls d calls) good (omega arith);
     with-empty-sets = λ rest e. unfold opened in holds (calls ++ rest);
     nothing-pending = λ rest e. pending rest (drained table marks fair rest (after-calls d calls) good e);

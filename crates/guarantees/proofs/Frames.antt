@@ -1,6 +1,6 @@
 -- The steps leave the table and the marks, and the clock at the instant's time.
 use Rattle.guarantees.specs.Types.{_≡_, refl, ap, _∙_, ℕ, Table, Clock, At, MaybeTask, NoTask, Task, Interval, State, Stage}
-use Rattle.rules.specs.Instant.{step-a, step-b, step-c, step-d, step-e, step-g, close, cancel, choose, begin, at-a, at-b, at-e, at-f, at-g, new-at}
+use Rattle.rules.specs.Instant.{step-a, step-b, step-c, step-d, step-e, step-g, close, cancel, choose, begin, at-a, at-b, at-e, at-f, at-g, new-at, fresh-stage}
 use Rattle.rules.specs.With.{at-clock}
 use Rattle.rules.specs.Order.{highest-of}
 use Rattle.guarantees.proofs.Cases.{held-at, a-cases, b-cases, d-cases, e-cases, g-cases}
@@ -56,7 +56,7 @@ frame-g : (d : State) (t set : ℕ) → frame (at-g d t set) ≡ frame (at-clock
 unfolding at-g at-f
 frame-g d t set =
     g-frame (at-f d t set .state) t (held-at d t set)
-    ∙ b-frame (record { state = at-e d t set; done = at-b d t .done; closed = at-b d t .closed }) t ∙ frame-e d t set
+    ∙ b-frame (fresh-stage (at-e d t set)) t ∙ frame-e d t set
 
 pub table-b : (d : State) (t : ℕ) → at-b d t .state .table ≡ d .table
 table-b d t = ap (λ (x : Frame). x .table) (frame-b d t)

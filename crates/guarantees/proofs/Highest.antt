@@ -6,7 +6,7 @@ use borrow.Author.Tests.{ltb-true, ltb-false}
 use lib.Dec.{ltb}
 use lib.ListN.{getD}
 use Rattle.sets.specs.Sets.{member}
-use Rattle.sets.specs.Laws.{by-test, below-suc, clash}
+use Rattle.sets.proofs.Laws.{by-test, below-suc, clash}
 use Rattle.rules.specs.Order.{better, highest-below, highest}
 
 -- what a pick is among the members below k of a set

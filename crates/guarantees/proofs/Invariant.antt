@@ -1,18 +1,19 @@
 -- The invariant of the states that calls made, and that each call keeps it. Its last part bounds the times: each phase under way ends after
 -- the clock, at most 1,000,000 ticks after it, and before a bound that the mass still to come pushes down; so no time comes near the last tick
 -- of a u64, since releases come by 1,000,000,000 and every phase that ends after that takes from the mass.
-use Rattle.guarantees.specs.Types.{_≡_, refl, sym, ap, _∙_, subst, Bool, true, false, cond, not, false≢true, List, ⊎-elim, ℕ, _+_, _*_, _^_, _≤_, _<_, Table, Clock, Processor, Idle, CopyingIn, Executing, Finished, CopyOut, NoCopyOut, CopyingOut, CopiedOut, CopyIn, Unchosen, NoneChosen, Copying, Loaded, Cancelled, Next, NoneNext, LoadedNext, PromotedNext, Outgoing, NoneOutgoing, AwaitsCopyOut, Phase, Between, Within, State}
+use Rattle.guarantees.specs.Types.{_≡_, refl, sym, ap, _∙_, subst, false, List, ℕ, _+_, _*_, _^_, _≤_, _<_, Table, Clock, Processor, Idle, CopyingIn, Executing, Finished, CopyOut, NoCopyOut, CopyingOut, CopiedOut, CopyIn, Unchosen, NoneChosen, Copying, Loaded, Cancelled, Next, NoneNext, LoadedNext, PromotedNext, Outgoing, NoneOutgoing, AwaitsCopyOut, Phase, Between, Within, State, Call}
 use native.Mathlib.Omega.{arith}
 use borrow.Author.Tests.{eqb-true, eqb-false, eq-eqb, ltb-true, ltb-false}
 use lib.Dec.{eqb, ltb}
 use lib.ListN.{getD}
-use Rattle.sets.specs.Sets.{member, difference, insert, remove}
-use Rattle.sets.specs.Laws.{insert-out, insert-small, remove-out, remove-small, member-task, bit, count-none, none, by-test, clash, difference-left, size, size-most}
-use Rattle.guarantees.proofs.Walk.{after}
+use Rattle.table.specs.Table.{copyin-length, execution-length, copyout-length}
+use Rattle.sets.specs.Sets.{member, difference, bit, size}
+use Rattle.sets.proofs.Laws.{count-none, none, by-test, clash, difference-left, size-most}
+use Rattle.guarantees.proofs.Walk.{with-marks, MarksKnown, after}
 use Rattle.guarantees.proofs.Proper.{Fair}
-use Rattle.guarantees.specs.History.{Call, after-calls}
-use Rattle.rules.specs.Calls.{mark-refusal, with-mark, opened}
-use Rattle.rules.specs.Instant.{taken, settled, at-b, at-e, at-f, at-g, new-at}
+use Rattle.guarantees.specs.History.{after-calls}
+use Rattle.rules.specs.Calls.{opened}
+use Rattle.rules.specs.Instant.{taken, settled, at-b, at-e, at-f, at-g, new-at, fresh-stage}
 use Rattle.rules.specs.With.{later}
 use Rattle.guarantees.proofs.Frames.{table-g, clock-g}
 use Rattle.guarantees.proofs.Count.{Sound, weight, rank, rank-small, phase-weight, phase-debt, b-leads, debt-covered, instant-leads, copyin-weight, processor-weight, next-weight, outgoing-weight}
@@ -169,7 +170,7 @@ few-f : (d : State) (t set : ℕ) → Sound d (d .phase) → at-f d t set .state
 unfolding at-f
 few-f d t set h =
     let e : State = at-e d t set in
-    b-leads (record { state = e; done = at-b d t .done; closed = at-b d t .closed }) t (e .phase) refl (Count.to-e d t set (Count.to-b d t h .sound) .sound) .sound .few
+    b-leads (fresh-stage e) t (e .phase) refl (Count.to-e d t set (Count.to-b d t h .sound) .sound) .sound .few
 
 pub sinks : (d : State) (t set : ℕ) → Sound d (d .phase) → mass (at-g d t set) + debt d + drop t (d .phase) ≤ mass d + debt (at-g d t set) + 24 * size (new-at d t set)
 unfolding mass debt
@@ -209,9 +210,9 @@ module _ (table : Table) (marks : ℕ) (fair : Fair table marks) where
   -- what starts at t ends in time
   starts : (t m e : ℕ) → t + 1000000 + 1000000 * m ≤ 2000000000 + 1000000 * e → t ≤ 2000000000 → Starts table (fair .present) t (Until t m e)
   starts t m e h l = record {
-    copyin = λ n k. soon (getD (table .copyin) n 0) (fair .copyins n k .0) (fair .copyins n k .1);
-    execution = λ n k. soon (getD (table .execution) n 0) (fair .executions n k .0) (fair .executions n k .1);
-    copyout = λ n k. soon (getD (table .copyout) n 0) (fair .copyouts n k .0) (fair .copyouts n k .1);
+    copyin = λ n k. soon (copyin-length (table .columns) n) (fair .copyins n k .0) (fair .copyins n k .1);
+    execution = λ n k. soon (execution-length (table .columns) n) (fair .executions n k .0) (fair .executions n k .1);
+    copyout = λ n k. soon (copyout-length (table .columns) n) (fair .copyouts n k .0) (fair .copyouts n k .1);
   }
     where
       soon : (x : ℕ) → 1 ≤ x → x ≤ 1000000 → Until t m e (later t x)
@@ -282,22 +283,13 @@ module _ (table : Table) (marks : ℕ) (fair : Fair table marks) where
       times = subst (λ (c : Clock). Times (Until (last c) (mass (at-g d t set)) (debt (at-g d t set))) (at-g d t set .phase)) (sym (clock-g d t set)) times-next;
     }
 
-  -- a mark call that is served names a task of the table
-  mark-known : (d : State) (n m : ℕ) → eqb (mark-refusal d n m) 0 ≡ true → member n (d .table .present) ≡ true
-  unfolding mark-refusal
-  mark-known d n m = go (member n (d .table .present)) (ltb 1 m) (member n (d .jobs .pending))
-    where
-      go : (a b c : Bool) → eqb (cond (not a) 16 (cond b 6 (cond c 17 0))) 0 ≡ true → a ≡ true
-      go true b c h = refl
-      go false b c h = absurd (false≢true h)
-
-  pub good-mark : (d : State) (n m : ℕ) → eqb (mark-refusal d n m) 0 ≡ true → Good d → Good (with-mark d n m)
-  good-mark d n m e g = record {
+  pub good-quiet : (d : State) (marks : ℕ) → MarksKnown d marks → Good d → Good (with-marks d marks)
+  good-quiet d marks known g = record {
     table-is = g .table-is;
     sound = record { few = g .sound .few; paid = g .sound .paid };
     parted = record {
       few = g .parted .few;
-      marks = λ k l x. marks-in (eqb m 1) k x;
+      marks = subst (λ (t : Table). Sub (d .marked) (t .present) → Sub marks (t .present)) (g .table-is) known (g .parted .marks);
       pending = g .parted .pending;
       ready = g .parted .ready;
       known = g .parted .known;
@@ -306,17 +298,7 @@ module _ (table : Table) (marks : ℕ) (fair : Fair table marks) where
     settled = record { decided = g .settled .decided; open-yet = g .settled .open-yet; rests = g .settled .rests };
     times = unfold mass debt in g .times;
   }
-    where
-      known : (p : ℕ) → d .table .present ≡ p → member n p ≡ true
-      known p x = subst (λ (s : ℕ). member n s ≡ true) x (mark-known d n m e)
-
-      marks-in : (b : Bool) (k : ℕ) → member k (cond b (insert n (d .marked)) (remove n (d .marked))) ≡ true → member k (table .present) ≡ true
-      marks-in true k x =
-          ⊎-elim (λ y. ap (λ (j : ℕ). member j (table .present)) (eqb-true k n y) ∙ known (table .present) (ap (λ (t : Table). t .present) (g .table-is)))
-          (λ y. g .parted .marks k (member-task k (insert n (d .marked)) (insert-small n (d .marked)) x) y) (insert-out n (d .marked) k x)
-      marks-in false k x =
-          g .parted .marks k (member-task k (remove n (d .marked)) (remove-small n (d .marked)) x) (remove-out n (d .marked) k x)
 
   -- every list of calls
   pub good-after : (cs : List Call) (d : State) → Good d → Good (after-calls d cs)
-  good-after = after Good (λ d t set e g. good-next d t set g (served-at d t set e)) good-mark
+  good-after = after Good (λ d t set e g. good-next d t set g (served-at d t set e)) good-quiet

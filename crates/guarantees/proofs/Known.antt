@@ -1,19 +1,18 @@
 -- Every task that is taken or executed in a history is one of the table's.
-use Rattle.guarantees.specs.Types.{_≡_, Bool, true, false, cond, List, [], _∷_, _++_, append-assoc, subst, ℕ, zero, suc, _<_, Table, MaybeTask, NoTask, Task, Processor, Idle, CopyingIn, Executing, Finished, Phase, Between, Within, State}
+use Rattle.guarantees.specs.Types.{_≡_, Bool, true, false, cond, List, [], _∷_, _++_, sym, subst, ℕ, zero, suc, _<_, Table, MaybeTask, NoTask, Task, Processor, Idle, CopyingIn, Executing, Finished, Phase, Between, Within, State, Call}
 use native.Mathlib.Nat.{not-suc-le-zero, le-of-suc-le-suc}
 use lib.ListN.{getD, length}
 use Rattle.sets.specs.Sets.{member}
-use Rattle.sets.specs.Laws.{difference-left}
+use Rattle.sets.proofs.Laws.{difference-left}
 use Rattle.rules.specs.Instant.{at-b, at-e, at-f, at-g, new-at, taken, processor-task}
-use Rattle.guarantees.specs.History.{Event, Comes, Finishes, Completes, Ends, Takes, Begins, Call, history, happens, ends, takes, begins}
-use Rattle.guarantees.specs.Reading.{intervals}
-use Rattle.guarantees.specs.Claim.{executes, upto}
+use Rattle.guarantees.specs.History.{Event, Starts, Stops, Comes, Finishes, Completes, Ends, Takes, Begins, history, happens, take-events, begin-events, start-events}
+use Rattle.guarantees.specs.Queries.{is-task, intervals, each, upto}
 use Rattle.guarantees.proofs.Proper.{Fair}
 use Rattle.guarantees.proofs.Walk.{walk}
-use Rattle.guarantees.proofs.Events.{by-ends, by-takes, by-front, tail-of, happens-parts}
+use Rattle.guarantees.proofs.Events.{by-ends, by-takes, by-starts, by-front, tail-of, happens-parts, tail-parts}
 use Rattle.guarantees.proofs.Steps.{Sub}
 use Rattle.guarantees.proofs.Served.{served-at}
-use Rattle.guarantees.proofs.Invariant.{Good, good-next, good-mark}
+use Rattle.guarantees.proofs.Invariant.{Good, good-next, good-quiet}
 use Rattle.guarantees.specs.States.{set-known, processor-known, phase-known}
 
 module _ (present : ℕ) where
@@ -24,6 +23,8 @@ module _ (present : ℕ) where
   abbrev pub KnownIn : Event → Type 0
   KnownIn (Comes t) = Unit {0}
   KnownIn (Finishes n) = Unit {0}
+  KnownIn (Starts n v) = Unit {0}
+  KnownIn (Stops n v) = Unit {0}
   KnownIn (Completes n t) = Unit {0}
   KnownIn (Ends t) = Unit {0}
   KnownIn (Takes n t m) = member n present ≡ true
@@ -40,15 +41,22 @@ module _ (present : ℕ) where
   release-known [] after n t m h = h
   release-known (e ∷ es) after n t m h = release-known es after n t m (h .1)
 
+  pub begins-known : (before after : List Event) (t : ℕ) (r l : MaybeTask) → AllKnown (before ++ (Begins t r l ∷ after)) → KnownTask r
+  unfolding AllKnown
+  begins-known [] after t r l h = h .0
+  begins-known (e ∷ es) after t r l h = begins-known es after t r l (h .1)
+
   pub interval-known : (n : ℕ) (es : List Event) → AllKnown es → (i : ℕ) → i < length (upto n (intervals es)) → KnownTask (getD (upto n (intervals es)) i NoTask)
-  unfolding AllKnown intervals upto
+  unfolding AllKnown each upto
   interval-known n [] h i l = absurd (not-suc-le-zero l)
   interval-known n (Comes t ∷ es) h i l = interval-known n es (h .1) i l
   interval-known n (Finishes k ∷ es) h i l = interval-known n es (h .1) i l
+  interval-known n (Starts k v ∷ es) h i l = interval-known n es (h .1) i l
+  interval-known n (Stops k v ∷ es) h i l = interval-known n es (h .1) i l
   interval-known n (Completes k t ∷ es) h i l = interval-known n es (h .1) i l
   interval-known n (Ends t ∷ es) h i l = interval-known n es (h .1) i l
   interval-known n (Takes k t m ∷ es) h i l = interval-known n es (h .1) i l
-  interval-known n (Begins t r x ∷ es) h i l = go i (executes n r) l (interval-known n es (h .1))
+  interval-known n (Begins t r x ∷ es) h i l = go i (is-task n r) l (interval-known n es (h .1))
     where
       go : (i : ℕ) (b : Bool) → i < length (r ∷ cond b [] (upto n (intervals es)))
           → ((j : ℕ) → j < length (upto n (intervals es)) → KnownTask (getD (upto n (intervals es)) j NoTask)) → KnownTask (getD (r ∷ cond b [] (upto n (intervals es))) i NoTask)
@@ -64,22 +72,26 @@ module _ (present : ℕ) where
   known-processor (Executing n start until) h = h
   known-processor (Finished n start) h = h
 
-  known-begins : (t : ℕ) (p q : Phase) (ys : List Event) → phase-known present q → AllKnown ys → AllKnown (begins t p q ++ ys)
-  unfolding begins AllKnown
+  known-begins : (t : ℕ) (p q : Phase) (ys : List Event) → phase-known present q → AllKnown ys → AllKnown (begin-events t p q ++ ys)
+  unfolding begin-events AllKnown
   known-begins t (Within i) q ys h k = k
   known-begins t (Between next outgoing) (Between x y) ys h k = k
   known-begins t (Between next outgoing) (Within j) ys h k = (known-processor (j .processor) (h .1), k)
 
   known-happens : (d : State) (t set : ℕ) (ys : List Event) → set-known present set → phase-known present (at-g d t set .phase) → AllKnown ys → AllKnown (happens d t set ++ ys)
-  unfolding AllKnown tail-of
+  unfolding AllKnown
   known-happens d t set ys f g h =
-      let x : List Event = begins t (at-f d t set .state .phase) (at-g d t set .phase) in
-      let y : List Event = ends t (at-e d t set .phase) (at-f d t set .state .phase) in
-      let tail : AllKnown (y ++ (x ++ ys)) =
-      by-ends AllKnown t (λ es k. (tt, k)) (at-e d t set .phase) (at-f d t set .state .phase) (x ++ ys) (known-begins t (at-f d t set .state .phase) (at-g d t set .phase) ys g h) in
-      rw (happens-parts d t set ys, append-assoc y x ys)
-      (by-front AllKnown (λ t es k. (tt, k)) (λ n es k. (tt, k)) (λ n t es k. (tt, k)) (λ t es k. (tt, k)) d t (takes 32 (new-at d t set) (d .marked) t ++ (y ++ (x ++ ys)))
-      (by-takes AllKnown 32 (new-at d t set) (d .marked) t (λ n l m es k. (f n l (was-released n m), k)) (y ++ (x ++ ys)) tail))
+      let x : List Event = begin-events t (at-f d t set .state .phase) (at-g d t set .phase) in
+      let z : List Event = start-events t (at-f d t set .state .phase) (at-g d t set .phase) ++ ys in
+      let tail : AllKnown (tail-of d t set ++ ys) =
+      subst AllKnown (sym (tail-parts d t set ys))
+      (by-ends AllKnown t (λ es k. (tt, k)) (at-e d t set .phase) (at-f d t set .state .phase) (x ++ z)
+      (known-begins t (at-f d t set .state .phase) (at-g d t set .phase) z g
+      (by-starts AllKnown t (λ n es k. (tt, k)) (at-f d t set .state .phase) (at-g d t set .phase) ys h))) in
+      rw (happens-parts d t set ys)
+      (by-front AllKnown (λ t es k. (tt, k)) (λ n t es k. (tt, k)) (λ n t es k. (tt, k)) (λ n es k. (tt, k)) (λ n t es k. (tt, k)) (λ t es k. (tt, k)) d t
+      (take-events 32 (new-at d t set) (d .marked) t ++ (tail-of d t set ++ ys))
+      (by-takes AllKnown 32 (new-at d t set) (d .marked) t (λ n l m es k. (f n l (was-released n m), k)) (tail-of d t set ++ ys) tail))
     where
       was-released : (n : ℕ) → member n (new-at d t set) ≡ true → member n set ≡ true
       was-released n = unfold new-at taken in difference-left set (at-b d t .state .jobs .pending) n
@@ -95,5 +107,5 @@ module _ (table : Table) (marks : ℕ) (fair : Fair table marks) where
       let n : Good table marks fair (at-g d t set) = good-next table marks fair d t set g (served-at d t set e) in
       known-happens (table .present) d t set (history (at-g d t set) cs)
       (subst (λ (x : Table). Sub set (x .present)) (g .table-is) (served-at d t set e .known)) (n .parted .known) (k n))
-      (λ d n m cs e k g. k (good-mark table marks fair d n m e g))
+      (λ d m e h k g. k (good-quiet table marks fair d m e g))
       cs d

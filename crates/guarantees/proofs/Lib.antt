@@ -17,8 +17,16 @@ pub mod Served
 pub mod Invariant
 pub mod Engine
 pub mod CopyOuts
+pub mod Processing
+pub mod Executions
+pub mod Promotions
 pub mod Known
 pub mod Pending
 pub mod Completion
+pub mod Tally
+pub mod Tallies
+pub mod Knows
+pub mod Closings
+pub mod Told
 pub mod Demand3
 pub mod Arithmetic

@@ -1,25 +1,25 @@
 -- The order, along a history: the claim on each release, from what the states say of the intervals to come (Waiting).
-use Rattle.guarantees.specs.Types.{_≡_, refl, sym, ap, _∙_, subst, Bool, true, false, cond, false≢true, List, [], _∷_, _++_, append-assoc, _↔_, ℕ, zero, suc, _≤_, _<_, Table, MaybeTask, NoTask, Task, CopyIn, Unchosen, NoneChosen, Copying, Loaded, Cancelled, Interval, Next, Outgoing, Phase, Between, Within, State, Stage}
+use Rattle.guarantees.specs.Types.{_≡_, refl, sym, ap, _∙_, subst, Bool, true, false, cond, false≢true, List, [], _∷_, _++_, _↔_, ℕ, zero, suc, _≤_, _<_, Table, MaybeTask, NoTask, Task, CopyIn, Unchosen, NoneChosen, Copying, Loaded, Cancelled, Processor, Interval, Next, NoneNext, LoadedNext, PromotedNext, Outgoing, NoneOutgoing, AwaitsCopyOut, Phase, Between, Within, State, Stage, Due, Tick, Call}
 use native.Mathlib.Omega.{arith}
 use native.Mathlib.Nat.{not-suc-le-zero, le-of-suc-le-suc}
-use borrow.Author.Tests.{ltb-false}
+use borrow.Author.Tests.{eqb-true, ltb-false}
 use lib.Dec.{eqb}
 use lib.ListN.{getD, length}
 use Rattle.sets.specs.Sets.{member, intersection, insert, union}
-use Rattle.sets.specs.Laws.{by-test, clash, union-right, intersection-in, insert-other}
+use Rattle.sets.proofs.Laws.{by-test, clash, none, union-right, intersection-in, insert-other}
 use Rattle.guarantees.proofs.Highest.{Best}
 use Rattle.guarantees.proofs.Walk.{walk}
-use Rattle.guarantees.specs.History.{history, Event, Comes, Takes, Begins, Completes, Finishes, Ends, Call, happens, finishes, finishes-in, completes, ends, takes, begins}
-use Rattle.rules.specs.Instant.{step-a, step-b, step-c, step-d, step-e, step-g, close, close-stage, over, with-candidates, cancel, cancel-by, choose, begin, begin-processor, wanted, taken, ended, processor-task, copyin-at, at-a, at-b, at-e, at-f, at-g, new-at}
+use Rattle.guarantees.specs.History.{history, Event, Starts, Stops, Comes, Takes, Begins, Completes, Finishes, Ends, happens, finish-events, finish-events-in, completion-events, end-events, take-events, begin-events, start-events}
+use Rattle.rules.specs.Instant.{step-a, step-b, step-c, step-d, step-e, step-g, close, close-stage, over, with-candidates, cancel, cancel-by, choose, begin, begin-processor, wanted, taken, ended, processor-task, copyin-at, at-a, at-b, at-e, at-f, at-g, new-at, fresh-stage}
 use Rattle.rules.specs.With.{at-clock}
 use Rattle.rules.specs.Order.{highest-of, outranks}
-use Rattle.guarantees.specs.Reading.{Situation, NoneOpen, Open, situation, after-event, intervals}
-use Rattle.guarantees.specs.Claim.{executes, upto, met, Lower, LowerFinished}
+use Rattle.guarantees.specs.Queries.{is-task, Situation, NoneOpen, Open, situation, after-event, intervals, begin-tick, after, each, first, upto, met}
+use Rattle.guarantees.specs.Claim.{Lower, LowerFinished}
 use Rattle.guarantees.proofs.Frames.{table-b, marked-b, table-g}
 use Rattle.guarantees.proofs.Cases.{held-at, d-cases, e-cases}
 use Rattle.guarantees.proofs.Waiting.{NotLower, Waiting, Fate, Rule, Rival, Bound, Any, Old, Ahead, Then, rule-old, rule-any, e-waiting, from-c, to-come, ahead, soon}
-use Rattle.guarantees.proofs.Steps.{processor-task-same, NewIn, NewAt, c-new, best-of}
-use Rattle.guarantees.proofs.Events.{by-completes, by-takes, tail-of, tail-intervals, front-of, happens-parts}
+use Rattle.guarantees.proofs.Steps.{processor-task-same, Opened, e-opens, NewIn, NewAt, c-new, best-of}
+use Rattle.guarantees.proofs.Events.{by-processor, by-completes, by-takes, by-starts, tail-of, tail-intervals, front-of, happens-parts, front-parts, tail-parts}
 
 -- the situation in a phase
 abbrev pub finished-of : CopyIn → MaybeTask
@@ -45,12 +45,12 @@ candidates-bare d new (Within i) h = h
 
 -- ---- the situation, step by step
 
-c-situation : (d : State) (new : ℕ) (p : Phase) → situation-of (with-candidates d new p) ≡ situation-of p
+pub c-situation : (d : State) (new : ℕ) (p : Phase) → situation-of (with-candidates d new p) ≡ situation-of p
 unfolding with-candidates
 c-situation d new (Between next outgoing) = refl
 c-situation d new (Within i) = refl
 
-d-situation : (d : State) (new : ℕ) → situation-of (step-d d new (d .phase) .phase) ≡ situation-of (d .phase)
+pub d-situation : (d : State) (new : ℕ) → situation-of (step-d d new (d .phase) .phase) ≡ situation-of (d .phase)
 unfolding cancel
 d-situation d new = d-cases (λ x. situation-of (x .phase) ≡ situation-of (d .phase)) d new refl (λ i n u e s b. rw (e, s))
 
@@ -59,10 +59,10 @@ unfolding choose
 choose-situation d t i NoTask = refl
 choose-situation d t i (Task q) = refl
 
-e-situation : (d : State) (t : ℕ) → situation-of (step-e d t (d .phase) .phase) ≡ situation-of (d .phase)
+pub e-situation : (d : State) (t : ℕ) → situation-of (step-e d t (d .phase) .phase) ≡ situation-of (d .phase)
 e-situation d t = e-cases (λ x. situation-of (x .phase) ≡ situation-of (d .phase)) d t refl (λ i e s u. choose-situation d t i (highest-of d (d .jobs .ready)) ∙ rw (e, s))
 
-situation-e : (d : State) (t set : ℕ) → situation-of (at-e d t set .phase) ≡ situation-of (at-b d t .state .phase)
+pub situation-e : (d : State) (t set : ℕ) → situation-of (at-e d t set .phase) ≡ situation-of (at-b d t .state .phase)
 unfolding at-e step-c
 situation-e d t set =
     let b : State = at-b d t .state in
@@ -84,30 +84,38 @@ module _ (pr : List ℕ) where
     pub third : (i : ℕ) → 2 ≤ i → i < length (met n at rs) → NotLower pr n (getD (met n at rs) i NoTask)
     pub second : marked ≡ true → 1 < length (met n at rs) → Lower pr n (getD (met n at rs) 1 NoTask) ↔ LowerFinished pr n at
 
+  -- an interval begins at t, if none is open
+  abbrev pub AtOnce : ℕ → Situation → Due → Type 0
+  AtOnce t at b = at ≡ NoneOpen → b ≡ Tick t
+
   -- and on each release, along a history
   unfoldable pub Kept : Situation → List Event → Type 0
   Kept s [] = Unit {0}
   Kept s (Comes t ∷ es) = Kept s es
-  Kept s (Takes n t m ∷ es) = Waits n m s (intervals es) × Kept s es
+  Kept s (Takes n t m ∷ es) = (Waits n m s (intervals es) × AtOnce t s (begin-tick es)) × Kept s es
   Kept s (Finishes n ∷ es) = Kept (after-event s (Finishes n)) es
   Kept s (Completes n t ∷ es) = Kept s es
+  Kept s (Starts n t ∷ es) = Kept s es
+  Kept s (Stops n t ∷ es) = Kept s es
   Kept s (Ends t ∷ es) = Kept NoneOpen es
   Kept s (Begins t r l ∷ es) = Kept (Open r NoTask) es
 
   split : (s : Situation) (before after : List Event) (n t : ℕ) (m : Bool) → Kept s (before ++ (Takes n t m ∷ after))
-      → Waits n m (situation s before) (intervals after)
-  unfolding Kept situation
+      → Waits n m (situation s before) (intervals after) × AtOnce t (situation s before) (begin-tick after)
+  unfolding Kept after
   split s [] after n t m k = k .0
   split s (Comes t′ ∷ es) after n t m k = split s es after n t m k
   split s (Takes n′ t′ m′ ∷ es) after n t m k = split s es after n t m (k .1)
   split s (Finishes n′ ∷ es) after n t m k = split (after-event s (Finishes n′)) es after n t m k
   split s (Completes n′ t′ ∷ es) after n t m k = split s es after n t m k
+  split s (Starts n′ t′ ∷ es) after n t m k = split s es after n t m k
+  split s (Stops n′ t′ ∷ es) after n t m k = split s es after n t m k
   split s (Ends t′ ∷ es) after n t m k = split NoneOpen es after n t m k
   split s (Begins t′ r l ∷ es) after n t m k = split (Open r NoTask) es after n t m k
 
   -- so the claim holds of each release
   pub released-in : (h before after : List Event) (n t : ℕ) (m : Bool) → Kept NoneOpen h → h ≡ before ++ (Takes n t m ∷ after)
-      → Waits n m (situation NoneOpen before) (intervals after)
+      → Waits n m (situation NoneOpen before) (intervals after) × AtOnce t (situation NoneOpen before) (begin-tick after)
   released-in h before after n t m k e = split NoneOpen before after n t m (subst (λ (x : List Event). Kept NoneOpen x) e k)
 
   -- ---- from the walk along the intervals to the claim
@@ -115,11 +123,11 @@ module _ (pr : List ℕ) where
   module _ (n : ℕ) where
     -- past the first interval of a list
     past : (X : MaybeTask → Type 0) (r : MaybeTask) (rs : List MaybeTask) (i : ℕ) → suc i < length (upto n (r ∷ rs))
-        → (executes n r ≡ false → i < length (upto n rs) → X (getD (upto n rs) i NoTask)) → X (getD (upto n (r ∷ rs)) (suc i) NoTask)
+        → (is-task n r ≡ false → i < length (upto n rs) → X (getD (upto n rs) i NoTask)) → X (getD (upto n (r ∷ rs)) (suc i) NoTask)
     unfolding upto
-    past X r rs i l h = go (executes n r) refl l
+    past X r rs i l h = go (is-task n r) refl l
       where
-        go : (b : Bool) → executes n r ≡ b → suc i < length (r ∷ cond b [] (upto n rs)) → X (getD (cond b [] (upto n rs)) i NoTask)
+        go : (b : Bool) → is-task n r ≡ b → suc i < length (r ∷ cond b [] (upto n rs)) → X (getD (cond b [] (upto n rs)) i NoTask)
         go true e l = absurd (not-suc-le-zero (le-of-suc-le-suc l))
         go false e l = h e (le-of-suc-le-suc l)
 
@@ -271,15 +279,87 @@ module _ (pr : List ℕ) where
             waits-open (member n (d .marked)) (processor-task (i .processor)) (finished-of (i .copyin)) (intervals (tail-of d t set ++ history (at-g d t set) cs))
             (amid i e (i .copyin) refl (member n (d .marked)) refl)
 
+  -- ---- a release that comes while no interval is open
+
+  module _ (n : ℕ) (small : n < 32) where
+    abbrev Ready : State → Type 0
+    Ready d = member n (d .jobs .ready) ≡ true
+
+    -- steps d to f leave a state in which none is open
+    pub open-no-more : (c : State) (t new : ℕ) (p : Phase) (next : Next) (outgoing : Outgoing) → c .phase ≡ p → p ≡ Between next outgoing
+        → let x : State = step-d c new p in let e : State = step-e x t (x .phase) in
+        (step-b (fresh-stage e) t (e .phase) .state ≡ c) × (e .phase ≡ Between next outgoing)
+    unfolding step-d step-e step-b
+    open-no-more c t new (Between next′ outgoing′) next outgoing e f = rw e (refl, f)
+    open-no-more c t new (Within i) next outgoing e f = absurd (let z : _≡_ {A = ℕ} 0 1 = cc in omega arith)
+
+    wanted-ready : (next : Next) (outgoing : Outgoing) (ready : ℕ) → member n ready ≡ true → wanted next outgoing ready ≡ true
+    wanted-ready (LoadedNext k) outgoing ready h = refl
+    wanted-ready (PromotedNext k) outgoing ready h = refl
+    wanted-ready NoneNext (AwaitsCopyOut k s) ready h = refl
+    wanted-ready NoneNext NoneOutgoing ready h = by-test (eqb ready 0) (λ e. clash (member n ready) h (ap (member n) (eqb-true ready 0 e) ∙ none n)) (λ e. rw e)
+
+    begins-tick : (t : ℕ) (next : Next) (outgoing : Outgoing) (q : Processor) (p : Phase) (ys : List Event) → Opened q p → begin-tick (begin-events t (Between next outgoing) p ++ ys) ≡ Tick t
+    unfolding begin-events first
+    begins-tick t next outgoing q (Between x y) ys o = absurd o
+    begins-tick t next outgoing q (Within j) ys o = refl
+
+    begins-so : (f : State) (t new : ℕ) (next : Next) (outgoing : Outgoing) (ys : List Event) → Ready f
+        → begin-tick (begin-events t (Between next outgoing) (step-g f t new (Between next outgoing) .phase) ++ ys) ≡ Tick t
+    unfolding step-g begin
+    begins-so f t new next outgoing ys r =
+        let b : State = begin f t new next outgoing in
+        rw (wanted-ready next outgoing (f .jobs .ready) r)
+        (begins-tick t next outgoing (begin-processor (f .table) t next) (step-e b t (b .phase) .phase) ys (e-opens b t (begin-processor (f .table) t next) refl))
+
+    pub begins-at-once : (d : State) (t set : ℕ) (h : List Event) → member n (new-at d t set) ≡ true → (p : Phase) → at-b d t .state .phase ≡ p
+        → AtOnce t (situation-of p) (begin-tick (tail-of d t set ++ h))
+    begins-at-once d t set h m (Within i) e x = absurd (let z : _≡_ {A = ℕ} 0 1 = cc in omega arith)
+    begins-at-once d t set h m (Between next outgoing) e x =
+        ap begin-tick (tail-parts d t set h)
+        ∙ ap (λ (y : List Event). begin-tick (y ++ (begin-events t (f .phase) (at-g d t set .phase) ++ rest))) none-ends
+        ∙ (unfold at-g in subst (λ (p : Phase). begin-tick (begin-events t p (step-g f t (held-at d t set) p .phase) ++ rest) ≡ Tick t) (sym shut-f)
+        (begins-so f t (held-at d t set) next outgoing rest ready-f))
+      where
+        b : State
+        b = at-b d t .state
+
+        new : ℕ
+        new = new-at d t set
+
+        c : State
+        c = step-c b t new
+
+        f : State
+        f = at-f d t set .state
+
+        rest : List Event
+        rest = start-events t (f .phase) (at-g d t set .phase) ++ h
+
+        shut-c : c .phase ≡ Between next outgoing
+        shut-c = unfold step-c with-candidates in ap (with-candidates b new) e
+
+        left-so : (f ≡ c) × (at-e d t set .phase ≡ Between next outgoing)
+        left-so = unfold at-f at-e in open-no-more c t new (c .phase) next outgoing refl shut-c
+
+        shut-f : f .phase ≡ Between next outgoing
+        shut-f = ap (λ (x : State). x .phase) (left-so .0) ∙ shut-c
+
+        ready-f : Ready f
+        ready-f = ap (λ (x : State). member n (x .jobs .ready)) (left-so .0) ∙ (unfold step-c in union-right (b .jobs .ready) new n small m)
+
+        none-ends : end-events t (at-e d t set .phase) (f .phase) ≡ []
+        none-ends = unfold end-events in ap (λ (p : Phase). end-events t p (f .phase)) (left-so .1)
+
   -- ---- along an instant
 
-  kept-finishes : (d : State) (t : ℕ) (p : Phase) (ys : List Event) → d .phase ≡ p → Kept (situation-of (step-a d t p .state .phase)) ys → Kept (situation-of p) (finishes-in t p ++ ys)
-  unfolding step-a ended finishes-in finishes Kept
+  kept-finishes : (d : State) (t : ℕ) (p : Phase) (ys : List Event) → d .phase ≡ p → Kept (situation-of (step-a d t p .state .phase)) ys → Kept (situation-of p) (finish-events-in t p ++ ys)
+  unfolding step-a ended finish-events-in finish-events Kept
   kept-finishes d t (Between next outgoing) ys e k = subst (λ (x : Phase). Kept (situation-of x) ys) e k
   kept-finishes d t (Within i) ys e k =
       go (i .copyin) (subst (λ (r : MaybeTask). Kept (Open r (finished-of (copyin-at t (i .copyin)))) ys) (processor-task-same (d .table) t (i .processor)) k)
     where
-      go : (c : CopyIn) → Kept (Open (processor-task (i .processor)) (finished-of (copyin-at t c))) ys → Kept (Open (processor-task (i .processor)) (finished-of c)) (finishes t c ++ ys)
+      go : (c : CopyIn) → Kept (Open (processor-task (i .processor)) (finished-of (copyin-at t c))) ys → Kept (Open (processor-task (i .processor)) (finished-of c)) (finish-events t c ++ ys)
       go Unchosen k = k
       go NoneChosen k = k
       go (Copying n until) k = go-copying (eqb until t) k
@@ -291,79 +371,85 @@ module _ (pr : List ℕ) where
       go (Loaded n) k = k
       go (Cancelled n) k = k
 
-  kept-stays : (t : ℕ) (i : Interval) (q : Phase) (ys : List Event) → q ≡ Within i → Kept (situation-of q) ys → Kept (situation-of (Within i)) (ends t (Within i) q ++ ys)
-  unfolding ends
+  kept-stays : (t : ℕ) (i : Interval) (q : Phase) (ys : List Event) → q ≡ Within i → Kept (situation-of q) ys → Kept (situation-of (Within i)) (end-events t (Within i) q ++ ys)
+  unfolding end-events
   kept-stays t i q ys e k = rw e (rw e at k)
 
   kept-ends : (s : Stage) (t : ℕ) (p : Phase) (ys : List Event) → s .state .phase ≡ p → Kept (situation-of (step-b s t p .state .phase)) ys
-      → Kept (situation-of p) (ends t p (step-b s t p .state .phase) ++ ys)
-  unfolding step-b close-stage close ends Kept
+      → Kept (situation-of p) (end-events t p (step-b s t p .state .phase) ++ ys)
+  unfolding step-b close-stage close end-events Kept
   kept-ends s t (Between next outgoing) ys e k = subst (λ (x : Phase). Kept (situation-of x) ys) e k
   kept-ends s t (Within i) ys e k = go (over i) k
     where
-      go : (b : Bool) → Kept (situation-of (close-stage s t i b .state .phase)) ys → Kept (situation-of (Within i)) (ends t (Within i) (close-stage s t i b .state .phase) ++ ys)
+      go : (b : Bool) → Kept (situation-of (close-stage s t i b .state .phase)) ys → Kept (situation-of (Within i)) (end-events t (Within i) (close-stage s t i b .state .phase) ++ ys)
       go true k = k
       go false k = kept-stays t i (s .state .phase) ys e k
 
   kept-opens : (t : ℕ) (next : Next) (outgoing : Outgoing) (q : Phase) (r : MaybeTask) (ys : List Event) → situation-of q ≡ Open r NoTask → Kept (situation-of q) ys
-      → Kept NoneOpen (begins t (Between next outgoing) q ++ ys)
-  unfolding begins Kept
+      → Kept NoneOpen (begin-events t (Between next outgoing) q ++ ys)
+  unfolding begin-events Kept
   kept-opens t next outgoing (Between x y) r ys e k = k
   kept-opens t next outgoing (Within j) r ys e k =
       let z : finished-of (j .copyin) ≡ NoTask = cc in
       subst (λ (f : MaybeTask). Kept (Open (processor-task (j .processor)) f) ys) z k
 
   kept-shut : (t : ℕ) (next : Next) (outgoing : Outgoing) (q : Phase) (ys : List Event) → q ≡ Between next outgoing → Kept (situation-of q) ys
-      → Kept NoneOpen (begins t (Between next outgoing) q ++ ys)
-  unfolding begins Kept
+      → Kept NoneOpen (begin-events t (Between next outgoing) q ++ ys)
+  unfolding begin-events Kept
   kept-shut t next outgoing q ys e k = rw e (rw e at k)
 
   kept-begins : (f : State) (t new : ℕ) (p : Phase) (ys : List Event) → f .phase ≡ p → Kept (situation-of (step-g f t new p .phase)) ys
-      → Kept (situation-of p) (begins t p (step-g f t new p .phase) ++ ys)
-  unfolding step-g begins
+      → Kept (situation-of p) (begin-events t p (step-g f t new p .phase) ++ ys)
+  unfolding step-g begin-events
   kept-begins f t new (Within i) ys e k = subst (λ (x : Phase). Kept (situation-of x) ys) e k
   kept-begins f t new (Between next outgoing) ys e k = go (wanted next outgoing (f .jobs .ready)) k
     where
       b : State
       b = begin f t new next outgoing
 
-      go : (w : Bool) → Kept (situation-of (cond w (step-e b t (b .phase)) f .phase)) ys → Kept NoneOpen (begins t (Between next outgoing) (cond w (step-e b t (b .phase)) f .phase) ++ ys)
+      go : (w : Bool) → Kept (situation-of (cond w (step-e b t (b .phase)) f .phase)) ys → Kept NoneOpen (begin-events t (Between next outgoing) (cond w (step-e b t (b .phase)) f .phase) ++ ys)
       go true k = kept-opens t next outgoing (step-e b t (b .phase) .phase) (processor-task (begin-processor (f .table) t next)) ys (begin-situation f t new next outgoing) k
       go false k = kept-shut t next outgoing (f .phase) ys e k
 
-  kept-takes : (new marked t : ℕ) (s : Situation) (ys : List Event) → ((n : ℕ) → n < 32 → member n new ≡ true → Waits n (member n marked) s (intervals ys))
-      → Kept s ys → Kept s (takes 32 new marked t ++ ys)
-  unfolding Kept intervals
+  kept-takes : (new marked t : ℕ) (s : Situation) (ys : List Event)
+      → ((n : ℕ) → n < 32 → member n new ≡ true → Waits n (member n marked) s (intervals ys) × AtOnce t s (begin-tick ys))
+      → Kept s ys → Kept s (take-events 32 new marked t ++ ys)
+  unfolding Kept each first
   kept-takes new marked t s ys w h =
-      by-takes (λ zs. Kept s zs × (intervals zs ≡ intervals ys)) 32 new marked t
-      (λ n l m es k. ((subst (Waits n (member n marked) s) (sym (k .1)) (w n l m), k .0), k .1)) ys (h, refl) .0
+      by-takes (λ zs. Kept s zs × (intervals zs ≡ intervals ys) × (begin-tick zs ≡ begin-tick ys)) 32 new marked t
+      (λ n l m es k.
+      let x : Waits n (member n marked) s (intervals ys) × AtOnce t s (begin-tick ys) = w n l m in
+      (((subst (Waits n (member n marked) s) (sym (k .1)) (x .0), subst (AtOnce t s) (sym (k .2)) (x .1)), k .0), k .1, k .2)) ys (h, refl, refl) .0
 
   kept-front : (d : State) (t : ℕ) (ys : List Event) → Kept (situation-of (at-b d t .state .phase)) ys → Kept (situation-of (d .phase)) (front-of d t ++ ys)
-  unfolding front-of at-b at-a Kept
+  unfolding at-b at-a Kept
   kept-front d t ys k =
       let a : Stage = at-a d t in
-      let e : List Event = ends t (a .state .phase) (at-b d t .state .phase) in
-      rw (append-assoc (finishes-in t (d .phase)) (completes (a .done) ++ e) ys, append-assoc (completes (a .done)) e ys)
-      (kept-finishes (at-clock d t) t (d .phase) (completes (a .done) ++ (e ++ ys)) refl
-      (by-completes (Kept (situation-of (a .state .phase))) (λ n t es k. k) (a .done) (e ++ ys) (kept-ends a t (a .state .phase) ys refl k)))
+      let e : List Event = end-events t (a .state .phase) (at-b d t .state .phase) in
+      rw (front-parts d t ys)
+      (by-processor (Kept (situation-of (d .phase))) (λ n u es k. k) (λ n u es k. k) t (d .phase) (finish-events-in t (d .phase) ++ (completion-events (a .done) ++ (e ++ ys)))
+      (kept-finishes (at-clock d t) t (d .phase) (completion-events (a .done) ++ (e ++ ys)) refl
+      (by-completes (Kept (situation-of (a .state .phase))) (λ n t es k. k) (a .done) (e ++ ys) (kept-ends a t (a .state .phase) ys refl k))))
 
   kept-tail : (d : State) (t set : ℕ) (ys : List Event) → Kept (situation-of (at-g d t set .phase)) ys → Kept (situation-of (at-e d t set .phase)) (tail-of d t set ++ ys)
-  unfolding tail-of at-f at-g
+  unfolding at-f at-g Kept
   kept-tail d t set ys k =
       let e : State = at-e d t set in
       let f : State = at-f d t set .state in
-      rw (append-assoc (ends t (e .phase) (f .phase)) (begins t (f .phase) (at-g d t set .phase)) ys)
-      (kept-ends (record { state = e; done = at-b d t .done; closed = at-b d t .closed }) t (e .phase) (begins t (f .phase) (at-g d t set .phase) ++ ys) refl
-      (kept-begins f t (held-at d t set) (f .phase) ys refl k))
+      let z : List Event = start-events t (f .phase) (at-g d t set .phase) ++ ys in
+      rw (tail-parts d t set ys)
+      (kept-ends (fresh-stage e) t (e .phase) (begin-events t (f .phase) (at-g d t set .phase) ++ z) refl
+      (kept-begins f t (held-at d t set) (f .phase) z refl
+      (by-starts (Kept (situation-of (at-g d t set .phase))) t (λ n es k. k) (f .phase) (at-g d t set .phase) ys k)))
 
   kept-instant : (d : State) (t set : ℕ) (cs : List Call) → d .table .priority ≡ pr
       → Kept (situation-of (at-g d t set .phase)) (history (at-g d t set) cs) → Kept (situation-of (d .phase)) (happens d t set ++ history (at-g d t set) cs)
   kept-instant d t set cs p k =
       let h : List Event = history (at-g d t set) cs in
       rw (happens-parts d t set h)
-      (kept-front d t (takes 32 (new-at d t set) (d .marked) t ++ (tail-of d t set ++ h))
+      (kept-front d t (take-events 32 (new-at d t set) (d .marked) t ++ (tail-of d t set ++ h))
       (kept-takes (new-at d t set) (d .marked) t (situation-of (at-b d t .state .phase)) (tail-of d t set ++ h)
-      (λ n l m. released n l d t set cs p m (at-b d t .state .phase) refl)
+      (λ n l m. (released n l d t set cs p m (at-b d t .state .phase) refl, begins-at-once n l d t set h m (at-b d t .state .phase) refl))
       (subst (λ (s : Situation). Kept s (tail-of d t set ++ h)) (situation-e d t set) (kept-tail d t set h k))))
 
   pub kept : (d : State) (cs : List Call) → d .table .priority ≡ pr → Kept (situation-of (d .phase)) (history d cs)
@@ -372,5 +458,5 @@ module _ (pr : List ℕ) where
       walk (λ d h. d .table .priority ≡ pr → Kept (situation-of (d .phase)) h)
       (λ d p. tt)
       (λ d t set cs e k p. kept-instant d t set cs p (k (ap (λ (x : Table). x .priority) (table-g d t set) ∙ p)))
-      (λ d n m cs e k p. k p)
+      (λ d m e h k p. k p)
       cs d

@@ -1,28 +1,30 @@
 -- The pending jobs, by the history: a job is pending from its release until its completion, and the state's set says the same.
-use Rattle.guarantees.specs.Types.{_≡_, refl, sym, ap, _∙_, subst, Bool, true, false, cond, not, _&&_, _||_, true≢false, List, [], _∷_, _++_, append-assoc, ℕ, zero, suc, _≤_, _<_, MaybeTask, NoTask, Task, Interval, Phase, Between, Within, State, Done, NoJob, Job, Stage, Tick}
+use Rattle.guarantees.specs.Types.{_≡_, refl, sym, ap, _∙_, subst, Bool, true, false, cond, not, _&&_, _||_, true≢false, List, [], _∷_, _++_, append-assoc, ℕ, zero, suc, _≤_, _<_, MaybeTask, NoTask, Task, Interval, Phase, Between, Within, State, Done, NoJob, Job, Stage, Tick, Call}
 use native.Mathlib.Omega.{arith}
 use native.Mathlib.Nat.{not-suc-le-zero}
 use borrow.Author.Tests.{eqb-true, eqb-false, eq-eqb, ne-eqb}
 use lib.Dec.{eqb}
 use Rattle.sets.specs.Sets.{member, union}
-use Rattle.sets.specs.Laws.{by-test, united, removed}
+use Rattle.sets.proofs.Laws.{by-test, united, removed}
 use Rattle.rules.specs.With.{at-clock}
 use Rattle.rules.specs.Order.{highest-of}
-use Rattle.rules.specs.Instant.{step-a, step-b, step-c, step-d, step-e, step-g, close, cancel, choose, begin, without-done, after-done, at-a, at-b, at-e, at-f, at-g, new-at}
-use Rattle.guarantees.specs.History.{Event, Comes, Finishes, Completes, Ends, Takes, Begins, Call, history, after-calls, happens, finishes-in, completes, ends, takes, begins}
-use Rattle.guarantees.specs.Reading.{completion}
+use Rattle.rules.specs.Instant.{step-a, step-b, step-c, step-d, step-e, step-g, close, cancel, choose, begin, without-done, after-done, at-a, at-b, at-e, at-f, at-g, new-at, fresh-stage}
+use Rattle.guarantees.specs.History.{Event, Starts, Stops, Comes, Finishes, Completes, Ends, Takes, Begins, history, after-calls, happens, processor-events-in, finish-events-in, completion-events, end-events, take-events, begin-events, start-events}
+use Rattle.guarantees.specs.Queries.{completion, first}
 use Rattle.guarantees.proofs.Walk.{walk-to}
 use Rattle.guarantees.proofs.Cases.{held-at, b-cases, d-cases, e-cases, g-cases}
-use Rattle.guarantees.proofs.Events.{by-finishes, by-ends, by-takes, by-begins, tail-of, front-of, happens-parts}
+use Rattle.guarantees.proofs.Events.{by-processor, by-finishes, by-ends, by-takes, by-begins, by-starts, tail-of, happens-parts, front-parts, tail-parts}
 
 -- ---- by the history
 
 abbrev pub pending-by : ℕ → Bool → Event → Bool
 pending-by n b (Comes t) = b
 pending-by n b (Finishes k) = b
-pending-by n b (Completes k t) = cond (eqb k n) false b
+pending-by n b (Starts k v) = b
+pending-by n b (Stops k v) = b
+pending-by n b (Completes k t) = cond (eqb n k) false b
 pending-by n b (Ends t) = b
-pending-by n b (Takes k t m) = cond (eqb k n) true b
+pending-by n b (Takes k t m) = cond (eqb n k) true b
 pending-by n b (Begins t r l) = b
 
 -- whether task n has a pending job after some events
@@ -32,15 +34,17 @@ pending-in n b (e ∷ es) = pending-in n (pending-by n b e) es
 
 -- a job that is pending and later is not has completed
 has-completed : (n : ℕ) (es : List Event) → pending-in n true es ≡ false → (u : ℕ) × (completion n es ≡ Tick u)
-unfolding pending-in completion
+unfolding pending-in first
 has-completed n [] h = absurd (true≢false h)
 has-completed n (Comes t ∷ es) h = has-completed n es h
 has-completed n (Finishes k ∷ es) h = has-completed n es h
+has-completed n (Starts k v ∷ es) h = has-completed n es h
+has-completed n (Stops k v ∷ es) h = has-completed n es h
 has-completed n (Completes k t ∷ es) h =
-    by-test (eqb k n) (λ e. (t, rw e)) (λ e. let x : (u : ℕ) × (completion n es ≡ Tick u) = has-completed n es (rw e at h) in (x .0, rw e (x .1)))
+    by-test (eqb n k) (λ e. (t, rw e)) (λ e. let x : (u : ℕ) × (completion n es ≡ Tick u) = has-completed n es (rw e at h) in (x .0, rw e (x .1)))
 has-completed n (Ends t ∷ es) h = has-completed n es h
 has-completed n (Takes k t m ∷ es) h =
-    has-completed n es (by-test (eqb k n) (λ e. rw e at h) (λ e. rw e at h))
+    has-completed n es (by-test (eqb n k) (λ e. rw e at h) (λ e. rw e at h))
 has-completed n (Begins t r l ∷ es) h = has-completed n es h
 
 pub completes-after : (before after : List Event) (n t : ℕ) (m b : Bool) → pending-in n b (before ++ (Takes n t m ∷ after)) ≡ false
@@ -56,66 +60,65 @@ module _ (n : ℕ) where
   As b ys zs = pending-in n b zs ≡ pending-in n b ys
 
   tail-pending : (d : State) (t set : ℕ) (b : Bool) (ys : List Event) → pending-in n b (tail-of d t set ++ ys) ≡ pending-in n b ys
-  unfolding tail-of pending-in
+  unfolding pending-in
   tail-pending d t set b ys =
-      let x : List Event = begins t (at-f d t set .state .phase) (at-g d t set .phase) in
-      ap (pending-in n b) (append-assoc (ends t (at-e d t set .phase) (at-f d t set .state .phase)) x ys)
-      ∙ by-ends (As b ys) t (λ es e. e) (at-e d t set .phase) (at-f d t set .state .phase) (x ++ ys)
-      (by-begins (As b ys) t (λ r l es e. e) (at-f d t set .state .phase) (at-g d t set .phase) ys refl)
-
-  same-either-way : (k : ℕ) → eqb k n ≡ eqb n k
-  same-either-way k = by-test (eqb n k) (λ e. rw e (eq-eqb k n (sym (eqb-true n k e)))) (λ e. rw e (ne-eqb k n (λ x. eqb-false n k e (sym x))))
+      let x : List Event = begin-events t (at-f d t set .state .phase) (at-g d t set .phase) in
+      let y : List Event = start-events t (at-f d t set .state .phase) (at-g d t set .phase) ++ ys in
+      ap (pending-in n b) (tail-parts d t set ys)
+      ∙ by-ends (As b ys) t (λ es e. e) (at-e d t set .phase) (at-f d t set .state .phase) (x ++ y)
+      (by-begins (As b ys) t (λ r l es e. e) (at-f d t set .state .phase) (at-g d t set .phase) y
+      (by-starts (As b ys) t (λ k es e. e) (at-f d t set .state .phase) (at-g d t set .phase) ys refl))
 
   module _ (small : n < 32) where
-    completes-pending : (s : ℕ) (o : Done) (ys : List Event) → pending-in n (member n s) (completes o ++ ys) ≡ pending-in n (member n (after-done s o)) ys
-    unfolding completes pending-in
+    completes-pending : (s : ℕ) (o : Done) (ys : List Event) → pending-in n (member n s) (completion-events o ++ ys) ≡ pending-in n (member n (after-done s o)) ys
+    unfolding completion-events pending-in
     completes-pending s NoJob ys = refl
     completes-pending s (Job e) ys =
-        ap (λ (b : Bool). pending-in n b ys) (ap (λ (x : Bool). cond x false (member n s)) (same-either-way (e .task)) ∙ go (eqb n (e .task)) (member n s) ∙ sym (removed (e .task) s n small))
+        ap (λ (b : Bool). pending-in n b ys) (go (eqb n (e .task)) (member n s) ∙ sym (removed (e .task) s n small))
       where
         go : (x b : Bool) → cond x false b ≡ (not x && b)
         go true b = refl
         go false b = refl
 
-    one-other : (k t : ℕ) (m x b : Bool) (ys : List Event) → eqb k n ≡ false → pending-in n b (cond x (Takes k t m ∷ []) [] ++ ys) ≡ pending-in n b ys
+    one-other : (k t : ℕ) (m x b : Bool) (ys : List Event) → eqb n k ≡ false → pending-in n b (cond x (Takes k t m ∷ []) [] ++ ys) ≡ pending-in n b ys
     unfolding pending-in
     one-other k t m true b ys e = rw e
     one-other k t m false b ys e = refl
 
-    one-this : (k t : ℕ) (m x b : Bool) (ys : List Event) → eqb k n ≡ true → pending-in n b (cond x (Takes k t m ∷ []) [] ++ ys) ≡ pending-in n (b || x) ys
+    one-this : (k t : ℕ) (m x b : Bool) (ys : List Event) → eqb n k ≡ true → pending-in n b (cond x (Takes k t m ∷ []) [] ++ ys) ≡ pending-in n (b || x) ys
     unfolding pending-in
     one-this k t m true true ys e = rw e
     one-this k t m true false ys e = rw e
     one-this k t m false true ys e = refl
     one-this k t m false false ys e = refl
 
-    takes-others : (k new marked t : ℕ) (b : Bool) (ys : List Event) → k ≤ n → pending-in n b (takes k new marked t ++ ys) ≡ pending-in n b ys
+    takes-others : (k new marked t : ℕ) (b : Bool) (ys : List Event) → k ≤ n → pending-in n b (take-events k new marked t ++ ys) ≡ pending-in n b ys
     unfolding pending-in
-    takes-others k new marked t b ys l = by-takes (As b ys) k new marked t (λ j m x es e. rw (ne-eqb j n (omega arith)) e) ys refl
+    takes-others k new marked t b ys l = by-takes (As b ys) k new marked t (λ j m x es e. rw (ne-eqb n j (omega arith)) e) ys refl
 
-    takes-this : (k new marked t : ℕ) (b : Bool) (ys : List Event) → n < k → pending-in n b (takes k new marked t ++ ys) ≡ pending-in n (b || member n new) ys
-    unfolding takes
+    takes-this : (k new marked t : ℕ) (b : Bool) (ys : List Event) → n < k → pending-in n b (take-events k new marked t ++ ys) ≡ pending-in n (b || member n new) ys
+    unfolding take-events
     takes-this zero new marked t b ys l = absurd (not-suc-le-zero l)
     takes-this (suc k) new marked t b ys l =
-        ap (pending-in n b) (append-assoc (takes k new marked t) (cond (member k new) (Takes k t (member k marked) ∷ []) []) ys)
-        ∙ by-test (eqb k n)
-        (λ e. takes-others k new marked t b (cond (member k new) (Takes k t (member k marked) ∷ []) [] ++ ys) (omega (arith, eqb-true k n e))
-        ∙ one-this k t (member k marked) (member k new) b ys e ∙ ap (λ (j : ℕ). pending-in n (b || member j new) ys) (eqb-true k n e))
-        (λ e. takes-this k new marked t b (cond (member k new) (Takes k t (member k marked) ∷ []) [] ++ ys) (omega (arith, eqb-false k n e))
+        ap (pending-in n b) (append-assoc (take-events k new marked t) (cond (member k new) (Takes k t (member k marked) ∷ []) []) ys)
+        ∙ by-test (eqb n k)
+        (λ e. takes-others k new marked t b (cond (member k new) (Takes k t (member k marked) ∷ []) [] ++ ys) (omega (arith, eqb-true n k e))
+        ∙ one-this k t (member k marked) (member k new) b ys e ∙ ap (λ (j : ℕ). pending-in n (b || member j new) ys) (sym (eqb-true n k e)))
+        (λ e. takes-this k new marked t b (cond (member k new) (Takes k t (member k marked) ∷ []) [] ++ ys) (omega (arith, eqb-false n k e))
         ∙ one-other k t (member k marked) (member k new) (b || member n new) ys e)
 
     happens-pending : (d : State) (t set : ℕ) (ys : List Event)
         → pending-in n (member n (d .jobs .pending)) (happens d t set ++ ys) ≡ pending-in n (member n (union (after-done (d .jobs .pending) (at-a d t .done)) (new-at d t set))) ys
-    unfolding front-of
     happens-pending d t set ys =
         let new : ℕ = new-at d t set in
-        let rest : List Event = takes 32 new (d .marked) t ++ (tail-of d t set ++ ys) in
-        let e : List Event = ends t (at-a d t .state .phase) (at-b d t .state .phase) in
-        let c : List Event = completes (at-a d t .done) in
+        let rest : List Event = take-events 32 new (d .marked) t ++ (tail-of d t set ++ ys) in
+        let e : List Event = end-events t (at-a d t .state .phase) (at-b d t .state .phase) in
+        let c : List Event = completion-events (at-a d t .done) in
         let p : ℕ = d .jobs .pending in
         let s : ℕ = after-done (d .jobs .pending) (at-a d t .done) in
-        ap (pending-in n (member n p)) (happens-parts d t set ys ∙ simp append-assoc)
-        ∙ comes t (finishes-in t (d .phase) ++ (c ++ (e ++ rest)))
+        ap (pending-in n (member n p)) (happens-parts d t set ys ∙ front-parts d t rest)
+        ∙ comes t (processor-events-in t (d .phase) ++ (finish-events-in t (d .phase) ++ (c ++ (e ++ rest))))
+        ∙ skips-processor (member n p) (finish-events-in t (d .phase) ++ (c ++ (e ++ rest)))
         ∙ skips-finishes (member n p) (c ++ (e ++ rest))
         ∙ completes-pending p (at-a d t .done) (e ++ rest)
         ∙ skips-ends (member n s) rest
@@ -126,10 +129,13 @@ module _ (n : ℕ) where
         comes : (t : ℕ) (zs : List Event) → pending-in n (member n (d .jobs .pending)) (Comes t ∷ zs) ≡ pending-in n (member n (d .jobs .pending)) zs
         comes t zs = unfold pending-in in refl
 
-        skips-finishes : (b : Bool) (zs : List Event) → pending-in n b (finishes-in t (d .phase) ++ zs) ≡ pending-in n b zs
+        skips-processor : (b : Bool) (zs : List Event) → pending-in n b (processor-events-in t (d .phase) ++ zs) ≡ pending-in n b zs
+        skips-processor b zs = unfold pending-in in by-processor (As b zs) (λ k u es e. e) (λ k u es e. e) t (d .phase) zs refl
+
+        skips-finishes : (b : Bool) (zs : List Event) → pending-in n b (finish-events-in t (d .phase) ++ zs) ≡ pending-in n b zs
         skips-finishes b zs = unfold pending-in in by-finishes (As b zs) (λ k es e. e) t (d .phase) zs refl
 
-        skips-ends : (b : Bool) (zs : List Event) → pending-in n b (ends t (at-a d t .state .phase) (at-b d t .state .phase) ++ zs) ≡ pending-in n b zs
+        skips-ends : (b : Bool) (zs : List Event) → pending-in n b (end-events t (at-a d t .state .phase) (at-b d t .state .phase) ++ zs) ≡ pending-in n b zs
         skips-ends b zs = unfold pending-in in by-ends (As b zs) t (λ es e. e) (at-a d t .state .phase) (at-b d t .state .phase) zs refl
 
 -- ---- the state's set
@@ -168,7 +174,7 @@ pending-g d t set =
     let c : State = step-c b t new in
     let x : State = step-d c new (c .phase) in
     g-pending (at-f d t set .state) t (held-at d t set)
-    ∙ b-pending (record { state = at-e d t set; done = at-b d t .done; closed = at-b d t .closed }) t
+    ∙ b-pending (fresh-stage (at-e d t set)) t
     ∙ e-pending x t ∙ d-pending c new
     ∙ ap (λ (s : ℕ). union s new) (b-pending (at-a d t) t ∙ a-pending (at-clock d t) t (d .phase))
 
@@ -182,5 +188,5 @@ pending-same n small d cs =
     (λ d t set cs e k.
     happens-pending n small d t set (history (at-g d t set) cs)
     ∙ ap (λ (s : ℕ). pending-in n (member n s) (history (at-g d t set) cs)) (sym (pending-g d t set)) ∙ k)
-    (λ d m x cs e k. k)
+    (λ d m e h g k. k)
     cs d

@@ -4,14 +4,14 @@ use Rattle.guarantees.specs.Types.{_≡_, refl, sym, ap, _∙_, subst, B
 use native.Mathlib.Omega.{arith}
 use borrow.Author.Tests.{eqb-true, not-true}
 use lib.Dec.{eqb}
-use Rattle.sets.specs.Sets.{member, intersection, remove}
-use Rattle.sets.specs.Laws.{left, bit, united, inserted, removed, same-task, member-task, difference-right, size-union-apart, remove-out, union-out, insert-out, by-test, right, intersection-right, difference-left, size, size-remove, union-small, remove-small}
+use Rattle.sets.specs.Sets.{member, intersection, remove, bit, size}
+use Rattle.sets.proofs.Laws.{left, united, inserted, removed, same-task, member-task, difference-right, size-union-apart, remove-out, union-out, insert-out, by-test, right, intersection-right, difference-left, size-remove, union-small, remove-small}
 use Rattle.guarantees.proofs.Highest.{Best}
-use Rattle.guarantees.specs.Reading.{total, is-completion}
-use Rattle.rules.specs.Instant.{step-a, step-b, step-c, step-d, step-e, step-g, promoted, next-of, without-promoted, close, close-stage, over, with-candidates, cancel, choose, begin, begin-processor, begin-copyout, copying-out, wanted, taken, completed, without-done, ended, copyin-at, copyout-at, processor-at, awaiting-copyout, resting, after-done, settled, at-a, at-b, at-e, at-f, at-g, new-at}
+use Rattle.guarantees.specs.Queries.{total, is-completion}
+use Rattle.rules.specs.Instant.{step-a, step-b, step-c, step-d, step-e, step-g, promoted, next-of, without-promoted, close, close-stage, over, with-candidates, cancel, choose, begin, begin-processor, begin-copyout, copying-out, wanted, taken, completed, without-done, ended, copyin-at, copyout-at, processor-at, awaiting-copyout, resting, after-done, settled, at-a, at-b, at-e, at-f, at-g, new-at, fresh-stage}
 use Rattle.rules.specs.With.{at-clock}
 use Rattle.rules.specs.Order.{highest-of}
-use Rattle.guarantees.specs.History.{completes}
+use Rattle.guarantees.specs.History.{completion-events}
 use Rattle.guarantees.proofs.Steps.{Sub, best-of, settles}
 use Rattle.guarantees.proofs.Cases.{held-at, d-cases, e-cases, copyin-cases, processor-cases}
 use Rattle.guarantees.specs.States.{Known, copyin-known, processor-known, copyout-known, next-known, outgoing-known, phase-known}
@@ -106,11 +106,11 @@ module _ (present : ℕ) (tasks : present < 2 ^ 32) where
     pub known : copyout-known present o′
     pub parts : (k : ℕ) → k < 32 → (r : ℕ) → bit (member k (j .pending)) ≡ r + copyout-bit k o
         → bit (member k (after-done (j .pending) done)) ≡ r + copyout-bit k o′
-    pub sizes : size (after-done (j .pending) done) + total is-completion (completes done) ≡ size (j .pending)
+    pub sizes : size (after-done (j .pending) done) + total is-completion (completion-events done) ≡ size (j .pending)
 
   a-left : (j : Jobs) (t : ℕ) (o : CopyOut) → j .pending < 2 ^ 32 → copyout-known present o
       → ((k : ℕ) → k < 32 → (r : ℕ) × (bit (member k (j .pending)) ≡ r + copyout-bit k o)) → Left j o (completed j t o) (copyout-at t o)
-  unfolding completed copyout-at completes total
+  unfolding completed copyout-at completion-events total
   a-left j t NoCopyOut f h p = record { few = f; pending = λ k l m. m; known = tt; parts = λ k l r e. e; sizes = omega arith }
   a-left j t (CopiedOut n) f h p = record { few = f; pending = λ k l m. m; known = h; parts = λ k l r e. e; sizes = omega arith }
   a-left j t (CopyingOut n start until) f h p =
@@ -129,9 +129,9 @@ module _ (present : ℕ) (tasks : present < 2 ^ 32) where
       (λ e. rw e (record { few = f; pending = λ k l m. m; known = h; parts = λ k l r e. e; sizes = omega arith }))
 
   pub a-moves : (d : State) (t : ℕ) (p : Phase) → d .phase ≡ p → Parted d p
-      → Moves d p (step-a d t p .state) (step-a d t p .state .phase) (total is-completion (completes (step-a d t p .done))) 0
+      → Moves d p (step-a d t p .state) (step-a d t p .state .phase) (total is-completion (completion-events (step-a d t p .done))) 0
   unfolding step-a without-done ended
-  a-moves d t (Between next outgoing) e h = unfold completes total in back d (Between next outgoing) e h
+  a-moves d t (Between next outgoing) e h = unfold completion-events total in back d (Between next outgoing) e h
   a-moves d t (Within i) e h =
       let l : Left (d .jobs) (i .copyout) (completed (d .jobs) t (i .copyout)) (copyout-at t (i .copyout)) =
       a-left (d .jobs) t (i .copyout) (h .few) (h .known .2)
@@ -393,11 +393,11 @@ module _ (present : ℕ) (tasks : present < 2 ^ 32) where
       go false = back f (Between next outgoing) e h
 
   -- ---- the steps together
-  pub to-b : (d : State) (t : ℕ) → Parted d (d .phase) → Moves d (d .phase) (at-b d t .state) (at-b d t .state .phase) (total is-completion (completes (at-a d t .done))) 0
+  pub to-b : (d : State) (t : ℕ) → Parted d (d .phase) → Moves d (d .phase) (at-b d t .state) (at-b d t .state .phase) (total is-completion (completion-events (at-a d t .done))) 0
   unfolding at-b at-a
   to-b d t h =
       let a : Stage = at-a d t in
-      let x : Moves (at-clock d t) (d .phase) (a .state) (a .state .phase) (total is-completion (completes (a .done))) 0 =
+      let x : Moves (at-clock d t) (d .phase) (a .state) (a .state .phase) (total is-completion (completion-events (a .done))) 0 =
       a-moves (at-clock d t) t (d .phase) refl (record { few = h .few; marks = h .marks; pending = h .pending; ready = h .ready; known = h .known; parts = h .parts }) in
       let y : Moves (a .state) (a .state .phase) (at-b d t .state) (at-b d t .state .phase) 0 0 = b-moves a t (a .state .phase) refl (x .parted) in
       record { parted = y .parted; sizes = omega (arith, x .sizes, y .sizes) }
@@ -424,14 +424,14 @@ module _ (present : ℕ) (tasks : present < 2 ^ 32) where
       let e : State = at-e d t set in
       let f : State = at-f d t set .state in
       let g : State = at-g d t set in
-      let x : Moves e (e .phase) f (f .phase) 0 0 = b-moves (record { state = e; done = at-b d t .done; closed = at-b d t .closed }) t (e .phase) refl h in
+      let x : Moves e (e .phase) f (f .phase) 0 0 = b-moves (fresh-stage e) t (e .phase) refl h in
       let y : Moves f (f .phase) g (g .phase) 0 0 = g-moves f t (held-at d t set) (f .phase) refl (x .parted) in
       record { parted = y .parted; sizes = omega (arith, x .sizes, y .sizes) }
 
   pub instant-moves : (d : State) (t set : ℕ) → Sub set present → Parted d (d .phase)
-      → Moves d (d .phase) (at-g d t set) (at-g d t set .phase) (total is-completion (completes (at-a d t .done))) (size (new-at d t set))
+      → Moves d (d .phase) (at-g d t set) (at-g d t set .phase) (total is-completion (completion-events (at-a d t .done))) (size (new-at d t set))
   instant-moves d t set f h =
-      let x : Moves d (d .phase) (at-b d t .state) (at-b d t .state .phase) (total is-completion (completes (at-a d t .done))) 0 = to-b d t h in
+      let x : Moves d (d .phase) (at-b d t .state) (at-b d t .state .phase) (total is-completion (completion-events (at-a d t .done))) 0 = to-b d t h in
       let y : Moves (at-b d t .state) (at-b d t .state .phase) (at-e d t set) (at-e d t set .phase) 0 (size (new-at d t set)) = to-e d t set f (x .parted) in
       let z : Moves (at-e d t set) (at-e d t set .phase) (at-g d t set) (at-g d t set .phase) 0 0 = to-g d t set (y .parted) in
       record { parted = z .parted; sizes = omega (arith, x .sizes, y .sizes, z .sizes) }

@@ -1,5 +1,5 @@
 -- The tables that opening serves: they have a task, all priorities are different, and each length is in its range.
-use Rattle.guarantees.specs.Types.{_≡_, refl, sym, ap, _∙_, subst, Bool, true, false, cond, _&&_, _||_, List, _⊎_, inl, inr, ⊎-elim, ℕ, zero, suc, _+_, _^_, _≤_, _<_, Table, State, Opening, Refusal, NoRefusal, Alone, AtEntry, Tasks}
+use Rattle.guarantees.specs.Types.{_≡_, refl, sym, ap, _∙_, subst, Bool, true, false, cond, _&&_, _||_, List, _⊎_, inl, inr, ⊎-elim, ℕ, zero, suc, _+_, _^_, _≤_, _<_, Table, State, Opening, Refusal, NoRefusal, Alone, AtEntry, TaskPart}
 use Rattle.entries.specs.declared.TaskParameters.{TaskParameters}
 use Rattle.entries.specs.declared.Entry.{Entry}
 use Rattle.entries.specs.declared.Entry.the-variants.{Malformed, TaskEntry, ReleaseEntry}
@@ -9,10 +9,12 @@ use borrow.Author.Tests.{eqb-true, eqb-false, eq-eqb, ltb-false}
 use lib.Dec.{eqb, ltb}
 use lib.ListN.{length, getD, set, length-set}
 use lib.Seq.{getD-set-same, getD-set-other}
+use Rattle.table.specs.Table.{copyin-length, execution-length, copyout-length, with-lengths}
+use Rattle.table.proofs.Columns.{copyin-more, execution-more, copyout-more, columns-long}
 use Rattle.sets.specs.Sets.{member, insert}
-use Rattle.sets.specs.Laws.{by-test, below-suc, clash, both, none, insert-same, insert-other, insert-out, insert-small, member-task}
+use Rattle.sets.proofs.Laws.{by-test, below-suc, clash, both, none, insert-same, insert-other, insert-out, insert-small, member-task}
 use Rattle.entries.specs.Entries.{entry-at}
-use Rattle.table.specs.Tasks.{no-table, given, outside, number-refused, mark-or-length-refusal, task-refusal, with-task, with-marked, refused-at, read-to, behind-tasks, tasks-from, tasks-of}
+use Rattle.table.specs.TaskPart.{no-table, given, outside, number-refused, mark-or-length-refusal, task-refusal, with-task, with-marked, refused-at, read-to, behind-tasks, tasks-from, task-part}
 use Rattle.rules.specs.Calls.{opened, not-opened, opened-behind, opening}
 
 -- ---- tests in a row
@@ -40,19 +42,17 @@ pub record Fair (table : Table) (marked : ℕ) : Type 0 where
   pub marks : (k : ℕ) → member k marked ≡ true → member k (table .present) ≡ true
   pub different : (j k : ℕ) → member j (table .present) ≡ true → member k (table .present) ≡ true
       → getD (table .priority) j 0 ≡ getD (table .priority) k 0 → j ≡ k
-  pub copyins : (k : ℕ) → member k (table .present) ≡ true → InRange (getD (table .copyin) k 0)
-  pub executions : (k : ℕ) → member k (table .present) ≡ true → InRange (getD (table .execution) k 0)
-  pub copyouts : (k : ℕ) → member k (table .present) ≡ true → InRange (getD (table .copyout) k 0)
+  pub copyins : (k : ℕ) → member k (table .present) ≡ true → InRange (copyin-length (table .columns) k)
+  pub executions : (k : ℕ) → member k (table .present) ≡ true → InRange (execution-length (table .columns) k)
+  pub copyouts : (k : ℕ) → member k (table .present) ≡ true → InRange (copyout-length (table .columns) k)
 
 -- with room for 32 tasks
 pub record Roomy (table : Table) : Type 0 where
   pub priorities : length (table .priority) ≡ 32
-  pub copyins : length (table .copyin) ≡ 32
-  pub executions : length (table .execution) ≡ 32
-  pub copyouts : length (table .copyout) ≡ 32
+  pub columns : length (table .columns) ≡ 96
 
 roomy-none : Roomy no-table
-roomy-none = record { priorities = refl; copyins = refl; executions = refl; copyouts = refl }
+roomy-none = record { priorities = refl; columns = refl }
 
 fair-none : Fair no-table 0
 fair-none = record {
@@ -101,13 +101,14 @@ module _ (t : Table) (marked : ℕ) (fair : Fair t marked) (roomy : Roomy t) (p 
       let z : (outside (p .execution) ≡ false) × (outside (p .copyout) ≡ false) = neither (outside (p .execution)) (outside (p .copyout)) (y .1) in
       (omega (arith, ltb-false 31 n (x .0)), x .1, f .1, in-range (p .copyin) (y .0), in-range (p .execution) (z .0), in-range (p .copyout) (z .1))
 
-  -- of a list with one value for each task: a property of the new value and of those of the tasks before
-  stored : (P : ℕ → Type 0) (xs : List ℕ) (v : ℕ) → length xs ≡ 32 → P v → ((k : ℕ) → member k (t .present) ≡ true → P (getD xs k 0))
-      → (k : ℕ) → member k (insert n (t .present)) ≡ true → P (getD (set xs n v) k 0)
-  stored P xs v l h f k m =
+  -- of a column: a property of the new task's value and of those of the tasks before
+  stored : (P : ℕ → Type 0) (old new : ℕ → ℕ) (v : ℕ) → ((k : ℕ) → k < 32 → new k ≡ cond (eqb k n) v (old k)) → P v
+      → ((k : ℕ) → member k (t .present) ≡ true → P (old k)) → (k : ℕ) → member k (insert n (t .present)) ≡ true → P (new k)
+  stored P old new v at h f k m =
+      let is : new k ≡ cond (eqb k n) v (old k) = at k (member-task k (insert n (t .present)) (insert-small n (t .present)) m) in
       by-test (eqb k n)
-      (λ e. subst P (sym (ap (λ (x : ℕ). getD (set xs n v) x 0) (eqb-true k n e) ∙ getD-set-same xs n v 0 (omega (arith, met .0)))) h)
-      (λ e. subst P (sym (getD-set-other xs n k v 0 (eqb-false k n e))) (f k (⊎-elim (λ x. clash (eqb k n) x e) (λ x. x) (insert-out n (t .present) k m))))
+      (λ e. subst P (sym (is ∙ rw e)) h)
+      (λ e. subst P (sym (is ∙ rw e)) (f k (⊎-elim (λ x. clash (eqb k n) x e) (λ x. x) (insert-out n (t .present) k m))))
 
   apart : (j k : ℕ) → member j (insert n (t .present)) ≡ true → member k (insert n (t .present)) ≡ true
       → getD (set (t .priority) n (p .priority)) j 0 ≡ getD (set (t .priority) n (p .priority)) k 0 → j ≡ k
@@ -154,18 +155,16 @@ module _ (t : Table) (marked : ℕ) (fair : Fair t marked) (roomy : Roomy t) (p 
     present = insert-small n (t .present);
     marks = marks-more;
     different = apart;
-    copyins = stored InRange (t .copyin) (p .copyin) (roomy .copyins) (met .3) (fair .copyins);
-    executions = stored InRange (t .execution) (p .execution) (roomy .executions) (met .4) (fair .executions);
-    copyouts = stored InRange (t .copyout) (p .copyout) (roomy .copyouts) (met .5) (fair .copyouts);
+    copyins = stored InRange (copyin-length (t .columns)) (copyin-length (with-lengths (t .columns) p)) (p .copyin) (copyin-more (t .columns) p (roomy .columns) (met .0)) (met .3) (fair .copyins);
+    executions = stored InRange (execution-length (t .columns)) (execution-length (with-lengths (t .columns) p)) (p .execution) (execution-more (t .columns) p (roomy .columns) (met .0)) (met .4) (fair .executions);
+    copyouts = stored InRange (copyout-length (t .columns)) (copyout-length (with-lengths (t .columns) p)) (p .copyout) (copyout-more (t .columns) p (roomy .columns) (met .0)) (met .5) (fair .copyouts);
   }
 
   roomy-more : Roomy (with-task t p)
   unfolding with-task
   roomy-more = record {
     priorities = length-set (t .priority) n (p .priority) ∙ roomy .priorities;
-    copyins = length-set (t .copyin) n (p .copyin) ∙ roomy .copyins;
-    executions = length-set (t .execution) n (p .execution) ∙ roomy .executions;
-    copyouts = length-set (t .copyout) n (p .copyout) ∙ roomy .copyouts;
+    columns = columns-long (t .columns) p ∙ roomy .columns;
   }
 
   some-more : member n (with-task t p .present) ≡ true
@@ -179,7 +178,7 @@ module _ (t : Table) (marked : ℕ) (fair : Fair t marked) (roomy : Roomy t) (p 
 -- ---- the entries one after another
 
 -- what an entry can lead to
-module _ (P : Tasks → Type 0) (s : List ℕ) (k at : ℕ) (t : Table) (marked : ℕ) where
+module _ (P : TaskPart → Type 0) (s : List ℕ) (k at : ℕ) (t : Table) (marked : ℕ) where
   entry-cases : P (read-to t marked at) → ((n : ℕ) → P (refused-at n at))
       → ((p : TaskParameters) → task-refusal t p ≡ 0 → P (tasks-from k s (at + 16) (with-task t p) (with-marked marked p))) → P (tasks-from (suc k) s at t marked)
   unfolding tasks-from
@@ -213,11 +212,11 @@ module _ (P : Tasks → Type 0) (s : List ℕ) (k at : ℕ) (t : Table) (marked 
       go false = go-entry (entry-at s at)
 
 -- what is read without a refusal is fair, and has a task or nothing was read
-abbrev Read : ℕ → Tasks → Type 0
+abbrev Read : ℕ → TaskPart → Type 0
 Read at r = r .refusal ≡ NoRefusal → Fair (r .table) (r .marked) × ((r .end ≡ at) ⊎ ((n : ℕ) × (member n (r .table .present) ≡ true)))
 
 -- with a task before, there is one after
-abbrev ReadOn : Tasks → Type 0
+abbrev ReadOn : TaskPart → Type 0
 ReadOn r = r .refusal ≡ NoRefusal → Fair (r .table) (r .marked) × ((n : ℕ) × (member n (r .table .present) ≡ true))
 
 unread {ℓ} : {A : Type ℓ} (n at : ℕ) → AtEntry n at ≡ NoRefusal → A
@@ -260,7 +259,7 @@ some-proper table marked f n m = record {
 abbrev OpensIf : Opening → Type 0
 OpensIf o = o .refusal ≡ NoRefusal → Opens (o .state)
 
-opens-behind : (k : Tasks) (size : ℕ) (r : Refusal) → k .refusal ≡ r → (size ≡ 0 → ⊥) → Read 0 k → OpensIf (opened-behind k size r)
+opens-behind : (k : TaskPart) (size : ℕ) (r : Refusal) → k .refusal ≡ r → (size ≡ 0 → ⊥) → Read 0 k → OpensIf (opened-behind k size r)
 opens-behind k size NoRefusal e h read = go (eqb (k .end) size) refl (read e)
   where
     go : (b : Bool) → eqb (k .end) size ≡ b → Fair (k .table) (k .marked) × ((k .end ≡ 0) ⊎ ((n : ℕ) × (member n (k .table .present) ≡ true)))
@@ -276,8 +275,8 @@ unfolding opening
 opens bytes = go (eqb (length bytes) 0) refl
   where
     go : (b : Bool) → eqb (length bytes) 0 ≡ b
-        → OpensIf (cond b (not-opened (Alone 12)) (opened-behind (tasks-of bytes) (length bytes) (tasks-of bytes .refusal)))
+        → OpensIf (cond b (not-opened (Alone 12)) (opened-behind (task-part bytes) (length bytes) (task-part bytes .refusal)))
     go true b = λ x. absurd (let z : _≡_ {A = ℕ} 0 1 = cc in omega arith)
     go false b =
-        opens-behind (tasks-of bytes) (length bytes) (tasks-of bytes .refusal) refl (eqb-false (length bytes) 0 b)
-        (unfold tasks-of in reads (length bytes) bytes 0 no-table 0 fair-none roomy-none)
+        opens-behind (task-part bytes) (length bytes) (task-part bytes .refusal) refl (eqb-false (length bytes) 0 b)
+        (unfold task-part in reads (length bytes) bytes 0 no-table 0 fair-none roomy-none)

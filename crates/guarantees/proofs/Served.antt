@@ -4,8 +4,8 @@ use Rattle.guarantees.specs.Types.{_≡_, refl, sym, ap, _∙_, subst, t
 use native.Mathlib.Omega.{arith}
 use borrow.Author.Tests.{eqb-true, eq-eqb, ltb-false, le-ltb, leb-false, leb-true, not-false}
 use lib.Dec.{eqb, ltb, leb}
-use Rattle.sets.specs.Sets.{member, difference}
-use Rattle.sets.specs.Laws.{bit, difference-in, none, by-test, clash, size}
+use Rattle.sets.specs.Sets.{member, difference, bit, size}
+use Rattle.sets.proofs.Laws.{difference-in, none, by-test, clash}
 use Rattle.rules.specs.Calls.{unknown, not-after, before-now, refusal}
 use Rattle.rules.specs.Instant.{step-a, without-done, ended, copyin-at, copyout-at, processor-at, due, sooner, processor-due, copyout-due, copyin-due, at-a, at-b, at-e, at-g, new-at}
 use Rattle.rules.specs.With.{at-clock}

@@ -4,9 +4,9 @@ use Rattle.guarantees.specs.Types.{_≡_, refl, sym, subst, true, false,
 use borrow.Author.Tests.{eqb-true, eqb-false, not-true, not-false}
 use lib.Dec.{eqb}
 use Rattle.sets.specs.Sets.{intersection}
-use Rattle.sets.specs.Laws.{by-test, empty}
+use Rattle.sets.proofs.Laws.{by-test, empty}
 use Rattle.guarantees.proofs.Highest.{Best}
-use Rattle.rules.specs.Instant.{step-b, step-c, step-d, step-e, step-g, close, over, choose, choose-if, begin, begin-processor, copying-out, wanted, resting, at-b, at-e, at-f, at-g, new-at}
+use Rattle.rules.specs.Instant.{step-b, step-c, step-d, step-e, step-g, close, over, choose, choose-if, begin, begin-processor, copying-out, wanted, resting, at-b, at-e, at-f, at-g, new-at, fresh-stage}
 use Rattle.rules.specs.Order.{highest-of}
 use Rattle.guarantees.proofs.Cases.{held-at, b-cases, g-cases}
 use Rattle.guarantees.proofs.Steps.{Opened, e-opens, best-of}
@@ -133,6 +133,6 @@ settled-after d t set h =
     let c : State = step-c (b .state) t new in
     let x : State = step-d c new (c .phase) in
     let e : State = at-e d t set in
-    let s : Stage = record { state = e; done = b .done; closed = b .closed } in
+    let s : Stage = fresh-stage e in
     let f : State = at-f d t set .state in
     g-settled f t (held-at d t set) h (f-decided s t (e-decided x t (x .phase) refl)) (f-open s t)

@@ -1,7 +1,7 @@
 -- Small facts on single steps, which several of the proofs use.
 use Rattle.guarantees.specs.Types.{_≡_, refl, sym, ap, subst, true, not, _&&_, ℕ, _<_, Table, MaybeTask, NoTask, Task, Processor, Interval, Phase, Between, Within, State}
 use Rattle.sets.specs.Sets.{member, intersection}
-use Rattle.sets.specs.Laws.{right, union-right, intersection-in}
+use Rattle.sets.proofs.Laws.{right, union-right, intersection-in}
 use Rattle.rules.specs.Order.{highest-of}
 use Rattle.rules.specs.Instant.{processor-at, processor-task, resting, settled, step-c, step-e, over, with-candidates, choose, copying-out}
 use Rattle.guarantees.proofs.Highest.{Best, best}

@@ -5,10 +5,11 @@ use native.Mathlib.Omega.{arith}
 use borrow.Author.Tests.{eqb-false}
 use lib.Dec.{eqb}
 use lib.ListN.{getD}
-use Rattle.sets.specs.Sets.{member, union, intersection}
-use Rattle.sets.specs.Laws.{bit, united, difference-right, none, by-test, clash, intersection-left, difference-left, empty, union-small}
+use Rattle.table.specs.Table.{copyin-length, execution-length, copyout-length}
+use Rattle.sets.specs.Sets.{member, union, intersection, bit}
+use Rattle.sets.proofs.Laws.{united, difference-right, none, by-test, clash, intersection-left, difference-left, empty, union-small}
 use Rattle.guarantees.proofs.Highest.{Best}
-use Rattle.rules.specs.Instant.{step-a, step-b, step-c, step-d, step-e, step-g, close, over, with-candidates, cancel, choose, begin, begin-processor, begin-copyout, copying-out, wanted, taken, without-done, ended, copyin-at, copyout-at, processor-at, at-a, at-b, at-e, at-f, at-g, new-at}
+use Rattle.rules.specs.Instant.{step-a, step-b, step-c, step-d, step-e, step-g, close, over, with-candidates, cancel, choose, begin, begin-processor, begin-copyout, copying-out, wanted, taken, without-done, ended, copyin-at, copyout-at, processor-at, at-a, at-b, at-e, at-f, at-g, new-at, fresh-stage}
 use Rattle.rules.specs.With.{at-clock, later}
 use Rattle.rules.specs.Order.{highest-of, outranks}
 use Rattle.guarantees.proofs.Frames.{Frame, b-frame, c-frame, d-frame, table-b, table-e}
@@ -71,9 +72,9 @@ module _ (P Q : ℕ → Type 0) (f : (u : ℕ) → P u → Q u) where
 module _ (table : Table) (tasks : table .present < 2 ^ 32) (t : ℕ) (P : ℕ → Type 0) where
   -- what starts at t ends at a time with P
   pub record Starts : Type 0 where
-    pub copyin : (n : ℕ) → member n (table .present) ≡ true → P (later t (getD (table .copyin) n 0))
-    pub execution : (n : ℕ) → member n (table .present) ≡ true → P (later t (getD (table .execution) n 0))
-    pub copyout : (n : ℕ) → member n (table .present) ≡ true → P (later t (getD (table .copyout) n 0))
+    pub copyin : (n : ℕ) → member n (table .present) ≡ true → P (later t (copyin-length (table .columns) n))
+    pub execution : (n : ℕ) → member n (table .present) ≡ true → P (later t (execution-length (table .columns) n))
+    pub copyout : (n : ℕ) → member n (table .present) ≡ true → P (later t (copyout-length (table .columns) n))
 
   abbrev pub Later : ℕ → Type 0
   Later u = (u ≡ t → ⊥) → P u
@@ -129,7 +130,7 @@ module _ (table : Table) (tasks : table .present < 2 ^ 32) (t : ℕ) (P : ℕ �
     unfolding choose
     choose-times d i NoTask x k b h = (h .0, h .1, tt)
     choose-times d i (Task q) x k b h =
-        (h .0, h .1, subst (λ (y : Table). P (later t (getD (y .copyin) q 0))) (sym x) (s .copyin q (k q (b .0) (b .1))))
+        (h .0, h .1, subst (λ (y : Table). P (later t (copyin-length (y .columns) q))) (sym x) (s .copyin q (k q (b .0) (b .1))))
 
     e-times : (d : State) → d .table ≡ table → Sub (d .jobs .ready) (table .present) → Times P (d .phase) → Times P (step-e d t (d .phase) .phase)
     e-times d x k h =
@@ -171,7 +172,7 @@ module _ (table : Table) (tasks : table .present < 2 ^ 32) (t : ℕ) (P : ℕ �
         let c : State = step-c b t new in
         let y : State = step-d c new (c .phase) in
         let e : State = at-e d t set in
-        let z : Stage = record { state = e; done = at-b d t .done; closed = at-b d t .closed } in
+        let z : Stage = fresh-stage e in
         let ff : State = at-f d t set .state in
         let k0 : Parted pr tasks d0 (d .phase) = record { few = k .few; marks = k .marks; pending = k .pending; ready = k .ready; known = k .known; parts = k .parts } in
         let kb : Parted pr tasks b (b .phase) = Places.to-b pr tasks d t k .parted in
@@ -323,7 +324,7 @@ module _ (P : ℕ → Type 0) (t : ℕ) where
       let c : State = step-c b t new in
       let y : State = step-d c new (c .phase) in
       let e : State = at-e d t set in
-      let s : Stage = record { state = e; done = at-b d t .done; closed = at-b d t .closed } in
+      let s : Stage = fresh-stage e in
       let f : State = at-f d t set .state in
       let m : (k : ℕ) → k < 32 → member k new ≡ false =
       λ k l. by-test (member k new) (λ x. clash (member k set) (difference-left set (b .jobs .pending) k x) (n k l)) (λ x. x) in

@@ -2,21 +2,21 @@
 -- the copy-in of the open interval, and each step keeps it. A job of an earlier interval: the copy-in is not chosen yet, or is of a task
 -- not lower than n, or, where none was chosen or it was cancelled, some task released and marked in this interval and ready is not lower
 -- than n. A job of this interval: the same, or whatever is to be shown of the next interval holds of any task or of the loaded one.
-use Rattle.guarantees.specs.Types.{Table, _≡_, refl, sym, _∙_, subst, true, false, false≢true, List, [], _∷_, _++_, ℕ, _≤_, _<_, MaybeTask, NoTask, Task, Processor, CopyIn, Unchosen, NoneChosen, Copying, Loaded, Cancelled, Interval, Next, NoneNext, LoadedNext, PromotedNext, Outgoing, Phase, Between, Within, State, Stage}
+use Rattle.guarantees.specs.Types.{Table, _≡_, refl, sym, _∙_, subst, true, false, false≢true, List, [], _∷_, _++_, ℕ, _≤_, _<_, MaybeTask, NoTask, Task, Processor, CopyIn, Unchosen, NoneChosen, Copying, Loaded, Cancelled, Interval, Next, NoneNext, LoadedNext, PromotedNext, Outgoing, Phase, Between, Within, State, Stage, Call}
 use native.Mathlib.Omega.{arith}
 use borrow.Author.Tests.{ltb-true}
 use lib.Dec.{eqb}
 use lib.ListN.{getD}
+use Rattle.table.specs.Table.{copyin-length}
 use Rattle.sets.specs.Sets.{member, union, intersection, insert, remove}
-use Rattle.sets.specs.Laws.{none, by-test, clash, union-left, intersection-in, intersection-left, intersection-right, insert-same, insert-other, remove-in}
+use Rattle.sets.proofs.Laws.{none, by-test, clash, union-left, intersection-in, intersection-left, intersection-right, insert-same, insert-other, remove-in}
 use Rattle.guarantees.proofs.Highest.{Best}
 use Rattle.guarantees.proofs.Walk.{walk}
-use Rattle.guarantees.specs.History.{history, Event, Call, begins, happens}
-use Rattle.rules.specs.Instant.{settled, step-a, step-b, step-c, step-d, step-e, step-g, promoted, next-of, without-promoted, close, with-candidates, cancel, choose, begin, begin-processor, without-done, ended, processor-task, at-a, at-b, at-e, at-f, at-g, new-at}
+use Rattle.guarantees.specs.History.{history, Event, begin-events, happens}
+use Rattle.rules.specs.Instant.{settled, step-a, step-b, step-c, step-d, step-e, step-g, promoted, next-of, without-promoted, close, with-candidates, cancel, choose, begin, begin-processor, without-done, ended, processor-task, at-a, at-b, at-e, at-f, at-g, new-at, fresh-stage}
 use Rattle.rules.specs.With.{at-clock, later}
 use Rattle.rules.specs.Order.{highest-of, outranks}
-use Rattle.guarantees.specs.Reading.{intervals}
-use Rattle.guarantees.specs.Claim.{executes}
+use Rattle.guarantees.specs.Queries.{is-task, intervals, each}
 use Rattle.guarantees.proofs.Steps.{Sub, NewIn, NewAt, c-new, best-of, settles, Opened, e-opens}
 use Rattle.guarantees.proofs.Events.{happens-intervals}
 use Rattle.guarantees.proofs.Cases.{held-at, copyin-cases, a-cases, b-cases, d-cases, e-cases, g-cases}
@@ -70,12 +70,12 @@ module _ (pr : List ℕ) (n : ℕ) where
     -- n's job awaits its execution, and F holds of what the next interval will run
     pub record Waiting (d : State) : Type 0 where
       pub table : d .table .priority ≡ pr
-      pub ready : executes n (up-next (d .phase)) ≡ false → member n (d .jobs .ready) ≡ true
+      pub ready : is-task n (up-next (d .phase)) ≡ false → member n (d .jobs .ready) ≡ true
       pub fate : Fate (d .jobs .ready) (d .phase)
 
     module _ (rule : Rule F Q) (small : n < 32) where
-      pub ready-at : (d : State) {p : Phase} → d .phase ≡ p → Waiting d → executes n (up-next p) ≡ false → member n (d .jobs .ready) ≡ true
-      ready-at d e h = subst (λ (x : Phase). executes n (up-next x) ≡ false → member n (d .jobs .ready) ≡ true) e (h .ready)
+      pub ready-at : (d : State) {p : Phase} → d .phase ≡ p → Waiting d → is-task n (up-next p) ≡ false → member n (d .jobs .ready) ≡ true
+      ready-at d e h = subst (λ (x : Phase). is-task n (up-next x) ≡ false → member n (d .jobs .ready) ≡ true) e (h .ready)
 
       pub fate-at : (d : State) {p : Phase} → d .phase ≡ p → Waiting d → Fate (d .jobs .ready) p
       fate-at d e h = subst (Fate (d .jobs .ready)) e (h .fate)
@@ -89,17 +89,17 @@ module _ (pr : List ℕ) (n : ℕ) where
           a-cases Waiting d t (λ next outgoing e. h)
           (λ i e. record {
             table = h .table;
-            ready = copyin-cases t (λ c. executes n (held-task c) ≡ false → member n (d .jobs .ready) ≡ true) (i .copyin) (ready-at d e h) (λ c u x y. rw x at (ready-at d e h));
+            ready = copyin-cases t (λ c. is-task n (held-task c) ≡ false → member n (d .jobs .ready) ≡ true) (i .copyin) (ready-at d e h) (λ c u x y. rw x at (ready-at d e h));
             fate = copyin-cases t (F (d .jobs .ready) (i .candidates)) (i .copyin) (fate-at d e h)
                 (λ c u x y. rule .load (d .jobs .ready) (i .candidates) c u (subst (F (d .jobs .ready) (i .candidates)) x (fate-at d e h)));
           })
 
       -- what an interval that is over leaves
       unfoldable pub Left : State → CopyIn → MaybeTask → Type 0
-      Left d c q = (executes n (next-task (next-of c q)) ≡ false → member n (without-promoted (d .jobs .ready) q) ≡ true) × Q (next-task (next-of c q))
+      Left d c q = (is-task n (next-task (next-of c q)) ≡ false → member n (without-promoted (d .jobs .ready) q) ≡ true) × Q (next-task (next-of c q))
 
       pub closed : (d : State) (i : Interval) (c : CopyIn) → settled c ≡ true → Waiting d
-          → (executes n (held-task c) ≡ false → member n (d .jobs .ready) ≡ true) → F (d .jobs .ready) (i .candidates) c → Left d c (promoted d i c)
+          → (is-task n (held-task c) ≡ false → member n (d .jobs .ready) ≡ true) → F (d .jobs .ready) (i .candidates) c → Left d c (promoted d i c)
       unfolding promoted Left
       closed d i Unchosen s h w f = absurd (false≢true s)
       closed d i (Copying c until) s h w f = absurd (false≢true s)
@@ -131,7 +131,7 @@ module _ (pr : List ℕ) (n : ℕ) where
         fate = go (d .phase) (h .fate);
       }
         where
-          same : (p : Phase) → executes n (up-next p) ≡ executes n (up-next (with-candidates d new p))
+          same : (p : Phase) → is-task n (up-next p) ≡ is-task n (up-next (with-candidates d new p))
           same (Between next outgoing) = unfold with-candidates in refl
           same (Within i) = unfold with-candidates in refl
 
@@ -173,7 +173,7 @@ module _ (pr : List ℕ) (n : ℕ) where
           go i w f (Task q) b = record {
             table = h .table;
             ready = λ x. remove-in q (d .jobs .ready) n small x (w refl);
-            fate = rule .choose (d .jobs .ready) (i .candidates) q (later t (getD (d .table .copyin) q 0)) (w refl) b f;
+            fate = rule .choose (d .jobs .ready) (i .candidates) q (later t (copyin-length (d .table .columns) q)) (w refl) b f;
           }
 
 -- ---- two rules
@@ -260,12 +260,12 @@ module _ (pr : List ℕ) (n : ℕ) where
   -- the intervals to come run none that is lower, up to the one that executes n's job
   unfoldable pub Ahead : List MaybeTask → Type 0
   Ahead [] = Unit {0}
-  Ahead (r ∷ rs) = NotLower pr n r × (executes n r ≡ false → Ahead rs)
+  Ahead (r ∷ rs) = NotLower pr n r × (is-task n r ≡ false → Ahead rs)
 
   -- the next interval has Q, and those after it run none that is lower
   unfoldable pub Then : (MaybeTask → Type 0) → List MaybeTask → Type 0
   Then Q [] = Unit {0}
-  Then Q (r ∷ rs) = Q r × (executes n r ≡ false → Ahead rs)
+  Then Q (r ∷ rs) = Q r × (is-task n r ≡ false → Ahead rs)
 
   -- ---- an interval begins, and the calls to come
 
@@ -275,26 +275,26 @@ module _ (pr : List ℕ) (n : ℕ) where
 
     unfoldable pub Forth : List MaybeTask → State → Type 0
     Forth [] d = W d
-    Forth (r ∷ rs) d = (rs ≡ []) × Q r × (executes n r ≡ false → Old d)
+    Forth (r ∷ rs) d = (rs ≡ []) × Q r × (is-task n r ≡ false → Old d)
 
-    begins-same : (t : ℕ) (p : Phase) → begins t p p ≡ []
-    unfolding begins
+    begins-same : (t : ℕ) (p : Phase) → begin-events t p p ≡ []
+    unfolding begin-events
     begins-same t (Between next outgoing) = refl
     begins-same t (Within i) = refl
 
-    stays : (t : ℕ) (d : State) → W d → Forth (intervals (begins t (d .phase) (d .phase))) d
-    stays t d h = rw (begins-same t (d .phase)) (unfold intervals Forth in h)
+    stays : (t : ℕ) (d : State) → W d → Forth (intervals (begin-events t (d .phase) (d .phase))) d
+    stays t d h = rw (begins-same t (d .phase)) (unfold each Forth in h)
 
     begun : (t : ℕ) (p q : Phase) (next : Next) (outgoing : Outgoing) (x : Processor) (d : State) → p ≡ Between next outgoing → Opened x q
-        → Q (processor-task x) → (executes n (processor-task x) ≡ false → Old d) → Forth (intervals (begins t p q)) d
-    unfolding begins intervals Forth
+        → Q (processor-task x) → (is-task n (processor-task x) ≡ false → Old d) → Forth (intervals (begin-events t p q)) d
+    unfolding begin-events each Forth
     begun t p (Between y z) next outgoing x d e o h k = absurd o
-    begun t p (Within j) next outgoing x d e o h k = subst (λ (p : Phase). Forth (intervals (begins t p (Within j))) d) (sym e) (refl, rw o h, λ y. k (rw o at y))
+    begun t p (Within j) next outgoing x d e o h k = subst (λ (p : Phase). Forth (intervals (begin-events t p (Within j))) d) (sym e) (refl, rw o h, λ y. k (rw o at y))
 
-    g-waiting : (t new : ℕ) (f : State) → W f → Forth (intervals (begins t (f .phase) (step-g f t new (f .phase) .phase))) (step-g f t new (f .phase))
+    g-waiting : (t new : ℕ) (f : State) → W f → Forth (intervals (begin-events t (f .phase) (step-g f t new (f .phase) .phase))) (step-g f t new (f .phase))
     unfolding begin
     g-waiting t new f h =
-        g-cases (λ x. Forth (intervals (begins t (f .phase) (x .phase))) x) f t new (λ i e. stays t f h) (λ next outgoing e w. stays t f h)
+        g-cases (λ x. Forth (intervals (begin-events t (f .phase) (x .phase))) x) f t new (λ i e. stays t f h) (λ next outgoing e w. stays t f h)
         (λ next outgoing e w.
         let b : State = begin f t new next outgoing in
         let r : processor-task (begin-processor (f .table) t next) ≡ next-task next = runs (f .table) t next in
@@ -305,10 +305,10 @@ module _ (pr : List ℕ) (n : ℕ) where
         (record { table = h .table; ready = λ z. ready-at pr n F Q rule small f e h (rw r at y); fate = tt })))
 
     -- the steps together
-    from-e : (d : State) (t set : ℕ) → W (at-e d t set) → Forth (intervals (begins t (at-f d t set .state .phase) (at-g d t set .phase))) (at-g d t set)
+    from-e : (d : State) (t set : ℕ) → W (at-e d t set) → Forth (intervals (begin-events t (at-f d t set .state .phase) (at-g d t set .phase))) (at-g d t set)
     unfolding at-f at-g
     from-e d t set h =
-        g-waiting t (held-at d t set) (at-f d t set .state) (b-waiting pr n F Q rule small t (record { state = at-e d t set; done = at-b d t .done; closed = at-b d t .closed }) h)
+        g-waiting t (held-at d t set) (at-f d t set .state) (b-waiting pr n F Q rule small t (fresh-stage (at-e d t set)) h)
 
     pub from-c : (d : State) (t set : ℕ) → W (step-c (at-b d t .state) t (new-at d t set)) → W (at-e d t set)
     unfolding at-e
@@ -317,7 +317,7 @@ module _ (pr : List ℕ) (n : ℕ) where
         let c : State = step-c (at-b d t .state) t new in
         e-waiting pr n F Q rule small t (step-d c new (c .phase)) (d-waiting pr n F Q rule small new c (c-new (at-b d t .state) t new) h)
 
-    instant : (d : State) (t set : ℕ) → W d → Forth (intervals (begins t (at-f d t set .state .phase) (at-g d t set .phase))) (at-g d t set)
+    instant : (d : State) (t set : ℕ) → W d → Forth (intervals (begin-events t (at-f d t set .state .phase) (at-g d t set .phase))) (at-g d t set)
     unfolding at-b at-a
     instant d t set h =
         from-e d t set (from-c d t set (c-waiting pr n F Q rule small t (new-at d t set) (at-b d t .state)
@@ -329,14 +329,14 @@ module _ (pr : List ℕ) (n : ℕ) where
     join (r ∷ rs) later g h k a = (h .1, λ e. subst (λ (x : List MaybeTask). Ahead (x ++ later)) (sym (h .0)) (a (h .2 e)))
 
     pub to-come : (d : State) (t set : ℕ) (rest : List Event) → W (at-e d t set) → (W (at-g d t set) → Then Q (intervals rest)) → (Old (at-g d t set) → Ahead (intervals rest))
-        → Then Q (intervals (begins t (at-f d t set .state .phase) (at-g d t set .phase)) ++ intervals rest)
-    to-come d t set rest h k a = join (intervals (begins t (at-f d t set .state .phase) (at-g d t set .phase))) (intervals rest) (at-g d t set) (from-e d t set h) k a
+        → Then Q (intervals (begin-events t (at-f d t set .state .phase) (at-g d t set .phase)) ++ intervals rest)
+    to-come d t set rest h k a = join (intervals (begin-events t (at-f d t set .state .phase) (at-g d t set .phase))) (intervals rest) (at-g d t set) (from-e d t set h) k a
 
     step : (d : State) (t set : ℕ) (rest : List Event) → W d → (W (at-g d t set) → Then Q (intervals rest)) → (Old (at-g d t set) → Ahead (intervals rest))
         → Then Q (intervals (happens d t set ++ rest))
     step d t set rest h k a =
         rw (happens-intervals d t set rest)
-        (join (intervals (begins t (at-f d t set .state .phase) (at-g d t set .phase))) (intervals rest) (at-g d t set) (instant d t set h) k a)
+        (join (intervals (begin-events t (at-f d t set .state .phase) (at-g d t set .phase))) (intervals rest) (at-g d t set) (instant d t set h) k a)
 
   module _ (small : n < 32) where
     then-ahead : (rs : List MaybeTask) → Then (NotLower pr n) rs → Ahead rs
@@ -357,15 +357,15 @@ module _ (pr : List ℕ) (n : ℕ) where
     -- a job that was released in an interval before the open one
     pub ahead : (d : State) (cs : List Call) → Old d → Ahead (intervals (history d cs))
     ahead d cs =
-        walk (λ d h. Old d → Ahead (intervals h)) (λ d o. unfold Ahead intervals in tt)
+        walk (λ d h. Old d → Ahead (intervals h)) (λ d o. unfold Ahead each in tt)
         (λ d t set cs e k o. old-step d t set (history (at-g d t set) cs) k o)
-        (λ d n m h e k o. k (record { table = o .table; ready = o .ready; fate = o .fate }))
+        (λ d m e h k o. k (record { table = o .table; ready = o .ready; fate = o .fate }))
         cs d
 
     -- and one of the open interval
     pub soon : (F : ℕ → ℕ → CopyIn → Type 0) (Q : MaybeTask → Type 0) (rule : Rule pr n F Q) (d : State) (cs : List Call) → Waiting pr n F Q d → Then Q (intervals (history d cs))
     soon F Q rule d cs =
-        walk (λ d h. Waiting pr n F Q d → Then Q (intervals h)) (λ d o. unfold Then intervals in tt)
+        walk (λ d h. Waiting pr n F Q d → Then Q (intervals h)) (λ d o. unfold Then each in tt)
         (λ d t set cs e k o. step F Q rule small d t set (history (at-g d t set) cs) o k (ahead (at-g d t set) cs))
-        (λ d n m h e k o. k (record { table = o .table; ready = o .ready; fate = o .fate }))
+        (λ d m e h k o. k (record { table = o .table; ready = o .ready; fate = o .fate }))
         cs d

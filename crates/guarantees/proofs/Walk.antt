@@ -1,12 +1,17 @@
--- Walks along the calls: what holds of each served call holds of a list of them.
-use Rattle.guarantees.specs.Types.{_≡_, refl, sym, ap, _∙_, append-assoc, true, false, List, [], _∷_, _++_, ℕ, State}
-use lib.Dec.{eqb}
-use Rattle.sets.specs.Laws.{by-test}
-use Rattle.rules.specs.Instant.{at-g}
-use Rattle.rules.specs.Calls.{refusal, instant as instant-step, served as served-step, mark-refusal, with-mark, mark as mark-step}
-use Rattle.guarantees.specs.History.{Event, Call, Instant, Mark, happens, after-call, by-call, after-calls, history}
+-- Walks along the calls: each call is an instant that is served, or leaves all but the marks as it is; and what holds through both holds
+-- through a list of them. A new call that leaves table, clock, jobs and phase as they are needs a line in `each-call` alone.
+use Rattle.guarantees.specs.Types.{_≡_, refl, sym, ap, _∙_, subst, append-assoc, Bool, true, false, cond, not, false≢true, _⊎_, inl, inr, ⊎-elim, List, [], _∷_, _++_, ℕ, State, Call, Instant, Mark, Served, Refused, Occurred}
+use borrow.Author.Tests.{eqb-true}
+use lib.Dec.{eqb, ltb}
+use Rattle.sets.specs.Sets.{member, insert, remove}
+use Rattle.sets.proofs.Laws.{by-test, insert-out, remove-out}
+use Rattle.rules.specs.Instant.{at-g, occurred}
+use Rattle.rules.specs.Calls.{refusal, instant as instant-step, served as served-step, mark-refusal, with-mark, mark as mark-step, after-call}
+use Rattle.guarantees.proofs.Steps.{Sub}
+use Rattle.guarantees.specs.History.{Event, happens, by-call, after-calls, history}
+use Rattle.guarantees.specs.Entries.{told, answer-of, answers}
 
--- ---- the state after a call, served or refused
+-- ---- the state after an instant, served or refused
 
 module _ (d : State) (t set : ℕ) where
   pub served : eqb (refusal d t set) 0 ≡ true → after-call d (Instant t set) ≡ at-g d t set
@@ -17,6 +22,45 @@ module _ (d : State) (t set : ℕ) where
   unfolding after-call instant-step
   refused e = rw (after-call, instant-step, e)
 
+-- and what it answers
+module _ (d : State) (t set : ℕ) where
+  served-answer : eqb (refusal d t set) 0 ≡ true → instant-step d t set .answer ≡ Served (occurred d t set)
+  unfolding instant-step served-step
+  served-answer e = rw (instant-step, e)
+
+  refused-answer : eqb (refusal d t set) 0 ≡ false → instant-step d t set .answer ≡ Refused (refusal d t set)
+  unfolding instant-step
+  refused-answer e = rw (instant-step, e)
+
+-- ---- every call is an instant that is served, or leaves all but the marks as it is
+
+-- the state with other marks
+abbrev pub with-marks : State → ℕ → State
+with-marks d marks = record { table = d .table; marked = marks; clock = d .clock; half = d .half; jobs = d .jobs; phase = d .phase }
+
+-- the marks are of tasks of the table, if those before were
+abbrev pub MarksKnown : State → ℕ → Type 0
+MarksKnown d marks = Sub (d .marked) (d .table .present) → Sub marks (d .table .present)
+
+-- a call by which nothing occurs, and that leaves table, clock, jobs and phase as they are
+pub record Quiet (d : State) (c : Call) : Type 0 where
+  pub marks : ℕ
+  pub known : MarksKnown d marks
+  pub leaves : after-call d c ≡ with-marks d marks
+  pub silent : by-call d c ≡ []
+  pub untold : answer-of d c ≡ []
+
+-- an instant that is served
+pub record Serves (d : State) (c : Call) : Type 0 where
+  pub time : ℕ
+  pub set : ℕ
+  pub is : c ≡ Instant time set
+  pub no-row : eqb (refusal d time set) 0 ≡ true
+
+-- a call that leaves the marks too
+same : (d : State) (c : Call) → after-call d c ≡ d → by-call d c ≡ [] → answer-of d c ≡ [] → Quiet d c
+same d c e f u = record { marks = d .marked; known = λ h. h; leaves = e; silent = f; untold = u }
+
 module _ (d : State) (n m : ℕ) where
   mark-served : eqb (mark-refusal d n m) 0 ≡ true → after-call d (Mark n m) ≡ with-mark d n m
   unfolding after-call mark-step
@@ -26,51 +70,100 @@ module _ (d : State) (n m : ℕ) where
   unfolding after-call mark-step
   mark-refused e = rw (after-call, mark-step, e)
 
+  -- a mark call that is served names a task of the table
+  mark-known : eqb (mark-refusal d n m) 0 ≡ true → member n (d .table .present) ≡ true
+  unfolding mark-refusal
+  mark-known = go (member n (d .table .present)) (ltb 1 m) (member n (d .jobs .pending))
+    where
+      go : (a b c : Bool) → eqb (cond (not a) 16 (cond b 6 (cond c 17 0))) 0 ≡ true → a ≡ true
+      go true b c h = refl
+      go false b c h = absurd (false≢true h)
+
+  marks-known : (b : Bool) → member n (d .table .present) ≡ true → MarksKnown d (cond b (insert n (d .marked)) (remove n (d .marked)))
+  marks-known true e h k l x =
+      ⊎-elim (λ y. ap (λ (j : ℕ). member j (d .table .present)) (eqb-true k n y) ∙ e) (λ y. h k l y) (insert-out n (d .marked) k x)
+  marks-known false e h k l x = h k l (remove-out n (d .marked) k x)
+
+pub each-call : (d : State) (c : Call) → Serves d c ⊎ Quiet d c
+unfolding by-call answer-of
+each-call d (Instant t set) =
+    by-test (eqb (refusal d t set) 0)
+    (λ e. inl (record { time = t; set = set; is = refl; no-row = e }))
+    (λ e. inr (same d (Instant t set) (refused d t set e) (rw e) (ap told (refused-answer d t set e))))
+each-call d (Mark n m) =
+    by-test (eqb (mark-refusal d n m) 0)
+    (λ e. inr (record { marks = with-mark d n m .marked; known = marks-known d n m (eqb m 1) (mark-known d n m e); leaves = mark-served d n m e; silent = refl; untold = refl }))
+    (λ e. inr (same d (Mark n m) (mark-refused d n m e) refl refl))
+
 -- ---- a property of a state, of what occurs by calls from it, and of the state that they leave
 
 module _ (P : State → List Event → State → Type 0)
     (none : (d : State) → P d [] d)
     (more : (d : State) (t set : ℕ) (cs : List Call) → eqb (refusal d t set) 0 ≡ true → let g : State = at-g d t set in
     P g (history g cs) (after-calls g cs) → P d (happens d t set ++ history g cs) (after-calls g cs))
-    (mark : (d : State) (n m : ℕ) (cs : List Call) → eqb (mark-refusal d n m) 0 ≡ true → let g : State = with-mark d n m in
-    P g (history g cs) (after-calls g cs) → P d (history g cs) (after-calls g cs)) where
-  at-instant : (d : State) (t set : ℕ) (cs : List Call) → ((g : State) → P g (history g cs) (after-calls g cs))
+    (quiet : (d : State) (marks : ℕ) → MarksKnown d marks → (h : List Event) (g : State) → P (with-marks d marks) h g → P d h g) where
+  at-served : (d : State) (t set : ℕ) (cs : List Call) → eqb (refusal d t set) 0 ≡ true → ((g : State) → P g (history g cs) (after-calls g cs))
       → let g : State = after-call d (Instant t set) in P d (by-call d (Instant t set) ++ history g cs) (after-calls g cs)
   unfolding by-call
-  at-instant d t set cs k =
-      by-test (eqb (refusal d t set) 0)
-      (λ e. rw (e, served d t set e) (more d t set cs e (k (at-g d t set))))
-      (λ e. rw (e, refused d t set e) (k d))
+  at-served d t set cs e k = rw (e, served d t set e) (more d t set cs e (k (at-g d t set)))
 
-  at-mark : (d : State) (n m : ℕ) (cs : List Call) → ((g : State) → P g (history g cs) (after-calls g cs))
-      → let g : State = after-call d (Mark n m) in P d (history g cs) (after-calls g cs)
-  at-mark d n m cs k =
-      by-test (eqb (mark-refusal d n m) 0)
-      (λ e. rw (mark-served d n m e) (mark d n m cs e (k (with-mark d n m))))
-      (λ e. rw (mark-refused d n m e) (k d))
+  at-quiet : (d : State) (c : Call) (cs : List Call) → Quiet d c → ((g : State) → P g (history g cs) (after-calls g cs))
+      → let g : State = after-call d c in P d (by-call d c ++ history g cs) (after-calls g cs)
+  at-quiet d c cs q k =
+      let g : State = with-marks d (q .marks) in
+      rw (q .silent, q .leaves) (quiet d (q .marks) (q .known) (history g cs) (after-calls g cs) (k g))
 
   pub walk-to : (cs : List Call) (d : State) → P d (history d cs) (after-calls d cs)
-  unfolding history by-call after-calls
+  unfolding history after-calls
   walk-to [] d = none d
-  walk-to (Instant t set ∷ cs) d = at-instant d t set cs (λ g. walk-to cs g)
-  walk-to (Mark n m ∷ cs) d = at-mark d n m cs (λ g. walk-to cs g)
+  walk-to (c ∷ cs) d =
+      ⊎-elim
+      (λ s. subst (λ (c : Call). P d (by-call d c ++ history (after-call d c) cs) (after-calls (after-call d c) cs)) (sym (s .is))
+      (at-served d (s .time) (s .set) cs (s .no-row) (λ g. walk-to cs g)))
+      (λ q. at-quiet d c cs q (λ g. walk-to cs g))
+      (each-call d c)
 
 -- the same where the state that they leave does not matter
 module _ (P : State → List Event → Type 0)
     (none : (d : State) → P d [])
     (more : (d : State) (t set : ℕ) (cs : List Call) → eqb (refusal d t set) 0 ≡ true → let g : State = at-g d t set in
     P g (history g cs) → P d (happens d t set ++ history g cs))
-    (mark : (d : State) (n m : ℕ) (cs : List Call) → eqb (mark-refusal d n m) 0 ≡ true → let g : State = with-mark d n m in
-    P g (history g cs) → P d (history g cs)) where
+    (quiet : (d : State) (marks : ℕ) → MarksKnown d marks → (h : List Event) → P (with-marks d marks) h → P d h) where
   pub walk : (cs : List Call) (d : State) → P d (history d cs)
-  walk = walk-to (λ d h g. P d h) none more mark
+  walk = walk-to (λ d h g. P d h) none more (λ d m e h g. quiet d m e h)
 
 -- a property of the states that calls make
 module _ (R : State → Type 0)
     (instant : (d : State) (t set : ℕ) → eqb (refusal d t set) 0 ≡ true → R d → R (at-g d t set))
-    (mark : (d : State) (n m : ℕ) → eqb (mark-refusal d n m) 0 ≡ true → R d → R (with-mark d n m)) where
+    (quiet : (d : State) (marks : ℕ) → MarksKnown d marks → R d → R (with-marks d marks)) where
   pub after : (cs : List Call) (d : State) → R d → R (after-calls d cs)
-  after = walk-to (λ d h g. R d → R g) (λ d h. h) (λ d t set cs e k h. k (instant d t set e h)) (λ d n m cs e k h. k (mark d n m e h))
+  after = walk-to (λ d h g. R d → R g) (λ d h. h) (λ d t set cs e k h. k (instant d t set e h)) (λ d m e h g k x. k (quiet d m e x))
+
+-- a property of a state, of what calls from it answer, and of what occurs by them
+module _ (P : State → List Occurred → List Event → Type 0)
+    (none : (d : State) → P d [] [])
+    (more : (d : State) (t set : ℕ) (cs : List Call) → eqb (refusal d t set) 0 ≡ true → let g : State = at-g d t set in
+    P g (answers g cs) (history g cs) → P d (occurred d t set ∷ answers g cs) (happens d t set ++ history g cs))
+    (quiet : (d : State) (marks : ℕ) (os : List Occurred) (h : List Event) → P (with-marks d marks) os h → P d os h) where
+  told-served : (d : State) (t set : ℕ) (cs : List Call) → eqb (refusal d t set) 0 ≡ true → ((g : State) → P g (answers g cs) (history g cs))
+      → let g : State = after-call d (Instant t set) in P d (answer-of d (Instant t set) ++ answers g cs) (by-call d (Instant t set) ++ history g cs)
+  unfolding by-call answer-of
+  told-served d t set cs e k = rw (e, served d t set e, served-answer d t set e) (more d t set cs e (k (at-g d t set)))
+
+  told-quiet : (d : State) (c : Call) (cs : List Call) → Quiet d c → ((g : State) → P g (answers g cs) (history g cs))
+      → let g : State = after-call d c in P d (answer-of d c ++ answers g cs) (by-call d c ++ history g cs)
+  told-quiet d c cs q k =
+      let g : State = with-marks d (q .marks) in rw (q .silent, q .untold, q .leaves) (quiet d (q .marks) (answers g cs) (history g cs) (k g))
+
+  pub walk-told : (cs : List Call) (d : State) → P d (answers d cs) (history d cs)
+  unfolding answers history
+  walk-told [] d = none d
+  walk-told (c ∷ cs) d =
+      ⊎-elim
+      (λ s. subst (λ (c : Call). P d (answer-of d c ++ answers (after-call d c) cs) (by-call d c ++ history (after-call d c) cs)) (sym (s .is))
+      (told-served d (s .time) (s .set) cs (s .no-row) (λ g. walk-told cs g)))
+      (λ q. told-quiet d c cs q (λ g. walk-told cs g))
+      (each-call d c)
 
 -- ---- one list of calls after another
 

@@ -1,32 +1,16 @@
 -- Demand 3: the claim about a whole list of instants and mark calls. What stands between quotation marks is the demand, or document 01, "The
--- dispatcher by instants", second paragraph; below each quotation stands what it says of a history (History, Reading).
-use Rattle.guarantees.specs.Types.{_≡_, Bool, true, false, cond, List, [], _∷_, _++_, _⊎_, _↔_, ℕ, _+_, _*_, _≤_, _<_, Table, MaybeTask, NoTask, Task, State, Due, Never, Tick, NoRefusal}
-use lib.Dec.{eqb, leb}
+-- dispatcher by instants", second paragraph; below each quotation stands what it says of a history (History, Queries).
+use Rattle.guarantees.specs.Types.{_≡_, Bool, true, false, cond, List, _∷_, _++_, _⊎_, _↔_, ℕ, _+_, _*_, _≤_, _<_, Table, MaybeTask, NoTask, Task, State, Due, Never, Tick, NoRefusal, Call}
+use lib.Dec.{leb}
 use lib.ListN.{getD, length}
+use Rattle.table.specs.Table.{copyin-length, execution-length, copyout-length}
+use Rattle.table.specs.Refusals.{refusal-number, refusal-place}
 use Rattle.rules.specs.Calls.{opening}
 use Rattle.dispatcher.specs.declared.Opening.{Opening}
-use Rattle.dispatcher.specs.Reading.{state-of, opening-of}
-use Rattle.guarantees.specs.History.{Event, Completes, Takes, Begins, Call, history, after-calls, EmptySets}
-use Rattle.guarantees.specs.Reading.{Situation, NoneOpen, Open, situation, Latest, none-yet, latest, intervals, end-tick, begin-tick, copied-out, completion, last-instant, is-take, is-begin, is-completion, total}
-
--- ---- A job's intervals
-
-abbrev pub executes : ℕ → MaybeTask → Bool
-executes n NoTask = false
-executes n (Task k) = eqb n k
-
--- of the intervals that begin after a job's release, "every one begun by the end of the list, the open one included", those up to the one that
--- executes it; "for a job not yet executed that is as far as it goes". A task has one pending job at a time, so that the first interval
--- that executes task n executes this job.
-unfoldable pub upto : ℕ → List MaybeTask → List MaybeTask
-upto n [] = []
-upto n (r ∷ rs) = r ∷ cond (executes n r) [] (upto n rs)
-
--- "Its first interval is the one its release belongs to by step c", that is the open one, else the next to begin; "the second is the
--- next to begin" after it: a job's intervals, where those of rs begin after its release
-abbrev pub met : ℕ → Situation → List MaybeTask → List MaybeTask
-met n NoneOpen rs = upto n rs
-met n (Open r f) rs = r ∷ upto n rs
+use Rattle.dispatcher.specs.Dispatcher.{state-of, opening-of}
+use Rattle.guarantees.specs.History.{Event, Starts, Stops, Completes, Ends, Takes, Begins, history, after-calls, EmptySets}
+use Rattle.guarantees.specs.Entries.{EntriesTell}
+use Rattle.guarantees.specs.Queries.{is-task, Situation, NoneOpen, Open, situation, Latest, none-yet, latest, loaded, last-mark, Execution, not-yet, execution, intervals, met, end-tick, begin-tick, copied-out, start, stop, completion, last-instant, is-take, is-begin, is-completion, total}
 
 -- ---- The order
 
@@ -49,7 +33,7 @@ module _ (priority : List ℕ) (n : ℕ) where
   -- getD met i NoTask
   pub record InOrder (marked : Bool) (at : Situation) (met : List MaybeTask) : Type 0 where
     -- "From its release to the start of its execution a lower-priority job executes in none but the first two intervals, counting the
-    -- one that holds the release."
+    -- one that holds the release." The tick of that start, in the last of its intervals, is said below (`Executed`).
     pub lower-in-two : (i : ℕ) → 2 ≤ i → i < length met → Lower (getD met i NoTask) → ⊥
     -- "In each from the third on, up to the one that executes it, the processor runs this job or a higher-priority one."
     pub third-on : (i : ℕ) → 2 ≤ i → i < length met → ThisOrHigher (getD met i NoTask)
@@ -58,11 +42,24 @@ module _ (priority : List ℕ) (n : ℕ) where
     -- events stand in the order of its steps.
     pub second-marked : marked ≡ true → 1 < length met → Lower (getD met 1 NoTask) ↔ LowerFinished at
 
--- ---- The copy-out of an executed job
+-- ---- The execution of a job
 
 -- a tick, if the last instant has reached it
 abbrev pub if-reached : ℕ → ℕ → Due
 if-reached last u = cond (leb u last) (Tick u) Never
+
+-- a job of task n, where an interval that executes it has begun at t, and what occurs from then on; `copied` is the task that the engine
+-- has copied in in the interval before, and L and C are the lengths of the job's copy-in and execution
+pub record Executed (L C n t : ℕ) (copied : MaybeTask) (after : List Event) : Type 0 where
+  -- "The processor copies in and then executes the promoted job; else it executes the loaded one": the loaded one, which the engine has
+  -- copied in, starts with its interval,
+  pub loaded-starts : is-task n copied ≡ true → start n after ≡ Tick t
+  -- and the promoted one L ticks later, since "a phase lasts exactly its table length", as far as the list reaches;
+  pub promoted-starts : is-task n copied ≡ false → start n after ≡ if-reached (last-instant t after) (t + L)
+  -- and for the same reason an execution ends C ticks after its start
+  pub execution-ends : (s : ℕ) → start n after ≡ Tick s → stop n after ≡ if-reached (last-instant t after) (s + C)
+
+-- ---- The copy-out of an executed job
 
 -- a job of task n, where an interval that executes it has begun at t, and what occurs from then on; U is its copy-out's length
 pub record CopiedOut (U n t : ℕ) (after : List Event) : Type 0 where
@@ -78,15 +75,36 @@ pub record Holds (table : Table) (history : List Event) : Type 0 where
   -- "this holds of each job taken, whatever is released when"; "A job is marked if its task was at the release."
   pub each-job : (before after : List Event) (n t : ℕ) (marked : Bool) → history ≡ before ++ (Takes n t marked ∷ after) →
       let at : Situation = situation NoneOpen before in InOrder (table .priority) n marked at (met n at (intervals after))
+  -- "If no interval is open and some job is loaded, promoted, ready or waiting for copy-out, an interval begins": a job that is taken while
+  -- none is open is ready, so that one begins on this tick
+  pub each-taking : (before after : List Event) (n t : ℕ) (marked : Bool) → history ≡ before ++ (Takes n t marked ∷ after) →
+      situation NoneOpen before ≡ NoneOpen → begin-tick after ≡ Tick t
+  -- an execution starts with its interval, or, of a promoted job, L ticks later, and lasts C ticks
+  pub each-execution : (before after : List Event) (n t : ℕ) (l : MaybeTask) → history ≡ before ++ (Begins t (Task n) l ∷ after) →
+      Executed (copyin-length (table .columns) n) (execution-length (table .columns) n) n t (loaded NoTask before) after
+  -- "the highest-priority marked job released in it and ready is promoted (R4)": a job that the engine has not copied in was marked at its
+  -- release
+  pub each-promotion : (before after : List Event) (n t : ℕ) (l : MaybeTask) → history ≡ before ++ (Begins t (Task n) l ∷ after) →
+      is-task n (loaded NoTask before) ≡ false → last-mark n false before ≡ true
+  -- nothing else starts to execute: the open interval executes the job, and its execution has not started before
+  pub each-start : (before after : List Event) (n s : ℕ) → history ≡ before ++ (Starts n s ∷ after) →
+      let x : Latest = latest none-yet before in (x .executed ≡ Task n) × (x .ended ≡ Never) × (execution not-yet before .started ≡ Never)
+  -- and nothing else stops: the open interval executes the job, and its execution has started C ticks before and has not stopped since
+  pub each-stop : (before after : List Event) (n u : ℕ) → history ≡ before ++ (Stops n u ∷ after) →
+      let x : Latest = latest none-yet before in let y : Execution = execution not-yet before in
+      (s : ℕ) × (x .executed ≡ Task n) × (x .ended ≡ Never) × (y .started ≡ Tick s) × (y .stopped ≡ Never) × (u ≡ s + execution-length (table .columns) n)
+  -- "An interval ends at the later of its two units' ends (R6)": not before its execution has ended
+  pub each-end : (before after : List Event) (n e : ℕ) → history ≡ before ++ (Ends e ∷ after) → latest none-yet before .executed ≡ Task n →
+      (s : ℕ) × (execution not-yet before .stopped ≡ Tick s)
   -- "Each executed job is copied out first thing in the next interval."
   pub each-executed : (before after : List Event) (n t : ℕ) (l : MaybeTask) → history ≡ before ++ (Begins t (Task n) l ∷ after) →
-      CopiedOut (getD (table .copyout) n 0) n t after
+      CopiedOut (copyout-length (table .columns) n) n t after
   -- nothing else is copied out: an interval that copies a job out begins on the tick on which the one before, which executed it, ended
   pub each-copyout : (before after : List Event) (n b : ℕ) (r : MaybeTask) → history ≡ before ++ (Begins b r (Task n) ∷ after) →
       let x : Latest = latest none-yet before in (x .executed ≡ Task n) × (x .ended ≡ Tick b)
   -- and nothing else completes a job: the open interval copies it out, and has begun U ticks before
   pub each-completion : (before after : List Event) (n c : ℕ) → history ≡ before ++ (Completes n c ∷ after) →
-      let x : Latest = latest none-yet before in (b : ℕ) × (x .begun ≡ Tick b) × (x .out ≡ Task n) × (c ≡ b + getD (table .copyout) n 0)
+      let x : Latest = latest none-yet before in (b : ℕ) × (x .begun ≡ Tick b) × (x .out ≡ Task n) × (c ≡ b + copyout-length (table .columns) n)
   -- "Where N jobs were taken, at most 3 × N intervals have begun"; "N is the number of releases taken in the list"
   pub at-most-three : total is-begin history ≤ 3 * total is-take history
 
@@ -101,6 +119,8 @@ pub record AllCompleted (history : List Event) : Type 0 where
 -- of a list of calls, instants and mark calls, refused ones included, that starts from a state that opening returned
 pub record Claim (d : State) (calls : List Call) : Type 0 where
   pub of-the-list : Holds (d .table) (history d calls)
+  -- and what the calls answer of jobs and intervals is what the history has of them
+  pub entries : EntriesTell d calls
   -- "empty sets at the due times that follow": these come to an end
   pub come-to-an-end : (rest : List Call) × EmptySets (after-calls d calls) rest
   -- the same holds of the list with them, so that all of it is said "as far as the list or the empty sets after it reach"
@@ -123,4 +143,7 @@ Demand3 = (bytes : List ℕ) → opening bytes .refusal ≡ NoRefusal → (calls
 -- the rules have it
 pub record OpenedWithClaim (bytes : List ℕ) (r : Opening) : Type 0 where
   pub opens : opening-of r ≡ opening bytes
+  -- and in document 01's numbers: the refusal's and the place of its entry
+  pub number : refusal-number (r .refusal) ≡ refusal-number (opening bytes .refusal)
+  pub place : refusal-place (r .refusal) ≡ refusal-place (opening bytes .refusal)
   pub claim : r .refusal ≡ NoRefusal → (calls : List Call) → Claim (state-of (r .state)) calls

@@ -1,13 +1,15 @@
 -- What the instant list makes of the task entries and of the calls that meet no refusal: the history of a run, event by event,
 -- in the order in which the events occur. Each event is read off the steps a to g of an instant. A refused call leaves none.
-use Rattle.guarantees.specs.Types.{_≡_, Bool, cond, List, [], _∷_, _++_, ℕ, zero, suc, MaybeTask, CopyIn, Unchosen, NoneChosen, Copying, Loaded, Cancelled, Phase, Between, Within, State, Done, NoJob, Job, Never, Tick}
+use Rattle.guarantees.specs.Types.{_≡_, Bool, cond, List, [], _∷_, _++_, ℕ, zero, suc, MaybeTask, Processor, Idle, CopyingIn, Executing, Finished, CopyIn, Unchosen, NoneChosen, Copying, Loaded, Cancelled, Phase, Between, Within, State, Done, NoJob, Job, Call, Instant, Mark, Never, Tick}
 use lib.Dec.{eqb}
 use Rattle.sets.specs.Sets.{member}
 use Rattle.rules.specs.Instant.{at-a, at-b, at-e, at-f, at-g, new-at, due, processor-task, copyout-task}
-use Rattle.rules.specs.Calls.{refusal, instant, mark}
+use Rattle.rules.specs.Calls.{refusal, after-call}
 
 pub data Event : Type 0 where
   Comes : ℕ → Event  -- an instant that is served, at a time
+  Starts : ℕ → ℕ → Event  -- a, g: a task's job starts to execute, at a time
+  Stops : ℕ → ℕ → Event  -- a: the execution of a task's job ends, at a time
   Finishes : ℕ → Event  -- a: the engine has copied a task's job in
   Completes : ℕ → ℕ → Event  -- a: a task's job is copied out, at a time
   Ends : ℕ → Event  -- b, f: the open interval ends, at a time
@@ -16,62 +18,79 @@ pub data Event : Type 0 where
 
 -- ---- One instant
 
--- a. a copy-in under way that ends now
-unfoldable pub finishes : ℕ → CopyIn → List Event
-finishes t Unchosen = []
-finishes t NoneChosen = []
-finishes t (Copying n until) = cond (eqb until t) (Finishes n ∷ []) []
-finishes t (Loaded n) = []
-finishes t (Cancelled n) = []
+-- a. a phase of the processor that ends now: its own copy-in, which the execution follows, or an execution
+unfoldable pub processor-events : ℕ → Processor → List Event
+processor-events t Idle = []
+processor-events t (CopyingIn n until) = cond (eqb until t) (Starts n t ∷ []) []
+processor-events t (Executing n start until) = cond (eqb until t) (Stops n t ∷ []) []
+processor-events t (Finished n start) = []
 
-unfoldable pub finishes-in : ℕ → Phase → List Event
-finishes-in t (Between next outgoing) = []
-finishes-in t (Within i) = finishes t (i .copyin)
+unfoldable pub processor-events-in : ℕ → Phase → List Event
+processor-events-in t (Between next outgoing) = []
+processor-events-in t (Within i) = processor-events t (i .processor)
+
+-- a copy-in under way on the engine that ends now
+unfoldable pub finish-events : ℕ → CopyIn → List Event
+finish-events t Unchosen = []
+finish-events t NoneChosen = []
+finish-events t (Copying n until) = cond (eqb until t) (Finishes n ∷ []) []
+finish-events t (Loaded n) = []
+finish-events t (Cancelled n) = []
+
+unfoldable pub finish-events-in : ℕ → Phase → List Event
+finish-events-in t (Between next outgoing) = []
+finish-events-in t (Within i) = finish-events t (i .copyin)
 
 -- and the job that step a completes
-unfoldable pub completes : Done → List Event
-completes NoJob = []
-completes (Job e) = Completes (e .task) (e .completion) ∷ []
+unfoldable pub completion-events : Done → List Event
+completion-events NoJob = []
+completion-events (Job e) = Completes (e .task) (e .completion) ∷ []
 
 -- b, f. an interval is open before the step and none is after it
-unfoldable pub ends : ℕ → Phase → Phase → List Event
-ends t (Between next outgoing) after = []
-ends t (Within i) (Between next outgoing) = Ends t ∷ []
-ends t (Within i) (Within j) = []
+unfoldable pub end-events : ℕ → Phase → Phase → List Event
+end-events t (Between next outgoing) after = []
+end-events t (Within i) (Between next outgoing) = Ends t ∷ []
+end-events t (Within i) (Within j) = []
 
 -- c. the new jobs of the tasks below a number
-unfoldable pub takes : ℕ → ℕ → ℕ → ℕ → List Event
-takes zero new marked t = []
-takes (suc k) new marked t = takes k new marked t ++ cond (member k new) (Takes k t (member k marked) ∷ []) []
+unfoldable pub take-events : ℕ → ℕ → ℕ → ℕ → List Event
+take-events zero new marked t = []
+take-events (suc k) new marked t = take-events k new marked t ++ cond (member k new) (Takes k t (member k marked) ∷ []) []
 
 -- g. no interval is open before the step and one is after it
-unfoldable pub begins : ℕ → Phase → Phase → List Event
-begins t (Within i) after = []
-begins t (Between next outgoing) (Between next′ outgoing′) = []
-begins t (Between next outgoing) (Within j) = Begins t (processor-task (j .processor)) (copyout-task (j .copyout)) ∷ []
+unfoldable pub begin-events : ℕ → Phase → Phase → List Event
+begin-events t (Within i) after = []
+begin-events t (Between next outgoing) (Between next′ outgoing′) = []
+begin-events t (Between next outgoing) (Within j) = Begins t (processor-task (j .processor)) (copyout-task (j .copyout)) ∷ []
+
+-- and an execution starts with it, if the processor does not copy in first
+unfoldable pub execution-events : ℕ → Processor → List Event
+execution-events t Idle = []
+execution-events t (CopyingIn n until) = []
+execution-events t (Executing n start until) = Starts n t ∷ []
+execution-events t (Finished n start) = []
+
+unfoldable pub start-events : ℕ → Phase → Phase → List Event
+start-events t (Within i) after = []
+start-events t (Between next outgoing) (Between next′ outgoing′) = []
+start-events t (Between next outgoing) (Within j) = execution-events t (j .processor)
 
 -- what occurs at an instant that is served
 unfoldable pub happens : State → ℕ → ℕ → List Event
 happens d t set =
     Comes t
-    ∷ (finishes-in t (d .phase)
-    ++ (completes (at-a d t .done)
-    ++ (ends t (at-a d t .state .phase) (at-b d t .state .phase)
-    ++ (takes 32 (new-at d t set) (d .marked) t
-    ++ (ends t (at-e d t set .phase) (at-f d t set .state .phase)
-    ++ begins t (at-f d t set .state .phase) (at-g d t set .phase))))))
+    ∷ (processor-events-in t (d .phase)
+    ++ (finish-events-in t (d .phase)
+    ++ (completion-events (at-a d t .done)
+    ++ (end-events t (at-a d t .state .phase) (at-b d t .state .phase)
+    ++ (take-events 32 (new-at d t set) (d .marked) t
+    ++ (end-events t (at-e d t set .phase) (at-f d t set .state .phase)
+    ++ (begin-events t (at-f d t set .state .phase) (at-g d t set .phase)
+    ++ start-events t (at-f d t set .state .phase) (at-g d t set .phase))))))))
 
 -- ---- A list of calls
 
-pub data Call : Type 0 where
-  Instant : ℕ → ℕ → Call  -- a time, and the set of tasks released then
-  Mark : ℕ → ℕ → Call  -- a task, and its mark from now on
-
--- the state that a call, served or refused, hands back
-unfoldable pub after-call : State → Call → State
-after-call d (Instant t set) = instant d t set .state
-after-call d (Mark n m) = mark d n m .state
-
+-- what occurs by a call
 unfoldable pub by-call : State → Call → List Event
 by-call d (Instant t set) = cond (eqb (refusal d t set) 0) (happens d t set) []
 by-call d (Mark n m) = []

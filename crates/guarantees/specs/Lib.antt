@@ -1,5 +1,6 @@
 pub mod Types
 pub mod History
-pub mod Reading
+pub mod Queries
+pub mod Entries
 pub mod Claim
 pub mod States

@@ -1,13 +1,14 @@
 -- Every state that calls made: it names only tasks of the table, and no time and no count of it comes near the end of its type. The
 -- definitions hold a time at the last tick of a u64 (`later`) and a count at 255 (`counted`), so that every state has an answer; here it
 -- is claimed that no run gets there: on every state that calls made they are document 01's, with plain arithmetic.
-use Rattle.guarantees.specs.Types.{_≡_, true, List, _⊎_, ℕ, _+_, _≤_, _<_, min, Table, Processor, Idle, CopyingIn, Executing, Finished, CopyOut, NoCopyOut, CopyingOut, CopiedOut, CopyIn, Unchosen, NoneChosen, Copying, Loaded, Cancelled, Next, NoneNext, LoadedNext, PromotedNext, Outgoing, NoneOutgoing, AwaitsCopyOut, Phase, Between, Within, State, NoRefusal}
+use Rattle.guarantees.specs.Types.{_≡_, true, List, _⊎_, ℕ, _+_, _≤_, _<_, min, Table, Processor, Idle, CopyingIn, Executing, Finished, CopyOut, NoCopyOut, CopyingOut, CopiedOut, CopyIn, Unchosen, NoneChosen, Copying, Loaded, Cancelled, Next, NoneNext, LoadedNext, PromotedNext, Outgoing, NoneOutgoing, AwaitsCopyOut, Phase, Between, Within, State, NoRefusal, Call}
 use lib.ListN.{getD}
+use Rattle.table.specs.Table.{copyin-length, execution-length, copyout-length}
 use Rattle.sets.specs.Sets.{member}
 use Rattle.rules.specs.With.{later, at-clock}
 use Rattle.rules.specs.Instant.{at-a, at-e, at-g}
 use Rattle.rules.specs.Calls.{opening, refusal}
-use Rattle.guarantees.specs.History.{Call, after-calls}
+use Rattle.guarantees.specs.History.{after-calls}
 
 -- ---- The tasks that a state names
 
@@ -62,9 +63,9 @@ pub record Named (table : Table) (d : State) : Type 0 where
 
 -- a time has room for every length of a task of the table
 pub record PlainTime (table : Table) (t : ℕ) : Type 0 where
-  pub copyin : (n : ℕ) → Known (table .present) n → later t (getD (table .copyin) n 0) ≡ t + getD (table .copyin) n 0
-  pub execution : (n : ℕ) → Known (table .present) n → later t (getD (table .execution) n 0) ≡ t + getD (table .execution) n 0
-  pub copyout : (n : ℕ) → Known (table .present) n → later t (getD (table .copyout) n 0) ≡ t + getD (table .copyout) n 0
+  pub copyin : (n : ℕ) → Known (table .present) n → later t (copyin-length (table .columns) n) ≡ t + copyin-length (table .columns) n
+  pub execution : (n : ℕ) → Known (table .present) n → later t (execution-length (table .columns) n) ≡ t + execution-length (table .columns) n
+  pub copyout : (n : ℕ) → Known (table .present) n → later t (copyout-length (table .columns) n) ≡ t + copyout-length (table .columns) n
 
 -- each count has room for one more
 abbrev pub PlainCounts : List ℕ → Type 0

@@ -1,8 +1,8 @@
 -- The claim accepts the plans' histories, since the theorem gives it of their calls; and each wrong history goes against a line of it.
 use Prim.Native.Nat.{_+_, ℕ, _≤_, _<_}
-use mathlib.Core.Path.{_≡_, refl, subst}
-use mathlib.Core.Bool.{true, false}
-use mathlib.Core.List.{List, []}
+use mathlib.Core.Path.{_≡_, refl, sym, ap, _∙_, subst}
+use mathlib.Core.Bool.{true, false, false≢true}
+use mathlib.Core.List.{List, [], _∷_, _++_}
 use Rattle.table.specs.declared.Table.{Table}
 use Rattle.entries.specs.declared.MaybeTask.the-variants.{NoTask, Task}
 use Rattle.rules.specs.declared.Due.the-variants.{Never, Tick}
@@ -13,23 +13,28 @@ use lib.ListN.{take, drop}
 use Rattle.words.specs.Words
 use Rattle.sets.specs.Sets
 use Rattle.entries.specs.Entries
-use Rattle.table.specs.Tasks
+use Rattle.table.specs.TaskPart
 use Rattle.rules.specs.Order
 use Rattle.rules.specs.Instant
 use Rattle.rules.specs.Calls
 use Rattle.rules.specs.Instant.{due}
 use Rattle.rules.specs.Calls.{opening}
 use Rattle.guarantees.specs.History
-use Rattle.guarantees.specs.History.{Event, Call, history, after-calls, EmptySets}
-use Rattle.guarantees.specs.Reading.{latest, situation, intervals, end-tick, begin-tick, copied-out, completion, last-instant, total}
-use Rattle.guarantees.specs.Claim.{upto, Holds, AllCompleted, Claim, Demand3}
-use Rattle.histories.specs.Histories.{task, tasks, three, plans-table, Accepts, Refuses, PlansAccepted, WrongRefused, calls-a, history-a, calls-b, history-b, calls-c, history-c, calls-d, history-d, calls-e, history-e, calls-f, history-f, calls-f′, history-f′, second-lower, second-not-lower, third-idle, third-lower, copyout-late, four-intervals, copyout-not-at-once, completion-late, completion-missing, completion-unexecuted}
+use Rattle.rules.specs.declared.Call.{Call}
+use Rattle.guarantees.specs.History.{Event, Takes, history, after-calls, EmptySets}
+use Rattle.guarantees.specs.Queries.{after, first, each, total, upto, situation, NoneOpen, taking}
+use Rattle.guarantees.specs.Claim.{Holds, AllCompleted, Claim, Demand3}
+use Rattle.histories.specs.Histories.{task, tasks, three, plans-table, Accepts, Refuses, PlansAccepted, WrongRefused, calls-a, history-a, calls-b, history-b, calls-c, history-c, calls-d, history-d, calls-e, history-e, calls-f, history-f, calls-f′, history-f′, second-lower, second-not-lower, third-idle, third-lower, copyout-late, four-intervals, copyout-not-at-once, completion-late, completion-missing, completion-unexecuted, begins-late, no-ticks, not-executed, loaded-late, promoted-early, execution-long, promoted-unmarked, starts-unasked, starts-twice, stops-unstarted, cut-short, before-15, job-1, Tells, OneEntry, PlanC}
+use Rattle.guarantees.specs.Entries.{lower-in, ended}
+use Rattle.guarantees.specs.Queries.{until}
+use Rattle.entries.specs.declared.JobEntry.{JobEntry}
+use Rattle.guarantees.proofs.Tally.{nothing, tally, Found, found}
 use Rattle.guarantees.proofs.Demand3.{demand-3}
 
 -- ---- the plans, computed
 
 opens : (opening tasks .refusal ≡ NoRefusal) × (opening tasks .state .table ≡ plans-table)
-unfolding Words.numberAt Sets.member Sets.below Sets.collect Sets.insert Entries.task-at Entries.entry-at Tasks.given Tasks.outside Tasks.number-refused Tasks.mark-or-length-refusal Tasks.task-refusal Tasks.with-task Tasks.with-marked Tasks.behind-tasks Tasks.tasks-from Tasks.tasks-of Calls.opened Calls.opening task tasks three plans-table
+unfolding Words.numberAt Sets.member Sets.below Sets.collect Sets.insert Entries.task-at Entries.entry-at TaskPart.given TaskPart.outside TaskPart.number-refused TaskPart.mark-or-length-refusal TaskPart.task-refusal TaskPart.with-task TaskPart.with-marked TaskPart.behind-tasks TaskPart.tasks-from TaskPart.task-part Calls.opened Calls.opening task tasks three plans-table
 opens = (refl, refl)
 
 -- the history that some calls make, where they leave nothing due
@@ -38,7 +43,7 @@ record Makes (calls : List Call) (h : List Event) : Type 0 where
   at-rest : due (after-calls (opening tasks .state) calls .phase) ≡ Never
 
 plans-made : Makes calls-a history-a × Makes calls-b history-b × Makes calls-c history-c × Makes calls-d history-d × Makes calls-e history-e × Makes calls-f history-f × Makes calls-f′ history-f′
-unfolding Words.numberAt Sets.member Sets.below Sets.collect Sets.union Sets.intersection Sets.difference Sets.insert Sets.remove Entries.task-at Entries.release-at Entries.entry-at Tasks.given Tasks.outside Tasks.number-refused Tasks.mark-or-length-refusal Tasks.task-refusal Tasks.with-task Tasks.with-marked Tasks.behind-tasks Tasks.tasks-from Tasks.tasks-of Order.better Order.highest-below Order.highest Order.higher-than Instant.processor-at Instant.copyout-at Instant.ended Instant.completed Instant.without-done Instant.step-a Instant.promoted Instant.blocks Instant.counted Instant.close Instant.interval-entry Instant.close-stage Instant.step-b Instant.taken Instant.skipped Instant.stamped Instant.with-candidates Instant.step-c Instant.cancel Instant.cancel-by Instant.step-d Instant.choose Instant.choose-if Instant.step-e Instant.begin Instant.step-g Instant.sooner Instant.due Instant.at-a Instant.at-b Instant.new-at Instant.at-e Instant.at-f Instant.at-g Instant.occurred Calls.opened Calls.opening Calls.unknown Calls.refusal Calls.served Calls.instant History.finishes History.finishes-in History.completes History.ends History.takes History.begins History.happens History.after-call History.by-call History.after-calls History.history task tasks three plans-table calls-a history-a calls-b history-b calls-c history-c calls-d history-d calls-e history-e calls-f history-f calls-f′ history-f′
+unfolding Words.numberAt Sets.member Sets.below Sets.collect Sets.union Sets.intersection Sets.difference Sets.insert Sets.remove Entries.task-at Entries.release-at Entries.entry-at TaskPart.given TaskPart.outside TaskPart.number-refused TaskPart.mark-or-length-refusal TaskPart.task-refusal TaskPart.with-task TaskPart.with-marked TaskPart.behind-tasks TaskPart.tasks-from TaskPart.task-part Order.better Order.highest-below Order.highest Order.higher-than Instant.processor-at Instant.copyout-at Instant.ended Instant.completed Instant.without-done Instant.step-a Instant.promoted Instant.blocks Instant.counted Instant.close Instant.interval-entry Instant.close-stage Instant.step-b Instant.taken Instant.skipped Instant.stamped Instant.with-candidates Instant.step-c Instant.cancel Instant.cancel-by Instant.step-d Instant.choose Instant.choose-if Instant.step-e Instant.begin Instant.step-g Instant.sooner Instant.due Instant.at-a Instant.at-b Instant.new-at Instant.at-e Instant.at-f Instant.at-g Instant.occurred Calls.opened Calls.opening Calls.unknown Calls.refusal Calls.served Calls.instant History.processor-events History.processor-events-in History.finish-events History.finish-events-in History.completion-events History.end-events History.take-events History.begin-events History.execution-events History.start-events History.happens Calls.after-call History.by-call History.after-calls History.history task tasks three plans-table calls-a history-a calls-b history-b calls-c history-c calls-d history-d calls-e history-e calls-f history-f calls-f′ history-f′
 plans-made = (
   record { made = refl; at-rest = refl },
   record { made = refl; at-rest = refl },
@@ -85,28 +90,31 @@ no-task n e = let z : _≡_ {A = ℕ} 0 1 = cc in omega arith
 not-never : (t : ℕ) → Never ≡ Tick t → ⊥
 not-never t e = let z : _≡_ {A = ℕ} 0 1 = cc in omega arith
 
+never-is : (t : ℕ) → Tick t ≡ Never → ⊥
+never-is t e = let z : _≡_ {A = ℕ} 0 1 = cc in omega arith
+
 other-tick : (t u : ℕ) → (t ≡ u → ⊥) → Tick t ≡ Tick u → ⊥
 other-tick t u h e = h cc
 
 refuses-second-lower : Refuses second-lower
-unfolding second-lower situation intervals upto plans-table three
+unfolding second-lower after each upto plans-table three
 refuses-second-lower h = h .each-job (take 4 second-lower) (drop 5 second-lower) 1 1 true refl .second-marked refl (omega arith) .0 (omega arith)
 
 refuses-second-not-lower : Refuses second-not-lower
-unfolding second-not-lower situation intervals upto plans-table three
+unfolding second-not-lower after each upto plans-table three
 refuses-second-not-lower h =
-    let l : 1 < 1 = h .each-job (take 10 second-not-lower) (drop 11 second-not-lower) 1 4 true refl .second-marked refl (omega arith) .1 (omega arith) in omega arith
+    let l : 1 < 1 = h .each-job (take 11 second-not-lower) (drop 12 second-not-lower) 1 4 true refl .second-marked refl (omega arith) .1 (omega arith) in omega arith
 
 refuses-third-idle : Refuses third-idle
-unfolding third-idle situation intervals upto plans-table three
+unfolding third-idle after each upto plans-table three
 refuses-third-idle h = h .each-job (take 1 third-idle) (drop 2 third-idle) 2 0 false refl .third-on 2 (omega arith) (omega arith)
 
 refuses-third-lower : Refuses third-lower
-unfolding third-lower situation intervals upto plans-table three
+unfolding third-lower after each upto plans-table three
 refuses-third-lower h = h .each-job (take 1 third-lower) (drop 2 third-lower) 2 0 false refl .lower-in-two 2 (omega arith) (omega arith) (omega arith)
 
 refuses-copyout-late : Refuses copyout-late
-unfolding copyout-late end-tick copied-out begin-tick plans-table three
+unfolding copyout-late first plans-table three
 refuses-copyout-late h = no-task 1 (h .each-executed (take 6 copyout-late) (drop 7 copyout-late) 1 1 NoTask refl .copyout-begins 6 refl .1)
 
 refuses-four-intervals : Refuses four-intervals
@@ -114,27 +122,77 @@ unfolding four-intervals total
 refuses-four-intervals h = let l : 4 ≤ 3 = h .at-most-three in omega arith
 
 refuses-copyout-not-at-once : Refuses copyout-not-at-once
-unfolding copyout-not-at-once end-tick begin-tick copied-out plans-table three
+unfolding copyout-not-at-once first plans-table three
 refuses-copyout-not-at-once h =
     other-tick 6 5 (λ e. omega arith) (h .each-executed (take 6 copyout-not-at-once) (drop 7 copyout-not-at-once) 1 2 NoTask refl .copyout-begins 5 refl .0)
 
 refuses-completion-late : Refuses completion-late
-unfolding completion-late end-tick completion last-instant plans-table three
+unfolding completion-late first after plans-table three
 refuses-completion-late h =
     other-tick 7 6 (λ e. omega arith) (h .each-executed (take 6 completion-late) (drop 7 completion-late) 1 2 NoTask refl .copyout-ends 5 refl)
 
 refuses-completion-missing : Refuses completion-missing
-unfolding completion-missing end-tick completion last-instant plans-table three
+unfolding completion-missing first after plans-table three
 refuses-completion-missing h = not-never 6 (h .each-executed (take 6 completion-missing) (drop 7 completion-missing) 1 2 NoTask refl .copyout-ends 5 refl)
 
 refuses-completion-unexecuted : Refuses completion-unexecuted
-unfolding completion-unexecuted latest plans-table three
+unfolding completion-unexecuted after plans-table three
 refuses-completion-unexecuted h =
     let x : (b : ℕ) × (Tick 0 ≡ Tick b) × (NoTask ≡ Task 1) × (1 ≡ b + 1) = h .each-completion (take 4 completion-unexecuted) (drop 5 completion-unexecuted) 1 1 refl in
     no-task 1 (x .2)
 
+refuses-begins-late : Refuses begins-late
+unfolding begins-late first after plans-table three
+refuses-begins-late h = other-tick 50 0 (λ e. omega arith) (h .each-taking (take 1 begins-late) (drop 2 begins-late) 1 0 true refl refl)
+
+refuses-no-ticks : Refuses no-ticks
+unfolding no-ticks first after plans-table three
+refuses-no-ticks h = never-is 2 (h .each-execution (take 6 no-ticks) (drop 7 no-ticks) 1 2 NoTask refl .execution-ends 2 refl)
+
+refuses-not-executed : Refuses not-executed
+unfolding not-executed first after plans-table three
+refuses-not-executed h = not-never 2 (h .each-execution (take 6 not-executed) (drop 7 not-executed) 1 2 NoTask refl .loaded-starts refl)
+
+refuses-loaded-late : Refuses loaded-late
+unfolding loaded-late first after plans-table three
+refuses-loaded-late h = other-tick 3 2 (λ e. omega arith) (h .each-execution (take 6 loaded-late) (drop 7 loaded-late) 1 2 NoTask refl .loaded-starts refl)
+
+refuses-promoted-early : Refuses promoted-early
+unfolding promoted-early first after plans-table three
+refuses-promoted-early h =
+    other-tick 1 3 (λ e. omega arith) (h .each-execution (take 6 promoted-early) (drop 7 promoted-early) 1 1 NoTask refl .promoted-starts refl)
+
+refuses-execution-long : Refuses execution-long
+unfolding execution-long first after plans-table three
+refuses-execution-long h =
+    other-tick 6 5 (λ e. omega arith) (h .each-execution (take 6 execution-long) (drop 7 execution-long) 1 2 NoTask refl .execution-ends 2 refl)
+
+refuses-promoted-unmarked : Refuses promoted-unmarked
+unfolding promoted-unmarked after plans-table three
+refuses-promoted-unmarked h = false≢true (h .each-promotion (take 13 promoted-unmarked) (drop 14 promoted-unmarked) 2 5 (Task 1) refl refl)
+
+refuses-starts-unasked : Refuses starts-unasked
+unfolding starts-unasked after plans-table three
+refuses-starts-unasked h = no-task 1 (h .each-start (take 3 starts-unasked) (drop 4 starts-unasked) 1 0 refl .0)
+
+refuses-starts-twice : Refuses starts-twice
+unfolding starts-twice after plans-table three
+refuses-starts-twice h = never-is 2 (h .each-start (take 9 starts-twice) (drop 10 starts-twice) 1 4 refl .2)
+
+refuses-stops-unstarted : Refuses stops-unstarted
+unfolding stops-unstarted after plans-table three
+refuses-stops-unstarted h =
+    let x : (s : ℕ) × (Task 1 ≡ Task 1) × (Never ≡ Never) × (Never ≡ Tick s) × (Never ≡ Never) × (2 ≡ s + 3) =
+    h .each-stop (take 8 stops-unstarted) (drop 9 stops-unstarted) 1 2 refl in
+    not-never (x .0) (x .3)
+
+refuses-cut-short : Refuses cut-short
+unfolding cut-short after plans-table three
+refuses-cut-short h =
+    let x : (s : ℕ) × (Never ≡ Tick s) = h .each-end (take 9 cut-short) (drop 10 cut-short) 1 4 refl refl in not-never (x .0) (x .1)
+
 refuses-incomplete : AllCompleted third-idle → ⊥
-unfolding third-idle completion
+unfolding third-idle first
 refuses-incomplete h = let x : (u : ℕ) × (Never ≡ Tick u) = h .each (take 1 third-idle) (drop 2 third-idle) 2 0 false refl in not-never (x .0) (x .1)
 
 pub wrong-refused : WrongRefused
@@ -150,5 +208,59 @@ wrong-refused = (
   refuses-completion-late,
   refuses-completion-missing,
   refuses-completion-unexecuted,
+  refuses-begins-late,
+  refuses-no-ticks,
+  refuses-not-executed,
+  refuses-loaded-late,
+  refuses-promoted-early,
+  refuses-execution-long,
+  refuses-promoted-unmarked,
+  refuses-starts-unasked,
+  refuses-starts-twice,
+  refuses-stops-unstarted,
+  refuses-cut-short,
   refuses-incomplete,
 )
+
+-- ---- the entries
+
+-- the walk along plan B finds the last job of task 1, and no other
+walked : (e : JobEntry) → e .task ≡ 1 → (h : Tells e)
+    → Found 1 (e .release) (situation NoneOpen (h .before)) (h .after) (tally 1 nothing before-15)
+walked e t h =
+    subst (Found 1 (e .release) (situation NoneOpen (h .before)) (h .after))
+    (ap (tally 1 nothing) (ap (λ (n : ℕ). h .before ++ (Takes n (e .release) (h .marked) ∷ h .after)) (sym t) ∙ sym (h .release)))
+    (found 1 (h .before) (h .after) (e .release) (h .marked) (ap (λ (n : ℕ). taking n (h .after)) (sym t) ∙ h .last-taken))
+
+job-found : (tally 1 nothing before-15 .taken ≡ Tick 4) × (tally 1 nothing before-15 .started ≡ Tick 11) × (lower-in (plans-table .priority) 1 (tally 1 nothing before-15 .waits) ≡ 2)
+unfolding tally lower-in before-15 history-b plans-table three
+job-found = (refl, refl, refl)
+
+-- the count of an entry that tells the truth
+is-two : (r s c b : ℕ) → Tells (job-1 r s c b) → b ≡ 2
+is-two r s c b h =
+    h .blocked ∙ ap (lower-in (plans-table .priority) 1) (sym (walked (job-1 r s c b) refl h .waits)) ∙ job-found .2
+
+pub one-entry : OneEntry
+unfolding OneEntry before-15 history-b plans-table three after first each until lower-in
+one-entry = (
+  record {
+    before = take 11 before-15;
+    after = drop 12 before-15;
+    marked = true;
+    release = refl;
+    last-taken = refl;
+    execution-start = refl;
+    completion = refl;
+    blocked = refl;
+  },
+  λ h. other-tick 4 3 (λ e. omega arith) (sym (job-found .0) ∙ walked (job-1 3 11 15 2) refl h .taken),
+  λ h. other-tick 11 10 (λ e. omega arith) (sym (job-found .1) ∙ walked (job-1 4 10 15 2) refl h .started ∙ h .execution-start),
+  λ h. let e : _≡_ {A = ℕ} 14 15 = h .completion in omega arith,
+  λ h. let e : _≡_ {A = ℕ} 1 2 = is-two 4 11 15 1 h in omega arith,
+  λ h. let e : _≡_ {A = ℕ} 3 2 = is-two 4 11 15 3 h in omega arith,
+)
+
+pub plan-c : PlanC
+unfolding PlanC history-c ended each
+plan-c = (refl, refl)

@@ -6,9 +6,15 @@ use mathlib.Core.List.{List, [], _∷_, _++_}
 use Prim.Native.Nat.{ℕ}
 use Rattle.table.specs.declared.Table.{Table}
 use Rattle.entries.specs.declared.MaybeTask.the-variants.{NoTask, Task}
-use lib.ListN.{replicate}
+use lib.ListN.{replicate, take}
 use Rattle.rules.specs.Calls.{opening}
-use Rattle.guarantees.specs.History.{Event, Comes, Finishes, Completes, Ends, Takes, Begins, Call, Instant, history}
+use Rattle.rules.specs.declared.Call.{Call}
+use Rattle.rules.specs.declared.Call.the-variants.{Instant}
+use Rattle.guarantees.specs.History.{Event, Comes, Starts, Stops, Finishes, Completes, Ends, Takes, Begins, history}
+use Rattle.entries.specs.declared.JobEntry.{JobEntry}
+use Rattle.rules.specs.declared.Due.the-variants.{Tick}
+use Rattle.guarantees.specs.Queries.{none-yet}
+use Rattle.guarantees.specs.Entries.{TellsJob, completions, ended}
 use Rattle.guarantees.specs.Claim.{Holds, AllCompleted}
 
 -- ---- The plans' tasks
@@ -24,7 +30,7 @@ unfoldable pub three : ℕ → ℕ → ℕ → List ℕ
 three a b c = 0 ∷ a ∷ b ∷ c ∷ replicate 28 0
 
 unfoldable pub plans-table : Table
-plans-table = record { present = 14; priority = three 1 2 3; copyin = three 2 2 2; execution = three 3 4 5; copyout = three 1 1 2 }
+plans-table = record { present = 14; priority = three 1 2 3; columns = three 2 2 2 ++ (three 3 4 5 ++ three 1 1 2) }
 
 -- ---- The plans: the calls, the empty sets at the due times among them, and the history, an instant a line
 
@@ -34,14 +40,14 @@ calls-a = Instant 0 8 ∷ Instant 2 4 ∷ Instant 3 2 ∷ Instant 7 0 ∷ Instan
 unfoldable pub history-a : List Event
 history-a =
     Comes 0 ∷ Takes 3 0 false ∷ Begins 0 NoTask NoTask ∷
-    Comes 2 ∷ Finishes 3 ∷ Ends 2 ∷ Takes 2 2 false ∷ Begins 2 (Task 3) NoTask ∷
+    Comes 2 ∷ Finishes 3 ∷ Ends 2 ∷ Takes 2 2 false ∷ Begins 2 (Task 3) NoTask ∷ Starts 3 2 ∷
     Comes 3 ∷ Takes 1 3 true ∷
-    Comes 7 ∷ Ends 7 ∷ Begins 7 (Task 1) (Task 3) ∷
-    Comes 9 ∷ Completes 3 9 ∷
+    Comes 7 ∷ Stops 3 7 ∷ Ends 7 ∷ Begins 7 (Task 1) (Task 3) ∷
+    Comes 9 ∷ Starts 1 9 ∷ Completes 3 9 ∷
     Comes 11 ∷ Finishes 2 ∷
-    Comes 12 ∷ Ends 12 ∷ Begins 12 (Task 2) (Task 1) ∷
+    Comes 12 ∷ Stops 1 12 ∷ Ends 12 ∷ Begins 12 (Task 2) (Task 1) ∷ Starts 2 12 ∷
     Comes 13 ∷ Completes 1 13 ∷
-    Comes 16 ∷ Ends 16 ∷ Begins 16 NoTask (Task 2) ∷
+    Comes 16 ∷ Stops 2 16 ∷ Ends 16 ∷ Begins 16 NoTask (Task 2) ∷
     Comes 17 ∷ Completes 2 17 ∷ Ends 17 ∷ []
 
 unfoldable pub calls-b : List Call
@@ -50,13 +56,13 @@ calls-b = Instant 0 8 ∷ Instant 2 4 ∷ Instant 4 2 ∷ Instant 7 0 ∷ Instan
 unfoldable pub history-b : List Event
 history-b =
     Comes 0 ∷ Takes 3 0 false ∷ Begins 0 NoTask NoTask ∷
-    Comes 2 ∷ Finishes 3 ∷ Ends 2 ∷ Takes 2 2 false ∷ Begins 2 (Task 3) NoTask ∷
+    Comes 2 ∷ Finishes 3 ∷ Ends 2 ∷ Takes 2 2 false ∷ Begins 2 (Task 3) NoTask ∷ Starts 3 2 ∷
     Comes 4 ∷ Finishes 2 ∷ Takes 1 4 true ∷
-    Comes 7 ∷ Ends 7 ∷ Begins 7 (Task 2) (Task 3) ∷
+    Comes 7 ∷ Stops 3 7 ∷ Ends 7 ∷ Begins 7 (Task 2) (Task 3) ∷ Starts 2 7 ∷
     Comes 9 ∷ Completes 3 9 ∷
-    Comes 11 ∷ Finishes 1 ∷ Ends 11 ∷ Begins 11 (Task 1) (Task 2) ∷
+    Comes 11 ∷ Stops 2 11 ∷ Finishes 1 ∷ Ends 11 ∷ Begins 11 (Task 1) (Task 2) ∷ Starts 1 11 ∷
     Comes 12 ∷ Completes 2 12 ∷
-    Comes 14 ∷ Ends 14 ∷ Begins 14 NoTask (Task 1) ∷
+    Comes 14 ∷ Stops 1 14 ∷ Ends 14 ∷ Begins 14 NoTask (Task 1) ∷
     Comes 15 ∷ Completes 1 15 ∷ Ends 15 ∷ []
 
 unfoldable pub calls-c : List Call
@@ -65,8 +71,8 @@ calls-c = Instant 0 2 ∷ Instant 2 0 ∷ Instant 5 0 ∷ Instant 6 0 ∷ []
 unfoldable pub history-c : List Event
 history-c =
     Comes 0 ∷ Takes 1 0 true ∷ Begins 0 NoTask NoTask ∷
-    Comes 2 ∷ Finishes 1 ∷ Ends 2 ∷ Begins 2 (Task 1) NoTask ∷
-    Comes 5 ∷ Ends 5 ∷ Begins 5 NoTask (Task 1) ∷
+    Comes 2 ∷ Finishes 1 ∷ Ends 2 ∷ Begins 2 (Task 1) NoTask ∷ Starts 1 2 ∷
+    Comes 5 ∷ Stops 1 5 ∷ Ends 5 ∷ Begins 5 NoTask (Task 1) ∷
     Comes 6 ∷ Completes 1 6 ∷ Ends 6 ∷ []
 
 unfoldable pub calls-d : List Call
@@ -76,10 +82,10 @@ unfoldable pub history-d : List Event
 history-d =
     Comes 0 ∷ Takes 2 0 false ∷ Begins 0 NoTask NoTask ∷
     Comes 1 ∷ Takes 1 1 true ∷ Ends 1 ∷ Begins 1 (Task 1) NoTask ∷
-    Comes 3 ∷ Finishes 2 ∷
-    Comes 6 ∷ Ends 6 ∷ Begins 6 (Task 2) (Task 1) ∷
+    Comes 3 ∷ Starts 1 3 ∷ Finishes 2 ∷
+    Comes 6 ∷ Stops 1 6 ∷ Ends 6 ∷ Begins 6 (Task 2) (Task 1) ∷ Starts 2 6 ∷
     Comes 7 ∷ Completes 1 7 ∷
-    Comes 10 ∷ Ends 10 ∷ Begins 10 NoTask (Task 2) ∷
+    Comes 10 ∷ Stops 2 10 ∷ Ends 10 ∷ Begins 10 NoTask (Task 2) ∷
     Comes 11 ∷ Completes 2 11 ∷ Ends 11 ∷ []
 
 unfoldable pub calls-e : List Call
@@ -88,11 +94,11 @@ calls-e = Instant 0 4 ∷ Instant 2 2 ∷ Instant 4 0 ∷ Instant 6 0 ∷ Instan
 unfoldable pub history-e : List Event
 history-e =
     Comes 0 ∷ Takes 2 0 false ∷ Begins 0 NoTask NoTask ∷
-    Comes 2 ∷ Finishes 2 ∷ Ends 2 ∷ Takes 1 2 true ∷ Begins 2 (Task 2) NoTask ∷
+    Comes 2 ∷ Finishes 2 ∷ Ends 2 ∷ Takes 1 2 true ∷ Begins 2 (Task 2) NoTask ∷ Starts 2 2 ∷
     Comes 4 ∷ Finishes 1 ∷
-    Comes 6 ∷ Ends 6 ∷ Begins 6 (Task 1) (Task 2) ∷
+    Comes 6 ∷ Stops 2 6 ∷ Ends 6 ∷ Begins 6 (Task 1) (Task 2) ∷ Starts 1 6 ∷
     Comes 7 ∷ Completes 2 7 ∷
-    Comes 9 ∷ Ends 9 ∷ Begins 9 NoTask (Task 1) ∷
+    Comes 9 ∷ Stops 1 9 ∷ Ends 9 ∷ Begins 9 NoTask (Task 1) ∷
     Comes 10 ∷ Completes 1 10 ∷ Ends 10 ∷ []
 
 unfoldable pub calls-f : List Call
@@ -101,8 +107,8 @@ calls-f = Instant 0 2 ∷ Instant 2 0 ∷ Instant 5 2 ∷ Instant 6 0 ∷ []
 unfoldable pub history-f : List Event
 history-f =
     Comes 0 ∷ Takes 1 0 true ∷ Begins 0 NoTask NoTask ∷
-    Comes 2 ∷ Finishes 1 ∷ Ends 2 ∷ Begins 2 (Task 1) NoTask ∷
-    Comes 5 ∷ Ends 5 ∷ Begins 5 NoTask (Task 1) ∷
+    Comes 2 ∷ Finishes 1 ∷ Ends 2 ∷ Begins 2 (Task 1) NoTask ∷ Starts 1 2 ∷
+    Comes 5 ∷ Stops 1 5 ∷ Ends 5 ∷ Begins 5 NoTask (Task 1) ∷
     Comes 6 ∷ Completes 1 6 ∷ Ends 6 ∷ []
 
 unfoldable pub calls-f′ : List Call
@@ -111,11 +117,11 @@ calls-f′ = Instant 0 2 ∷ Instant 2 0 ∷ Instant 5 0 ∷ Instant 6 2 ∷ Ins
 unfoldable pub history-f′ : List Event
 history-f′ =
     Comes 0 ∷ Takes 1 0 true ∷ Begins 0 NoTask NoTask ∷
-    Comes 2 ∷ Finishes 1 ∷ Ends 2 ∷ Begins 2 (Task 1) NoTask ∷
-    Comes 5 ∷ Ends 5 ∷ Begins 5 NoTask (Task 1) ∷
+    Comes 2 ∷ Finishes 1 ∷ Ends 2 ∷ Begins 2 (Task 1) NoTask ∷ Starts 1 2 ∷
+    Comes 5 ∷ Stops 1 5 ∷ Ends 5 ∷ Begins 5 NoTask (Task 1) ∷
     Comes 6 ∷ Completes 1 6 ∷ Takes 1 6 true ∷
-    Comes 8 ∷ Finishes 1 ∷ Ends 8 ∷ Begins 8 (Task 1) NoTask ∷
-    Comes 11 ∷ Ends 11 ∷ Begins 11 NoTask (Task 1) ∷
+    Comes 8 ∷ Finishes 1 ∷ Ends 8 ∷ Begins 8 (Task 1) NoTask ∷ Starts 1 8 ∷
+    Comes 11 ∷ Stops 1 11 ∷ Ends 11 ∷ Begins 11 NoTask (Task 1) ∷
     Comes 12 ∷ Completes 1 12 ∷ Ends 12 ∷ []
 
 -- the calls make the history, and the claim holds of it
@@ -141,39 +147,40 @@ unfoldable pub second-lower : List Event
 second-lower =
     Comes 0 ∷ Takes 3 0 false ∷ Begins 0 NoTask NoTask ∷
     Comes 1 ∷ Takes 1 1 true ∷
-    Comes 2 ∷ Finishes 3 ∷ Ends 2 ∷ Begins 2 (Task 3) NoTask ∷ []
+    Comes 2 ∷ Finishes 3 ∷ Ends 2 ∷ Begins 2 (Task 3) NoTask ∷ Starts 3 2 ∷ []
 
 -- one whose second does not, though a lower copy-in was finished: plan B with job 1 in the interval that executes job 2
 unfoldable pub second-not-lower : List Event
 second-not-lower =
     Comes 0 ∷ Takes 3 0 false ∷ Begins 0 NoTask NoTask ∷
-    Comes 2 ∷ Finishes 3 ∷ Ends 2 ∷ Takes 2 2 false ∷ Begins 2 (Task 3) NoTask ∷
+    Comes 2 ∷ Finishes 3 ∷ Ends 2 ∷ Takes 2 2 false ∷ Begins 2 (Task 3) NoTask ∷ Starts 3 2 ∷
     Comes 4 ∷ Finishes 2 ∷ Takes 1 4 true ∷
-    Comes 7 ∷ Ends 7 ∷ Begins 7 (Task 1) (Task 3) ∷ []
+    Comes 7 ∷ Stops 3 7 ∷ Ends 7 ∷ Begins 7 (Task 1) (Task 3) ∷ []
 
 -- a third interval that is idle: plan D where the cancelled job 2 is not copied in again
 unfoldable pub third-idle : List Event
 third-idle =
     Comes 0 ∷ Takes 2 0 false ∷ Begins 0 NoTask NoTask ∷
     Comes 1 ∷ Takes 1 1 true ∷ Ends 1 ∷ Begins 1 (Task 1) NoTask ∷
-    Comes 6 ∷ Ends 6 ∷ Begins 6 NoTask (Task 1) ∷ []
+    Comes 3 ∷ Starts 1 3 ∷
+    Comes 6 ∷ Stops 1 6 ∷ Ends 6 ∷ Begins 6 NoTask (Task 1) ∷ []
 
 -- a third interval with a lower job: plan D where job 3 comes too, and is copied in before job 2
 unfoldable pub third-lower : List Event
 third-lower =
     Comes 0 ∷ Takes 2 0 false ∷ Begins 0 NoTask NoTask ∷
     Comes 1 ∷ Takes 1 1 true ∷ Takes 3 1 false ∷ Ends 1 ∷ Begins 1 (Task 1) NoTask ∷
-    Comes 3 ∷ Finishes 3 ∷
-    Comes 6 ∷ Ends 6 ∷ Begins 6 (Task 3) (Task 1) ∷ []
+    Comes 3 ∷ Starts 1 3 ∷ Finishes 3 ∷
+    Comes 6 ∷ Stops 1 6 ∷ Ends 6 ∷ Begins 6 (Task 3) (Task 1) ∷ Starts 3 6 ∷ []
 
 -- a copy-out one interval late: plan D where each job is copied out in the second interval after its own
 unfoldable pub copyout-late : List Event
 copyout-late =
     Comes 0 ∷ Takes 2 0 false ∷ Begins 0 NoTask NoTask ∷
     Comes 1 ∷ Takes 1 1 true ∷ Ends 1 ∷ Begins 1 (Task 1) NoTask ∷
-    Comes 3 ∷ Finishes 2 ∷
-    Comes 6 ∷ Ends 6 ∷ Begins 6 (Task 2) NoTask ∷
-    Comes 10 ∷ Ends 10 ∷ Begins 10 NoTask (Task 1) ∷
+    Comes 3 ∷ Starts 1 3 ∷ Finishes 2 ∷
+    Comes 6 ∷ Stops 1 6 ∷ Ends 6 ∷ Begins 6 (Task 2) NoTask ∷ Starts 2 6 ∷
+    Comes 10 ∷ Stops 2 10 ∷ Ends 10 ∷ Begins 10 NoTask (Task 1) ∷
     Comes 11 ∷ Completes 1 11 ∷ Ends 11 ∷ Begins 11 NoTask (Task 2) ∷
     Comes 12 ∷ Completes 2 12 ∷ Ends 12 ∷ []
 
@@ -181,16 +188,16 @@ copyout-late =
 unfoldable pub four-intervals : List Event
 four-intervals =
     Comes 0 ∷ Takes 1 0 true ∷ Begins 0 NoTask NoTask ∷
-    Comes 2 ∷ Finishes 1 ∷ Ends 2 ∷ Begins 2 (Task 1) NoTask ∷
-    Comes 5 ∷ Ends 5 ∷ Begins 5 NoTask (Task 1) ∷
+    Comes 2 ∷ Finishes 1 ∷ Ends 2 ∷ Begins 2 (Task 1) NoTask ∷ Starts 1 2 ∷
+    Comes 5 ∷ Stops 1 5 ∷ Ends 5 ∷ Begins 5 NoTask (Task 1) ∷
     Comes 6 ∷ Completes 1 6 ∷ Ends 6 ∷ Begins 6 NoTask NoTask ∷ []
 
 -- the interval that copies out begins a tick after the execution's has ended
 unfoldable pub copyout-not-at-once : List Event
 copyout-not-at-once =
     Comes 0 ∷ Takes 1 0 true ∷ Begins 0 NoTask NoTask ∷
-    Comes 2 ∷ Finishes 1 ∷ Ends 2 ∷ Begins 2 (Task 1) NoTask ∷
-    Comes 5 ∷ Ends 5 ∷
+    Comes 2 ∷ Finishes 1 ∷ Ends 2 ∷ Begins 2 (Task 1) NoTask ∷ Starts 1 2 ∷
+    Comes 5 ∷ Stops 1 5 ∷ Ends 5 ∷
     Comes 6 ∷ Begins 6 NoTask (Task 1) ∷
     Comes 7 ∷ Completes 1 7 ∷ Ends 7 ∷ []
 
@@ -198,16 +205,16 @@ copyout-not-at-once =
 unfoldable pub completion-late : List Event
 completion-late =
     Comes 0 ∷ Takes 1 0 true ∷ Begins 0 NoTask NoTask ∷
-    Comes 2 ∷ Finishes 1 ∷ Ends 2 ∷ Begins 2 (Task 1) NoTask ∷
-    Comes 5 ∷ Ends 5 ∷ Begins 5 NoTask (Task 1) ∷
+    Comes 2 ∷ Finishes 1 ∷ Ends 2 ∷ Begins 2 (Task 1) NoTask ∷ Starts 1 2 ∷
+    Comes 5 ∷ Stops 1 5 ∷ Ends 5 ∷ Begins 5 NoTask (Task 1) ∷
     Comes 7 ∷ Completes 1 7 ∷ Ends 7 ∷ []
 
 -- the job has not completed though the list has reached the tick
 unfoldable pub completion-missing : List Event
 completion-missing =
     Comes 0 ∷ Takes 1 0 true ∷ Begins 0 NoTask NoTask ∷
-    Comes 2 ∷ Finishes 1 ∷ Ends 2 ∷ Begins 2 (Task 1) NoTask ∷
-    Comes 5 ∷ Ends 5 ∷ Begins 5 NoTask (Task 1) ∷
+    Comes 2 ∷ Finishes 1 ∷ Ends 2 ∷ Begins 2 (Task 1) NoTask ∷ Starts 1 2 ∷
+    Comes 5 ∷ Stops 1 5 ∷ Ends 5 ∷ Begins 5 NoTask (Task 1) ∷
     Comes 6 ∷ []
 
 -- a job completes that was never executed
@@ -215,6 +222,87 @@ unfoldable pub completion-unexecuted : List Event
 completion-unexecuted =
     Comes 0 ∷ Takes 1 0 true ∷ Begins 0 NoTask NoTask ∷
     Comes 1 ∷ Completes 1 1 ∷ []
+
+-- the first interval begins 50 ticks after a release that came while none was open
+unfoldable pub begins-late : List Event
+begins-late =
+    Comes 0 ∷ Takes 1 0 true ∷
+    Comes 50 ∷ Begins 50 NoTask NoTask ∷
+    Comes 52 ∷ Finishes 1 ∷ Ends 52 ∷ Begins 52 (Task 1) NoTask ∷ Starts 1 52 ∷ []
+
+-- plan C with an execution of no ticks
+unfoldable pub no-ticks : List Event
+no-ticks =
+    Comes 0 ∷ Takes 1 0 true ∷ Begins 0 NoTask NoTask ∷
+    Comes 2 ∷ Finishes 1 ∷ Ends 2 ∷ Begins 2 (Task 1) NoTask ∷ Starts 1 2 ∷ Stops 1 2 ∷ Ends 2 ∷ Begins 2 NoTask (Task 1) ∷
+    Comes 3 ∷ Completes 1 3 ∷ Ends 3 ∷ []
+
+-- plan C with a job that is never executed in its interval
+unfoldable pub not-executed : List Event
+not-executed =
+    Comes 0 ∷ Takes 1 0 true ∷ Begins 0 NoTask NoTask ∷
+    Comes 2 ∷ Finishes 1 ∷ Ends 2 ∷ Begins 2 (Task 1) NoTask ∷
+    Comes 5 ∷ Ends 5 ∷ Begins 5 NoTask (Task 1) ∷
+    Comes 6 ∷ Completes 1 6 ∷ Ends 6 ∷ []
+
+-- plan C with a loaded job that starts a tick after its interval
+unfoldable pub loaded-late : List Event
+loaded-late =
+    Comes 0 ∷ Takes 1 0 true ∷ Begins 0 NoTask NoTask ∷
+    Comes 2 ∷ Finishes 1 ∷ Ends 2 ∷ Begins 2 (Task 1) NoTask ∷
+    Comes 3 ∷ Starts 1 3 ∷
+    Comes 6 ∷ Stops 1 6 ∷ Ends 6 ∷ Begins 6 NoTask (Task 1) ∷
+    Comes 7 ∷ Completes 1 7 ∷ Ends 7 ∷ []
+
+-- plan D with a promoted job that starts with its interval, before its copy-in has ended
+unfoldable pub promoted-early : List Event
+promoted-early =
+    Comes 0 ∷ Takes 2 0 false ∷ Begins 0 NoTask NoTask ∷
+    Comes 1 ∷ Takes 1 1 true ∷ Ends 1 ∷ Begins 1 (Task 1) NoTask ∷ Starts 1 1 ∷
+    Comes 3 ∷ Finishes 2 ∷
+    Comes 4 ∷ Stops 1 4 ∷ Ends 4 ∷ Begins 4 (Task 2) (Task 1) ∷ Starts 2 4 ∷ []
+
+-- plan C with an execution that lasts a tick too long
+unfoldable pub execution-long : List Event
+execution-long =
+    Comes 0 ∷ Takes 1 0 true ∷ Begins 0 NoTask NoTask ∷
+    Comes 2 ∷ Finishes 1 ∷ Ends 2 ∷ Begins 2 (Task 1) NoTask ∷ Starts 1 2 ∷
+    Comes 6 ∷ Stops 1 6 ∷ Ends 6 ∷ Begins 6 NoTask (Task 1) ∷
+    Comes 7 ∷ Completes 1 7 ∷ Ends 7 ∷ []
+
+-- plan C with a release of task 2 at 3, which is promoted though it is unmarked, because its interval chose nobody
+unfoldable pub promoted-unmarked : List Event
+promoted-unmarked =
+    Comes 0 ∷ Takes 1 0 true ∷ Begins 0 NoTask NoTask ∷
+    Comes 2 ∷ Finishes 1 ∷ Ends 2 ∷ Begins 2 (Task 1) NoTask ∷ Starts 1 2 ∷
+    Comes 3 ∷ Takes 2 3 false ∷
+    Comes 5 ∷ Stops 1 5 ∷ Ends 5 ∷ Begins 5 (Task 2) (Task 1) ∷ []
+
+-- a job starts to execute in an interval that executes none
+unfoldable pub starts-unasked : List Event
+starts-unasked =
+    Comes 0 ∷ Takes 1 0 true ∷ Begins 0 NoTask NoTask ∷ Starts 1 0 ∷ []
+
+-- a job starts to execute twice in its interval
+unfoldable pub starts-twice : List Event
+starts-twice =
+    Comes 0 ∷ Takes 1 0 true ∷ Begins 0 NoTask NoTask ∷
+    Comes 2 ∷ Finishes 1 ∷ Ends 2 ∷ Begins 2 (Task 1) NoTask ∷ Starts 1 2 ∷
+    Comes 4 ∷ Starts 1 4 ∷ []
+
+-- an execution ends that never started: plan D where the promoted job is cut off in its copy-in
+unfoldable pub stops-unstarted : List Event
+stops-unstarted =
+    Comes 0 ∷ Takes 2 0 false ∷ Begins 0 NoTask NoTask ∷
+    Comes 1 ∷ Takes 1 1 true ∷ Ends 1 ∷ Begins 1 (Task 1) NoTask ∷
+    Comes 2 ∷ Stops 1 2 ∷ []
+
+-- an interval ends while its job executes
+unfoldable pub cut-short : List Event
+cut-short =
+    Comes 0 ∷ Takes 1 0 true ∷ Begins 0 NoTask NoTask ∷
+    Comes 2 ∷ Finishes 1 ∷ Ends 2 ∷ Begins 2 (Task 1) NoTask ∷ Starts 1 2 ∷
+    Comes 4 ∷ Ends 4 ∷ Begins 4 NoTask (Task 1) ∷ []
 
 abbrev pub Refuses : List Event → Type 0
 Refuses h = Holds plans-table h → ⊥
@@ -231,4 +319,46 @@ WrongRefused =
     × Refuses completion-late
     × Refuses completion-missing
     × Refuses completion-unexecuted
+    × Refuses begins-late
+    × Refuses no-ticks
+    × Refuses not-executed
+    × Refuses loaded-late
+    × Refuses promoted-early
+    × Refuses execution-long
+    × Refuses promoted-unmarked
+    × Refuses starts-unasked
+    × Refuses starts-twice
+    × Refuses stops-unstarted
+    × Refuses cut-short
     × (AllCompleted third-idle → ⊥)
+
+-- ---- Entries
+
+-- plan B before the instant at 15, at which job 1 completes
+unfoldable pub before-15 : List Event
+before-15 = take 31 history-b
+
+abbrev pub job-1 : ℕ → ℕ → ℕ → ℕ → JobEntry
+job-1 release start completion blocked = record { task = 1; release = release; start = start; completion = completion; blocked = blocked }
+
+abbrev pub Tells : JobEntry → Type 0
+Tells e = TellsJob (plans-table .priority) before-15 15 e
+
+-- "Job 1 starts at 11, completes at 15, blocked 2", released at 4: this tells the truth, and with one number another it does not
+unfoldable pub OneEntry : Type 0
+OneEntry =
+    Tells (job-1 4 11 15 2)
+    × (Tells (job-1 3 11 15 2) → ⊥)
+    × (Tells (job-1 4 10 15 2) → ⊥)
+    × (Tells (job-1 4 11 14 2) → ⊥)
+    × (Tells (job-1 4 11 15 1) → ⊥)
+    × (Tells (job-1 4 11 15 3) → ⊥)
+
+-- what plan C's history has for the entries: its intervals 0–2, 2–5 and 5–6, and its completion
+unfoldable pub PlanC : Type 0
+PlanC =
+    (ended none-yet history-c
+    ≡ record { begin = Tick 0; end = 2; task = NoTask; out = NoTask }
+    ∷ record { begin = Tick 2; end = 5; task = Task 1; out = NoTask }
+    ∷ record { begin = Tick 5; end = 6; task = NoTask; out = Task 1 } ∷ [])
+    × (completions history-c ≡ record { task = Task 1; tick = 6 } ∷ [])

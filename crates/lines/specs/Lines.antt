@@ -4,8 +4,9 @@ use mathlib.Core.Bool.{cond}
 use mathlib.Core.List.{List, [], _∷_, _++_}
 use Prim.Native.Nat.{ℕ, zero, suc, _+_, _/_, _%_}
 use lib.Dec.{ltb}
-use Rattle.rules.specs.Answers.{mark-number, refusal-number, refusal-place}
+use Rattle.rules.specs.Answers.{mark-number}
 use Rattle.lines.specs.Types.{MaybeTask, NoTask, Task, JobEntry, IntervalEntry, Refusal, NoRefusal, Alone, AtEntry, Done, NoJob, Job, Closing, Unclosed, BeforeReleases, AfterReleases, Due, Never, Tick, Occurred, Answer, Refused, Served, MarkAnswer, MarkRefused, MarkServed}
+use Rattle.table.specs.Refusals.{refusal-number, refusal-place}
 
 -- ---- Fields
 

@@ -1,10 +1,5 @@
 -- The declared types and their variants, under their own names.
-pub use Rattle.entries.specs.declared.MaybeTask.{MaybeTask}
-pub use Rattle.entries.specs.declared.MaybeTask.the-variants.{NoTask, Task}
-pub use Rattle.entries.specs.declared.JobEntry.{JobEntry}
-pub use Rattle.entries.specs.declared.IntervalEntry.{IntervalEntry}
-pub use Rattle.table.specs.declared.Refusal.{Refusal}
-pub use Rattle.table.specs.declared.Refusal.the-variants.{NoRefusal, Alone, AtEntry}
+pub use Rattle.rules.specs.Types.{MaybeTask, NoTask, Task, JobEntry, IntervalEntry, Refusal, NoRefusal, Alone, AtEntry}
 pub use Rattle.rules.specs.declared.Done.{Done}
 pub use Rattle.rules.specs.declared.Done.the-variants.{NoJob, Job}
 pub use Rattle.rules.specs.declared.Closing.{Closing}

@@ -13,7 +13,6 @@ ghost use mathlib.Core.Path.{_≡_};
 ghost use mathlib.Core.List.{[], _∷_};
 ghost use Prim.Native.Nat.{_+_, _≤_, _<_};
 ghost use lib.ListN.{length};
-ghost use Rattle.rules.specs.Answers.{refusal-number, refusal-place};
 ghost use Rattle.lines.specs.Lines.{decimal, field, task-field, due-field, no-field, newline, job-line, interval-line, skipped-line, done-lines, closing-lines, answer-line, served-lines, refused-input-line, refused-call-line, cut-short-line, instant-lines, mark-lines, opening-lines};
 ghost use Rattle.lines.specs.Text.{text-of, shown, room, written, Appended, Prints};
 
@@ -22,26 +21,6 @@ ghost use Rattle.lines.specs.Text.{text-of, shown, room, written, Append
 pub struct Text {
     pub bytes: [u8; 192],
     pub len: usize,
-}
-
-pub fn number_of(refusal: Refusal) -> u8
-    ensures { λ r. ⌜ r ≡ refusal-number refusal ⌝ }
-{
-    match refusal {
-        Refusal::NoRefusal => 0,
-        Refusal::Alone(n) => n,
-        Refusal::AtEntry(n, _) => n,
-    }
-}
-
-pub fn place_of(refusal: Refusal) -> usize
-    ensures { λ r. ⌜ r ≡ refusal-place refusal ⌝ }
-{
-    match refusal {
-        Refusal::NoRefusal => 0,
-        Refusal::Alone(_) => 0,
-        Refusal::AtEntry(_, at) => at,
-    }
 }
 
 impl Text {
@@ -223,8 +202,8 @@ pub fn skipped_line(task: u8, time: u64) -> Text
 pub fn refused_input_line(refusal: Refusal) -> Text
     ensures { λ r. ⌜ Prints r (refused-input-line refusal) ⌝ }
 {
-    let number = number_of(refusal);
-    let place = place_of(refusal);
+    let number = table::number_of(refusal);
+    let place = table::place_of(refusal);
     empty()
         .byte(b'R')
         .byte_field(number)

@@ -1,7 +1,8 @@
 -- The refusals of document 01's table, and inputs and calls that meet two of them at once: the first in the document's order counts.
 use mathlib.Core.List.{List, [], _∷_, _++_}
 use Prim.Native.Nat.{ℕ}
-use Rattle.plans.specs.Rows.{Row, AtInstant, ToMark, refused, answered}
+use Rattle.rules.specs.declared.Call.the-variants.{Instant, Mark}
+use Rattle.plans.specs.Rows.{Row, refused, answered}
 use Rattle.plans.specs.Plans.{task, release, tasks}
 
 -- an opening that is refused: its number and its place
@@ -40,8 +41,8 @@ refusals =
     unopened (tasks ++ (1 ∷ 4 ∷ [])) 1 48 ∷
     unopened (task 1 9 2 1 0 1) 6 0 ∷
     -- calls: 16, 10, 14, 15 each alone, then with the next
-    answered tasks (AtInstant 0 2 ∷ AtInstant 1 512 ∷ AtInstant 0 0 ∷ AtInstant 3 0 ∷ AtInstant 1000000001 2 ∷ []) (0 ∷ 0 ∷ 0 ∷ 0 ∷ 2 ∷ 16 ∷ 14 ∷ 15 ∷ 10 ∷ []) [] ∷
-    answered tasks (AtInstant 1000000001 512 ∷ AtInstant 1000000002 0 ∷ AtInstant 1000000001 2 ∷ []) (0 ∷ 0 ∷ 16 ∷ 0 ∷ 0 ∷ 10 ∷ []) [] ∷
+    answered tasks (Instant 0 2 ∷ Instant 1 512 ∷ Instant 0 0 ∷ Instant 3 0 ∷ Instant 1000000001 2 ∷ []) (0 ∷ 0 ∷ 0 ∷ 0 ∷ 2 ∷ 16 ∷ 14 ∷ 15 ∷ 10 ∷ []) [] ∷
+    answered tasks (Instant 1000000001 512 ∷ Instant 1000000002 0 ∷ Instant 1000000001 2 ∷ []) (0 ∷ 0 ∷ 16 ∷ 0 ∷ 0 ∷ 10 ∷ []) [] ∷
     -- mark calls: 16 before 6 before 17
-    answered tasks (AtInstant 0 2 ∷ ToMark 9 2 ∷ ToMark 255 0 ∷ ToMark 1 2 ∷ ToMark 1 1 ∷ ToMark 2 1 ∷ []) (0 ∷ 0 ∷ 0 ∷ 0 ∷ 2 ∷ 16 ∷ 16 ∷ 6 ∷ 17 ∷ 0 ∷ []) [] ∷
+    answered tasks (Instant 0 2 ∷ Mark 9 2 ∷ Mark 255 0 ∷ Mark 1 2 ∷ Mark 1 1 ∷ Mark 2 1 ∷ []) (0 ∷ 0 ∷ 0 ∷ 0 ∷ 2 ∷ 16 ∷ 16 ∷ 6 ∷ 17 ∷ 0 ∷ []) [] ∷
     []

@@ -2,18 +2,20 @@
 use mathlib.Core.List.{List, [], _∷_, _++_}
 use Prim.Native.Nat.{ℕ}
 use lib.ListN.{replicate}
-use Rattle.rules.specs.declared.State.{State}
+use Rattle.rules.specs.Types.{State}
+use Rattle.rules.specs.declared.Answer.{Answer}
+use Rattle.rules.specs.declared.Answer.the-variants.{Refused, Served}
+use Rattle.rules.specs.declared.Call.{Call}
+use Rattle.rules.specs.declared.Call.the-variants.{Instant, Mark}
 use Rattle.rules.specs.Calls.{Step, MarkStep, Opening, opening, instant, mark}
-use Rattle.rules.specs.Answers.{answer-values, mark-number, refusal-number, refusal-place}
-use Rattle.record.specs.Run.{Moment, moment, record-bytes, Written, file, outcome-number, outcome-value}
+use Rattle.rules.specs.Answers.{answer-number, due-values, mark-number}
+use Rattle.run.specs.Run.{Moment, moment, record-bytes}
+use Rattle.record.specs.Writing.{Written, file, outcome-number, outcome-value}
+use Rattle.table.specs.Refusals.{refusal-number, refusal-place}
 
 -- ---- What is handed in
 
 -- an input, with the length of the lent slice, each of whose bytes is 170; or opening bytes and calls
-pub data Call : Type 0 where
-  AtInstant : ℕ → ℕ → Call
-  ToMark : ℕ → ℕ → Call
-
 pub data Given : Type 0 where
   OfFile : List ℕ → ℕ → Given
   OfCalls : List ℕ → List Call → Given
@@ -32,16 +34,21 @@ pub record Row : Type 0 where
 
 -- ---- The definitions' answer
 
+-- of an instant its number, and where it is served the set skipped and the next due time; its job and its interval stand in the record's bytes
+abbrev pub in-short : Answer → List ℕ
+in-short (Refused n) = answer-number (Refused n) ∷ []
+in-short (Served o) = answer-number (Served o) ∷ o .skipped ∷ due-values (o .due)
+
 unfoldable pub called : State → List Call → List ℕ
 called d [] = []
-called d (AtInstant t set ∷ cs) = let s : Step = instant d t set in answer-values (s .answer) ++ called (s .state) cs
-called d (ToMark n m ∷ cs) = let s : MarkStep = mark d n m in mark-number (s .answer) ∷ called (s .state) cs
+called d (Instant t set ∷ cs) = let s : Step = instant d t set in in-short (s .answer) ++ called (s .state) cs
+called d (Mark n m ∷ cs) = let s : MarkStep = mark d n m in mark-number (s .answer) ∷ called (s .state) cs
 
 -- the record of the jobs done and the intervals closed by the calls
 unfoldable pub called-moments : State → List Call → List Moment
 called-moments d [] = []
-called-moments d (AtInstant t set ∷ cs) = let s : Step = instant d t set in moment t (s .answer) ++ called-moments (s .state) cs
-called-moments d (ToMark n m ∷ cs) = called-moments (mark d n m .state) cs
+called-moments d (Instant t set ∷ cs) = let s : Step = instant d t set in moment t (s .answer) ++ called-moments (s .state) cs
+called-moments d (Mark n m ∷ cs) = called-moments (mark d n m .state) cs
 
 unfoldable pub found : Given → Result
 found (OfFile s size) =

@@ -10,10 +10,10 @@ use lib.Dec.{eqb, ltb, leb}
 use lib.ListN.{length}
 use Rattle.sets.specs.Sets.{member}
 use Rattle.entries.specs.Entries.{entry-at}
-use Rattle.table.specs.Tasks.{tasks-of}
+use Rattle.table.specs.TaskPart.{task-part}
 use Rattle.guarantees.proofs.Proper.{none-passed}
 use Rattle.record.specs.Types.{Release, Entry, Malformed, TaskEntry, ReleaseEntry, Last, NoneBefore, Before, Refusal, NoRefusal, Alone, AtEntry}
-use Rattle.record.specs.Files.{Checked, Rejected, Releases, rises, release-refusal, with-release, releases-from, releases-behind, releases-of}
+use Rattle.run.specs.Files.{Checked, Rejected, Releases, rises, release-refusal, with-release, releases-from, releases-behind, releases-of}
 
 -- ---- releases in order
 
@@ -94,24 +94,24 @@ reads (suc k) s at present last count = go (leb (length s) at) (entry-at s at) (
 
 pub record Accepted (s : List ℕ) (rs : List Release) : Type 0 where
   pub some-byte : length s ≡ 0 → ⊥
-  pub tasks : tasks-of s .refusal ≡ NoRefusal
-  pub read : releases-from (length s) s (tasks-of s .end) (tasks-of s .table .present) NoneBefore 0 ≡ Releases rs
-  pub sorted : Sorted (tasks-of s .table .present) rs
+  pub tasks : task-part s .refusal ≡ NoRefusal
+  pub read : releases-from (length s) s (task-part s .end) (task-part s .table .present) NoneBefore 0 ≡ Releases rs
+  pub sorted : Sorted (task-part s .table .present) rs
   pub few : length rs ≤ 4096
 
 pub accepted : (s : List ℕ) (rs : List Release) → releases-of s ≡ Releases rs → Accepted s rs
 unfolding releases-of
-accepted s rs h = go (eqb (length s) 0) (tasks-of s .refusal) refl refl h
+accepted s rs h = go (eqb (length s) 0) (task-part s .refusal) refl refl h
   where
-    go : (b : Bool) (r : Refusal) → eqb (length s) 0 ≡ b → tasks-of s .refusal ≡ r
-        → cond b (Rejected (Alone 12)) (releases-behind s (tasks-of s) r) ≡ Releases rs → Accepted s rs
+    go : (b : Bool) (r : Refusal) → eqb (length s) 0 ≡ b → task-part s .refusal ≡ r
+        → cond b (Rejected (Alone 12)) (releases-behind s (task-part s) r) ≡ Releases rs → Accepted s rs
     go true r a e h = absurd (rejected (Alone 12) rs h)
     go false NoRefusal a e h = record {
       some-byte = eqb-false (length s) 0 a;
       tasks = e;
       read = h;
-      sorted = reads (length s) s (tasks-of s .end) (tasks-of s .table .present) NoneBefore 0 rs h .1;
-      few = omega (arith, reads (length s) s (tasks-of s .end) (tasks-of s .table .present) NoneBefore 0 rs h .2 (omega arith));
+      sorted = reads (length s) s (task-part s .end) (task-part s .table .present) NoneBefore 0 rs h .1;
+      few = omega (arith, reads (length s) s (task-part s .end) (task-part s .table .present) NoneBefore 0 rs h .2 (omega arith));
     }
     go false (Alone n) a e h = absurd (rejected (Alone n) rs h)
     go false (AtEntry n at) a e h = absurd (rejected (AtEntry n at) rs h)

@@ -5,13 +5,13 @@ use mathlib.Core.List.{List}
 use Prim.Native.Nat.{ℕ, _*_, _≤_}
 use native.Mathlib.Omega.{arith}
 use lib.ListN.{length}
-use Rattle.table.specs.Tasks.{tasks-of}
+use Rattle.table.specs.TaskPart.{task-part}
 use Rattle.rules.specs.Calls.{opened}
 use Rattle.guarantees.specs.Types.{Table, State}
 use Rattle.guarantees.proofs.Count.{at-most-three}
 use Rattle.record.specs.Types.{Release}
-use Rattle.record.specs.Files.{Releases, releases-of}
-use Rattle.record.specs.Run.{budget, record-bytes, moments-of}
+use Rattle.run.specs.Files.{Releases, releases-of}
+use Rattle.run.specs.Run.{budget, record-bytes, moments-of}
 use Rattle.record.proofs.Accepted.{Accepted, accepted}
 use Rattle.record.proofs.Lengths.{length-record}
 use Rattle.record.proofs.Ends.{is-open}
@@ -25,7 +25,7 @@ none-open table marks = refl
 pub record-bound : (s : List ℕ) (rs : List Release) → releases-of s ≡ Releases rs → length (record-bytes (moments-of s rs)) ≤ 99 * length rs
 record-bound s rs h =
     let a : Accepted s rs = accepted s rs h in
-    let d : State = opened (tasks-of s .table) (tasks-of s .marked) in
+    let d : State = opened (task-part s .table) (task-part s .marked) in
     let f : Fed (budget (length rs)) d rs (moments-of s rs) = fed s rs a in
     omega (
       arith,
@@ -34,10 +34,6 @@ record-bound s rs h =
       f .jobs,
       f .intervals,
       completed s rs a .as-many,
-      none-open (tasks-of s .table) (tasks-of s .marked),
-      at-most-three (tasks-of s .table) (tasks-of s .marked) (f .calls),
+      none-open (task-part s .table) (task-part s .marked),
+      at-most-three (task-part s .table) (task-part s .marked) (f .calls),
     )
-
--- so a slice of 405,504 bytes is long enough for every record
-pub record-fits : (s : List ℕ) (rs : List Release) → releases-of s ≡ Releases rs → length (record-bytes (moments-of s rs)) ≤ 405504
-record-fits s rs h = omega (arith, record-bound s rs h, accepted s rs h .few)

@@ -6,12 +6,13 @@ use Prim.Native.Nat.{ℕ, _+_, _≤_}
 use native.Mathlib.Omega.{arith}
 use Rattle.rules.specs.With.{at-clock}
 use Rattle.rules.specs.Order.{highest-of}
-use Rattle.rules.specs.Instant.{step-a, step-b, step-c, step-d, step-e, close, close-stage, over, closing, with-candidates, cancel, choose, at-a, at-b, at-e, at-f, at-g, new-at, occurred}
+use Rattle.rules.specs.Instant.{fresh-stage, step-a, step-b, step-c, step-d, step-e, close, close-stage, over, closing, with-candidates, cancel, choose, at-a, at-b, at-e, at-f, at-g, new-at, occurred}
 use Rattle.guarantees.specs.Types.{MaybeTask, NoTask, Task, Interval, Phase, Between, Within, State, Done, NoJob, Job, Closed, NoInterval, Span, Stage}
-use Rattle.guarantees.specs.History.{completes, begins}
-use Rattle.guarantees.specs.Reading.{total, is-begin, is-completion}
+use Rattle.guarantees.specs.History.{completion-events, begin-events}
+use Rattle.guarantees.specs.Queries.{total, is-begin, is-completion}
 use Rattle.guarantees.proofs.Cases.{d-cases, e-cases}
-use Rattle.record.specs.FileClaim.{is-job, is-interval}
+use Rattle.record.specs.FileClaim.{is-job}
+use Rattle.record.proofs.Lengths.{is-interval}
 
 -- ---- the intervals
 
@@ -30,6 +31,11 @@ same-span (Span e) = refl
 one-span : (c : Closed) → is-interval (closing NoInterval c) ≡ is-span c
 one-span NoInterval = refl
 one-span (Span e) = refl
+
+either-span : (b f : Closed) → is-interval (closing b f) ≤ is-span b + is-span f
+either-span NoInterval NoInterval = omega arith
+either-span NoInterval (Span e) = omega arith
+either-span (Span e) f = omega arith
 
 -- a
 a-open : (d : State) (t : ℕ) (p : Phase) → d .phase ≡ p → is-open (step-a d t p .state .phase) ≡ is-open p
@@ -75,8 +81,8 @@ e-open d t =
     e-cases (λ x. is-open (x .phase) ≡ is-open (d .phase)) d t refl (λ i e s u. choose-open d t i (highest-of d (d .jobs .ready)) ∙ ap is-open (sym e))
 
 -- g
-g-open : (t : ℕ) (p q : Phase) → is-open q ≤ is-open p + total is-begin (begins t p q)
-unfolding begins total
+g-open : (t : ℕ) (p q : Phase) → is-open q ≤ is-open p + total is-begin (begin-events t p q)
+unfolding begin-events total
 g-open t (Within i) (Between next outgoing) = omega arith
 g-open t (Within i) (Within j) = omega arith
 g-open t (Between next outgoing) (Between x y) = omega arith
@@ -103,7 +109,7 @@ module _ (d : State) (t set : ℕ) where
       e-open x t ∙ d-open c new ∙ (unfold step-c in c-open b new (b .phase))
 
   pub ends-paid : is-interval (occurred d t set .closed) + is-open (at-g d t set .phase)
-      ≤ is-open (d .phase) + total is-begin (begins t (at-f d t set .state .phase) (at-g d t set .phase))
+      ≤ is-open (d .phase) + total is-begin (begin-events t (at-f d t set .state .phase) (at-g d t set .phase))
   unfolding occurred at-f
   ends-paid =
       let e : State = at-e d t set in
@@ -111,7 +117,9 @@ module _ (d : State) (t set : ℕ) where
         arith,
         to-b,
         to-e,
-        b-ends (record { state = e; done = at-b d t .done; closed = at-b d t .closed }) t (e .phase) refl,
+        b-ends (fresh-stage e) t (e .phase) refl,
+        one-span (at-f d t set .closed),
+        either-span (at-b d t .closed) (at-f d t set .closed),
         g-open t (at-f d t set .state .phase) (at-g d t set .phase),
       )
 
@@ -126,11 +134,11 @@ b-done s t (Within i) = go (over i)
     go true = unfold close-stage in refl
     go false = unfold close-stage in refl
 
-is-job-total : (o : Done) → is-job o ≡ total is-completion (completes o)
-unfolding completes total
+is-job-total : (o : Done) → is-job o ≡ total is-completion (completion-events o)
+unfolding completion-events total
 is-job-total NoJob = refl
 is-job-total (Job e) = refl
 
-pub job-completes : (d : State) (t set : ℕ) → is-job (occurred d t set .done) ≡ total is-completion (completes (at-a d t .done))
+pub job-completes : (d : State) (t set : ℕ) → is-job (occurred d t set .done) ≡ total is-completion (completion-events (at-a d t .done))
 unfolding occurred at-b
 job-completes d t set = ap is-job (b-done (at-a d t) t (at-a d t .state .phase)) ∙ is-job-total (at-a d t .done)

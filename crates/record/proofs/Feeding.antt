@@ -9,12 +9,12 @@ use borrow.Author.Tests.{eq-eqb, ltb-false, le-ltb, lt-leb}
 use lib.Dec.{eqb, ltb}
 use lib.ListN.{length}
 use Rattle.sets.specs.Sets.{member, difference}
-use Rattle.sets.specs.Laws.{by-test, clash, none, empty, difference-left, difference-right, difference-small, size-none}
+use Rattle.sets.proofs.Laws.{by-test, clash, none, empty, difference-left, difference-right, difference-small, size-none}
 use Rattle.rules.specs.Instant.{due, sooner, at-g, occurred}
-use Rattle.rules.specs.Calls.{refusal, unknown, not-after, before-now, instant, served}
-use Rattle.guarantees.specs.Types.{Table, Clock, Unset, At, State, Due, Never, Tick, Served, Step}
-use Rattle.guarantees.specs.History.{Event, Call, Instant, after-call, by-call, after-calls, history}
-use Rattle.guarantees.specs.Reading.{total, is-take, is-begin, is-completion}
+use Rattle.rules.specs.Calls.{refusal, unknown, not-after, before-now, instant, served, after-call}
+use Rattle.guarantees.specs.Types.{Table, Clock, Unset, At, State, Due, Never, Tick, Served, Step, Call, Instant}
+use Rattle.guarantees.specs.History.{Event, by-call, after-calls, history}
+use Rattle.guarantees.specs.Queries.{total, is-take, is-begin, is-completion}
 use Rattle.guarantees.proofs.Proper.{Fair}
 use Rattle.guarantees.proofs.Walk
 use Rattle.guarantees.proofs.Frames.{clock-g}
@@ -23,9 +23,10 @@ use Rattle.guarantees.proofs.Invariant.{Good, mass, debt, sinks, debt-less, goo
 use Rattle.guarantees.proofs.Completion.{due-times, not-late}
 use Rattle.guarantees.proofs.Totals.{begins-of, takes-of, completes-of}
 use Rattle.record.specs.Types.{Release}
-use Rattle.record.specs.Run.{Moment, moment, first-time, released-at, released-after, run}
-use Rattle.record.specs.FileClaim.{Feeds, answers, AllServed, jobs-done, intervals-ended, releases-skipped}
-use Rattle.record.specs.Advance.{AllEarly}
+use Rattle.run.specs.Run.{Moment, moment, first-time, released-at, released-after, run}
+use Rattle.record.specs.FileClaim.{Feeds, answers, AllServed, jobs-done, releases-skipped}
+use Rattle.record.proofs.Lengths.{intervals-ended}
+use Rattle.record.specs.Cursor.{AllEarly}
 use Rattle.record.proofs.Accepted.{Sorted}
 use Rattle.record.proofs.Released.{taken-or-skipped, NotBefore, After, fewer, Split, split, early}
 use Rattle.record.proofs.Ends.{is-open, ends-paid, job-completes}

@@ -1,21 +1,23 @@
 -- Demand 3 for files: the claim holds of every input that is accepted.
 use mathlib.Core.Path.{_≡_, refl, sym, ap, _∙_, subst}
-use mathlib.Core.List.{List, [], _∷_, append-nil}
+use mathlib.Core.List.{List, [], _∷_, _++_, append-nil}
 use Prim.Native.Nat.{ℕ}
 use native.Mathlib.Omega.{arith}
 use lib.ListN.{length}
-use Rattle.sets.specs.Laws.{size-none}
-use Rattle.table.specs.Tasks.{tasks-of}
+use Rattle.sets.proofs.Laws.{size-none}
+use Rattle.table.specs.TaskPart.{task-part}
 use Rattle.rules.specs.Instant.{due, sooner}
-use Rattle.rules.specs.Calls.{opened}
-use Rattle.guarantees.specs.Types.{State, Due, Never, Tick}
-use Rattle.guarantees.specs.History.{Call, Instant, after-call, after-calls, history, EmptySets}
+use Rattle.rules.specs.Calls.{opened, instant, after-call}
+use Rattle.guarantees.specs.Types.{State, Due, Never, Tick, Call, Instant, Mark, Answer, Refused, Served, Occurred}
+use Rattle.guarantees.specs.History.{after-calls, history, EmptySets}
 use Rattle.guarantees.specs.Claim.{AllCompleted}
+use Rattle.guarantees.specs.Entries.{told, answer-of, done, closed}
+use Rattle.guarantees.specs.Entries.{answers as occurred-by}
 use Rattle.guarantees.proofs.Invariant.{mass, good-opened}
 use Rattle.record.specs.Types.{Release}
-use Rattle.record.specs.Files.{Releases, releases-of}
-use Rattle.record.specs.Run.{first-time, released-at, released-after, budget, moments-of}
-use Rattle.record.specs.FileClaim.{Feeds, FedClaim, Demand3Files}
+use Rattle.run.specs.Files.{Releases, releases-of}
+use Rattle.run.specs.Run.{Moment, moment, first-time, released-at, released-after, budget, moments-of}
+use Rattle.record.specs.FileClaim.{Feeds, answers, occurrences, FedClaim, Demand3Files}
 use Rattle.record.proofs.Accepted.{Accepted, accepted}
 use Rattle.record.proofs.TasksAlone.{opens, fair, claim}
 use Rattle.record.proofs.Feeding.{Fit, Fed, feeding}
@@ -45,35 +47,56 @@ one-feed (c ∷ cs) (e ∷ es) d rs h g =
     same : (t u : ℕ) → Tick t ≡ Tick u → t ≡ u
     same t u e = cc
 
+-- ---- what the moments have is what the calls answer
+
+occurrence : (t : ℕ) (a : Answer) (ms : List Moment) → occurrences (moment t a ++ ms) ≡ told a ++ occurrences ms
+unfolding occurrences
+occurrence t (Refused n) ms = refl
+occurrence t (Served o) ms = refl
+
+pub as-answered : (cs : List Call) (d : State) → occurrences (answers d cs) ≡ occurred-by d cs
+unfolding answers occurrences occurred-by answer-of
+as-answered [] d = refl
+as-answered (Instant t set ∷ cs) d =
+    occurrence t (instant d t set .answer) (answers (after-call d (Instant t set)) cs)
+    ∙ ap (λ (os : List Occurred). told (instant d t set .answer) ++ os) (as-answered cs (after-call d (Instant t set)))
+as-answered (Mark n m ∷ cs) d = as-answered cs (after-call d (Mark n m))
+
 -- ---- the file's run
 
 module _ (s : List ℕ) (rs : List Release) (a : Accepted s rs) where
   abbrev d : State
-  d = opened (tasks-of s .table) (tasks-of s .marked)
+  d = opened (task-part s .table) (task-part s .marked)
 
-  fit : Fit (tasks-of s .table) (tasks-of s .marked) (fair s rs a) (opened (tasks-of s .table) (tasks-of s .marked)) rs
-  fit = record { good = good-opened (tasks-of s .table) (tasks-of s .marked) (fair s rs a); sorted = a .sorted; ahead = unfold opened in tt }
+  fit : Fit (task-part s .table) (task-part s .marked) (fair s rs a) (opened (task-part s .table) (task-part s .marked)) rs
+  fit = record { good = good-opened (task-part s .table) (task-part s .marked) (fair s rs a); sorted = a .sorted; ahead = unfold opened in tt }
 
-  none-yet : mass (opened (tasks-of s .table) (tasks-of s .marked)) ≡ 0
+  none-yet : mass (opened (task-part s .table) (task-part s .marked)) ≡ 0
   unfolding mass opened
   none-yet = omega (arith, size-none)
 
   -- a run has at most 25 instants for each release
-  pub fed : Fed (budget (length rs)) (opened (tasks-of s .table) (tasks-of s .marked)) rs (moments-of s rs)
+  pub fed : Fed (budget (length rs)) (opened (task-part s .table) (task-part s .marked)) rs (moments-of s rs)
   unfolding moments-of
-  fed = feeding (tasks-of s .table) (tasks-of s .marked) (fair s rs a) (budget (length rs)) d rs fit (omega (arith, none-yet))
+  fed = feeding (task-part s .table) (task-part s .marked) (fair s rs a) (budget (length rs)) d rs fit (omega (arith, none-yet))
 
-  pub completed : AllCompleted (history (opened (tasks-of s .table) (tasks-of s .marked)) (fed .calls))
+  pub completed : AllCompleted (history (opened (task-part s .table) (task-part s .marked)) (fed .calls))
   completed =
       subst (λ (cs : List Call). AllCompleted (history d cs)) (append-nil (fed .calls))
       (claim s rs a (fed .calls) .complete-every-job [] (unfold EmptySets in fed .rests))
 
-  fed-claim : FedClaim (opened (tasks-of s .table) (tasks-of s .marked)) rs (moments-of s rs) (fed .calls)
+  -- what the record is made of, and what the feed answers
+  same : occurred-by (opened (task-part s .table) (task-part s .marked)) (fed .calls) ≡ occurrences (moments-of s rs)
+  same = sym (as-answered (fed .calls) d) ∙ ap occurrences (fed .gives)
+
+  fed-claim : FedClaim (opened (task-part s .table) (task-part s .marked)) rs (moments-of s rs) (fed .calls)
   fed-claim = record {
     all-served = fed .all-served;
     gives-record = fed .gives;
     within-budget = fed .within;
     claim = claim s rs a (fed .calls);
+    each-done = sym (ap done same) ∙ claim s rs a (fed .calls) .entries .each-done;
+    each-interval = sym (ap closed same) ∙ claim s rs a (fed .calls) .entries .each-interval;
     nothing-pending =
         subst (λ (cs : List Call). after-calls d cs .jobs .pending ≡ 0) (append-nil (fed .calls))
         (claim s rs a (fed .calls) .nothing-pending [] (unfold EmptySets in fed .rests));
@@ -83,14 +106,14 @@ module _ (s : List ℕ) (rs : List Release) (a : Accepted s rs) where
   }
 
 pub fed-file : (s : List ℕ) (rs : List Release) → releases-of s ≡ Releases rs
-    → Fed (budget (length rs)) (opened (tasks-of s .table) (tasks-of s .marked)) rs (moments-of s rs)
+    → Fed (budget (length rs)) (opened (task-part s .table) (task-part s .marked)) rs (moments-of s rs)
 fed-file s rs h = fed s rs (accepted s rs h)
 
 pub demand-3-files : Demand3Files
 unfolding Demand3Files
 demand-3-files s rs h =
     let a : Accepted s rs = accepted s rs h in
-    let d : State = opened (tasks-of s .table) (tasks-of s .marked) in
+    let d : State = opened (task-part s .table) (task-part s .marked) in
     let f : Fed (budget (length rs)) d rs (moments-of s rs) = fed s rs a in
     record {
       opens = opens s rs a;

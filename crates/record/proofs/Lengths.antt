@@ -5,13 +5,22 @@ use mathlib.Core.List.{List, [], _∷_}
 use Prim.Native.Nat.{ℕ, zero, suc, _+_, _*_}
 use native.Mathlib.Omega.{arith}
 use lib.ListN.{length, length-append}
-use Rattle.sets.specs.Sets.{member}
-use Rattle.sets.specs.Laws.{bit, count, size}
+use Rattle.sets.specs.Sets.{member, bit, count, size}
 use Rattle.words.specs.Words.{bytesOf}
 use Rattle.entries.specs.Entries.{job-bytes, interval-bytes, choice-bytes, skipped-bytes}
 use Rattle.record.specs.Types.{IntervalEntry, Done, NoJob, Job, Closing, Unclosed, BeforeReleases, AfterReleases}
-use Rattle.record.specs.Run.{Moment, done-bytes, skips-bytes, closed-bytes, moment-bytes, record-bytes}
-use Rattle.record.specs.FileClaim.{is-job, is-interval, jobs-done, intervals-ended, releases-skipped}
+use Rattle.run.specs.Run.{Moment, done-bytes, skips-bytes, closed-bytes, moment-bytes, record-bytes}
+use Rattle.record.specs.FileClaim.{is-job, jobs-done, releases-skipped}
+
+abbrev pub is-interval : Closing → ℕ
+is-interval Unclosed = 0
+is-interval (BeforeReleases e) = 1
+is-interval (AfterReleases e) = 1
+
+-- how many entries of kind 17 a record has
+unfoldable pub intervals-ended : List Moment → ℕ
+intervals-ended [] = 0
+intervals-ended (m ∷ ms) = is-interval (m .occurred .closed) + intervals-ended ms
 
 length-done : (o : Done) → length (done-bytes o) ≡ 27 * is-job o
 unfolding done-bytes job-bytes bytesOf

@@ -1,10 +1,5 @@
-pub mod Reading
-pub mod Cursor
-pub mod Writing
-pub mod Laying
-pub mod Occurring
 pub mod Running
-pub mod Parts
+pub mod Going
 pub mod Accepted
 pub mod Released
 pub mod Lengths

@@ -5,22 +5,23 @@ use mathlib.Core.List.{List, _∷_, _++_}
 use Prim.Native.Nat.{ℕ, zero, suc, _+_, _-_, _/_, _≤_, _<_}
 use native.Mathlib.Nat.{zero-add}
 use native.Mathlib.Omega.{arith}
-use borrow.Author.Tests.{le-leb, lt-leb, leb-true, leb-false, eq-eqb, ne-eqb}
+use borrow.Author.Tests.{le-leb, lt-leb, leb-true, leb-false, eq-eqb, ne-eqb, eqb-true, eqb-false}
 use lib.Dec.{eqb, leb}
 use lib.ListN.{length, drop}
-use Rattle.sets.specs.Laws.{by-test}
+use Rattle.sets.proofs.Laws.{by-test}
 use Rattle.words.specs.Words.{numberAt}
 use Rattle.entries.specs.Entries.{laid, entry-at, release-at}
-use Rattle.table.specs.Tasks.{behind-tasks, task-refusal, with-task, with-marked, tasks-from, tasks-of}
-use Rattle.table.proofs.Laws.{task-whole}
+use Rattle.table.specs.TaskPart.{behind-tasks, task-refusal, with-task, with-marked, tasks-from, task-part}
+use Rattle.table.proofs.Laws.{part-within}
 use Rattle.table.specs.declared.Table.{Table}
-use Rattle.record.specs.Types.{TaskParameters, Release, Entry, Malformed, TaskEntry, ReleaseEntry, Last, NoneBefore, Before, Tasks, Refusal, NoRefusal, Alone, AtEntry, RefusedInput, TooShort, Recorded}
-use Rattle.record.specs.Files.{Checked, Rejected, Releases, refusal-of, with-release, release-refusal, releases-from, releases-behind, releases-of}
-use Rattle.record.specs.Listed.{listed, releases-at}
-use Rattle.record.specs.Run.{Wrote, written, written-of, file, moments-of, record-bytes}
-use Rattle.record.specs.Advance.{start, Served, run-bytes, budget-at, Runs, ReadWhole}
-use Rattle.record.proofs.Reading.{release-whole, few, passed-on, takes}
-use Rattle.record.proofs.Cursor.{here, none}
+use Rattle.record.specs.Types.{TaskParameters, Release, Entry, Malformed, TaskEntry, ReleaseEntry, Last, NoneBefore, Before, TaskPart, Refusal, NoRefusal, Alone, AtEntry, RefusedInput, TooShort, Recorded}
+use Rattle.run.specs.Files.{Checked, Rejected, Releases, refusal-of, with-release, release-refusal, releases-from, releases-behind, releases-of, part-of, file-part}
+use Rattle.run.specs.Listed.{releases-at}
+use Rattle.run.specs.Run.{moments-of, record-bytes}
+use Rattle.record.specs.Writing.{Wrote, written, written-of, file}
+use Rattle.record.specs.Cursor.{start, Served, run-bytes, budget-at, Runs, ReadWhole}
+use Rattle.run.proofs.Checking.{release-whole, few, passed-on, takes}
+use Rattle.run.proofs.Listing.{here, none, how-many}
 use Rattle.record.proofs.Bound.{record-bound}
 use Rattle.record.proofs.FileClaim.{fed-file}
 
@@ -46,15 +47,6 @@ pub at-entry : {r : Refusal} {n at : ℕ} → r ≡ AtEntry n at → r ≡ NoRef
 at-entry e f = let z : _≡_ {A = ℕ} 0 1 = cc in omega arith
 
 -- ---- the releases of a file that is accepted
-
-listed-length : (k : ℕ) (s : List ℕ) (at : ℕ) → length (listed k s at) ≡ k
-unfolding listed
-listed-length zero s at = refl
-listed-length (suc k) s at = ap suc (listed-length k s (at + 10))
-
-pub releases-length : (s : List ℕ) (at : ℕ) → length (releases-at s at) ≡ (length s - at) / 10
-unfolding releases-at
-releases-length s at = listed-length ((length s - at) / 10) s at
 
 -- a release entry that is taken apart is the release that stands there
 entry-release : (s : List ℕ) (at : ℕ) (r : Release) → entry-at s at ≡ ReleaseEntry r → r ≡ release-at s at
@@ -110,45 +102,20 @@ module _ (s : List ℕ) (present : ℕ) where
 
 -- ---- an input whose task entries were read
 
--- the task entries end within the input
-tasks-within : (k : ℕ) (s : List ℕ) (at : ℕ) (t : Table) (m : ℕ) → at ≤ length s → tasks-from k s at t m .end ≤ length s
-unfolding tasks-from
-tasks-within zero s at t m l = l
-tasks-within (suc k) s at t m l = go-behind (behind-tasks s at) refl (λ p h. tasks-within k s (at + 16) (with-task t p) (with-marked m p) h)
-  where
-    End : Tasks → Type 0
-    End x = x .end ≤ length s
-
-    More : Type 0
-    More = (p : TaskParameters) → at + 16 ≤ length s → End (tasks-from k s (at + 16) (with-task t p) (with-marked m p))
-
-    go-refusal : (p : TaskParameters) (n : ℕ) → behind-tasks s at ≡ false → entry-at s at ≡ TaskEntry p → task-refusal t p ≡ n → More → End (tasks-from (suc k) s at t m)
-    go-refusal p zero b e r rec = rw (b, tasks-from, e, r) (rec p (omega (arith, task-whole s at p e)))
-    go-refusal p (suc n) b e r rec = rw (b, tasks-from, e, r) (omega arith)
-
-    go-entry : (x : Entry) → behind-tasks s at ≡ false → entry-at s at ≡ x → More → End (tasks-from (suc k) s at t m)
-    go-entry (Malformed n) b e rec = rw (b, tasks-from, e) (omega arith)
-    go-entry (ReleaseEntry r) b e rec = rw (b, tasks-from, e) l
-    go-entry (TaskEntry p) b e rec = go-refusal p (task-refusal t p) b e refl rec
-
-    go-behind : (b : Bool) → behind-tasks s at ≡ b → More → End (tasks-from (suc k) s at t m)
-    go-behind true e rec = rw (e, tasks-from) l
-    go-behind false e rec = go-entry (entry-at s at) e refl rec
-
 -- no instant of its run is refused, and none is late
-all-served : (s : List ℕ) → releases-of s ≡ Releases (releases-at s (tasks-of s .end)) → Served s (start (tasks-of s))
-unfolding tasks-of
+all-served : (s : List ℕ) → releases-of s ≡ Releases (releases-at s (task-part s .end)) → Served s (start (task-part s))
+unfolding task-part
 all-served s h =
-    let f = fed-file s (releases-at s (tasks-of s .end)) h in
+    let f = fed-file s (releases-at s (task-part s .end)) h in
     record {
-      within = tasks-within (length s) s 0 _ 0 (omega arith);
+      within = part-within s;
       calls = f .calls;
       feeds = f .feeds;
       all-served = f .all-served;
       early = f .early;
     }
 
-module _ (s : List ℕ) (k : Tasks) (read : ReadWhole s k) where
+module _ (s : List ℕ) (k : TaskPart) (read : ReadWhole s k) where
   pub checked-from : releases-of s ≡ releases-from (length s) s (k .end) (k .table .present) NoneBefore 0
   unfolding releases-of
   checked-from =
@@ -164,13 +131,13 @@ module _ (s : List ℕ) (k : Tasks) (read : ReadWhole s k) where
 
     same-run : record-bytes (moments-of s (releases-at s (k .end))) ≡ run-bytes s (start k) (budget-at s (start k))
     unfolding moments-of
-    same-run = rw (sym (read .tasks), releases-length s (k .end))
+    same-run = rw (sym (read .tasks), how-many s (k .end))
 
     pub runs : Runs s (start k)
     runs = record {
       few = omega (arith, all .small);
-      short = omega (arith, ap length same-run, releases-length s (k .end), record-bound s (releases-at s (k .end)) listed-all);
-      served = subst (λ (x : Tasks). Served s (start x)) (sym (read .tasks)) (all-served s (subst (λ (x : Tasks). releases-of s ≡ Releases (releases-at s (x .end))) (read .tasks) listed-all));
+      short = omega (arith, ap length same-run, how-many s (k .end), record-bound s (releases-at s (k .end)) listed-all);
+      served = subst (λ (x : TaskPart). Served s (start x)) (sym (read .tasks)) (all-served s (subst (λ (x : TaskPart). releases-of s ≡ Releases (releases-at s (x .end))) (read .tasks) listed-all));
     }
 
     pub whole-file : (lent : List ℕ) → file s lent ≡ written (run-bytes s (start k) (budget-at s (start k))) lent
@@ -190,13 +157,13 @@ module _ (s : List ℕ) (k : Tasks) (read : ReadWhole s k) where
 
 -- an input that is refused by its task entries, or since it is empty
 module _ (s lent : List ℕ) where
-  pub refused-early : (r : Refusal) → (length s ≡ 0 → ⊥) → tasks-of s .refusal ≡ r → (r ≡ NoRefusal → ⊥) → Wrote (file s lent) (RefusedInput r) lent
+  pub refused-early : (r : Refusal) → (length s ≡ 0 → ⊥) → task-part s .refusal ≡ r → (r ≡ NoRefusal → ⊥) → Wrote (file s lent) (RefusedInput r) lent
   unfolding file releases-of
   refused-early r some e h =
       rw (ne-eqb (length s) 0 some)
-      (subst (λ (x : Refusal). Wrote (written-of s lent (releases-behind s (tasks-of s) x)) (RefusedInput r) lent) (sym e) (go r h))
+      (subst (λ (x : Refusal). Wrote (written-of s lent (releases-behind s (task-part s) x)) (RefusedInput r) lent) (sym e) (go r h))
     where
-      go : (r : Refusal) → (r ≡ NoRefusal → ⊥) → Wrote (written-of s lent (releases-behind s (tasks-of s) r)) (RefusedInput r) lent
+      go : (r : Refusal) → (r ≡ NoRefusal → ⊥) → Wrote (written-of s lent (releases-behind s (task-part s) r)) (RefusedInput r) lent
       go NoRefusal h = absurd (h refl)
       go (Alone n) h = record { outcome-is = refl; holds = refl }
       go (AtEntry n at) h = record { outcome-is = refl; holds = refl }
@@ -204,3 +171,72 @@ module _ (s lent : List ℕ) where
   pub refused-empty : length s ≡ 0 → Wrote (file s lent) (RefusedInput (Alone 12)) lent
   unfolding file releases-of
   refused-empty e = rw (eq-eqb (length s) 0 e) (record { outcome-is = refl; holds = refl })
+
+-- ---- an input by what checking it found
+
+-- none is refused: the task part was read whole, and so were the releases behind it
+pub record AllRead (s : List ℕ) (k : TaskPart) : Type 0 where
+  pub part : ReadWhole s k
+  pub releases : refusal-of (releases-from (length s) s (k .end) (k .table .present) NoneBefore 0) ≡ NoRefusal
+
+module _ (s : List ℕ) (k : TaskPart) (is : k ≡ file-part s) where
+  -- by whether the input is empty, what the task part says, and what the releases say
+  part-cases : (P : TaskPart → Type 0) → (length s ≡ 0 → P (part-of k (Alone 12)))
+      → ((r : Refusal) → (length s ≡ 0 → ⊥) → task-part s .refusal ≡ r → (r ≡ NoRefusal → ⊥) → P (part-of k r))
+      → ((length s ≡ 0 → ⊥) → task-part s .refusal ≡ NoRefusal → P (part-of (task-part s) (refusal-of (releases-from (length s) s (task-part s .end) (task-part s .table .present) NoneBefore 0))))
+      → P (file-part s)
+  unfolding file-part releases-of
+  part-cases P none early late =
+      by-test (eqb (length s) 0)
+      (λ e. rw e (none (eqb-true (length s) 0 e)))
+      (λ e. rw e (go (eqb-false (length s) 0 e) (task-part s .refusal) refl))
+    where
+      go : (length s ≡ 0 → ⊥) → (r : Refusal) → task-part s .refusal ≡ r → P (part-of (task-part s) (refusal-of (releases-behind s (task-part s) r)))
+      go some NoRefusal e = late some e
+      go some (Alone n) e = early (Alone n) some e (λ f. alone {r = Alone n} refl f)
+      go some (AtEntry n at) e = early (AtEntry n at) some e (λ f. at-entry {r = AtEntry n at} refl f)
+
+  pub accepted-whole : k .refusal ≡ NoRefusal → AllRead s k
+  accepted-whole h =
+      part-cases (λ (x : TaskPart). k ≡ x → AllRead s k)
+      (λ e f. absurd (alone {r = Alone 12} refl (sym (ap (λ (x : TaskPart). x .refusal) f) ∙ h)))
+      (λ r some e n f. absurd (n (early r n (sym (ap (λ (x : TaskPart). x .refusal) f) ∙ h))))
+      (λ some e f. late some e (refusal-of (releases-from (length s) s (task-part s .end) (task-part s .table .present) NoneBefore 0)) refl f)
+      is
+    where
+      early : (r : Refusal) → (r ≡ NoRefusal → ⊥) → part-of k r .refusal ≡ NoRefusal → r ≡ NoRefusal
+      early NoRefusal n f = refl
+      early (Alone m) n f = f
+      early (AtEntry m at) n f = f
+
+      late : (length s ≡ 0 → ⊥) → task-part s .refusal ≡ NoRefusal
+          → (r : Refusal) → refusal-of (releases-from (length s) s (task-part s .end) (task-part s .table .present) NoneBefore 0) ≡ r → k ≡ part-of (task-part s) r → AllRead s k
+      late some e NoRefusal g f = record {
+        part = record { some = some; tasks = f; none-refused = h };
+        releases = subst (λ (x : TaskPart). refusal-of (releases-from (length s) s (x .end) (x .table .present) NoneBefore 0) ≡ NoRefusal) (sym f) g;
+      }
+      late some e (Alone m) g f = absurd (alone {r = Alone m} refl (sym (ap (λ (x : TaskPart). x .refusal) f) ∙ h))
+      late some e (AtEntry m at) g f = absurd (at-entry {r = AtEntry m at} refl (sym (ap (λ (x : TaskPart). x .refusal) f) ∙ h))
+
+  pub refused-whole : (lent : List ℕ) (r : Refusal) → k .refusal ≡ r → (r ≡ NoRefusal → ⊥) → Wrote (file s lent) (RefusedInput r) lent
+  refused-whole lent r h n =
+      part-cases (λ (x : TaskPart). k ≡ x → Wrote (file s lent) (RefusedInput r) lent)
+      (λ e f. subst (λ (x : Refusal). Wrote (file s lent) (RefusedInput x) lent) (sym (ap (λ (x : TaskPart). x .refusal) f) ∙ h) (refused-empty s lent e))
+      (λ q some e m f. subst (λ (x : Refusal). Wrote (file s lent) (RefusedInput x) lent) (sym (shown q m) ∙ sym (ap (λ (x : TaskPart). x .refusal) f) ∙ h) (refused-early s lent q some e m))
+      (λ some e f. late some e (refusal-of (releases-from (length s) s (task-part s .end) (task-part s .table .present) NoneBefore 0)) refl f)
+      is
+    where
+      shown : (q : Refusal) → (q ≡ NoRefusal → ⊥) → part-of k q .refusal ≡ q
+      shown NoRefusal m = absurd (m refl)
+      shown (Alone x) m = refl
+      shown (AtEntry x at) m = refl
+
+      behind : (length s ≡ 0 → ⊥) → task-part s .refusal ≡ NoRefusal → (q : Refusal) → (q ≡ NoRefusal → ⊥)
+          → refusal-of (releases-from (length s) s (task-part s .end) (task-part s .table .present) NoneBefore 0) ≡ q → q ≡ r → Wrote (file s lent) (RefusedInput r) lent
+      behind some e q m g f = subst (λ (x : Refusal). Wrote (file s lent) (RefusedInput x) lent) f (refused-late s (task-part s) (record { some = some; tasks = refl; none-refused = e }) lent q m (sym g))
+
+      late : (length s ≡ 0 → ⊥) → task-part s .refusal ≡ NoRefusal
+          → (q : Refusal) → refusal-of (releases-from (length s) s (task-part s .end) (task-part s .table .present) NoneBefore 0) ≡ q → k ≡ part-of (task-part s) q → Wrote (file s lent) (RefusedInput r) lent
+      late some e NoRefusal g f = absurd (n (sym h ∙ ap (λ (x : TaskPart). x .refusal) f ∙ e))
+      late some e (Alone m) g f = behind some e (Alone m) (λ z. alone {r = Alone m} refl z) g (sym (ap (λ (x : TaskPart). x .refusal) f) ∙ h)
+      late some e (AtEntry m at) g f = behind some e (AtEntry m at) (λ z. at-entry {r = AtEntry m at} refl z) g (sym (ap (λ (x : TaskPart). x .refusal) f) ∙ h)

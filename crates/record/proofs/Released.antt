@@ -9,15 +9,15 @@ use native.Mathlib.Omega.{arith}
 use borrow.Author.Tests.{eqb-true, eqb-false, ltb-true}
 use lib.Dec.{eqb, ltb}
 use lib.ListN.{length}
-use Rattle.sets.specs.Sets.{member, difference, intersection, insert}
-use Rattle.sets.specs.Laws.{bit, by-test, clash, left, right, one-of, count-sum, count-one, none, size, inserted, insert-out, difference-member, intersection-member, member-task}
+use Rattle.sets.specs.Sets.{member, difference, intersection, insert, bit, size}
+use Rattle.sets.proofs.Laws.{by-test, clash, left, right, one-of, count-sum, count-one, none, inserted, insert-out, difference-member, intersection-member, member-task}
 use Rattle.rules.specs.Instant.{at-b, new-at, taken, skipped, occurred}
 use Rattle.guarantees.specs.Types.{State}
 use Rattle.record.specs.Types.{Release, Before}
-use Rattle.record.specs.Files.{rises}
-use Rattle.record.specs.Run.{released-from, released-at, released-after}
+use Rattle.run.specs.Files.{rises}
+use Rattle.run.specs.Run.{released-from, released-at, released-after}
 use Rattle.record.proofs.Accepted.{RisesTo, Sorted}
-use Rattle.record.proofs.Cursor
+use Rattle.run.proofs.Listing
 
 -- ---- how many
 
@@ -88,11 +88,11 @@ after-most : (t : ℕ) (rs : List Release) → length (released-after t rs) ≤ 
 after-most t [] = unfold released-after in omega arith
 after-most t (r ∷ rs) =
     by-test (eqb (r .time) t)
-    (λ e. rw (Cursor.after-taken t 0 r rs (eqb-true (r .time) t e)) (omega (arith, after-most t rs)))
-    (λ e. rw (Cursor.after-later t 0 r rs (eqb-false (r .time) t e)) (omega arith))
+    (λ e. rw (Listing.after-taken t 0 r rs (eqb-true (r .time) t e)) (omega (arith, after-most t rs)))
+    (λ e. rw (Listing.after-later t 0 r rs (eqb-false (r .time) t e)) (omega arith))
 
 pub fewer : (t : ℕ) (r : Release) (rs : List Release) → r .time ≡ t → length (released-after t (r ∷ rs)) < length (r ∷ rs)
-fewer t r rs e = rw (Cursor.after-taken t 0 r rs e) (omega (arith, after-most t rs))
+fewer t r rs e = rw (Listing.after-taken t 0 r rs e) (omega (arith, after-most t rs))
 
 module _ (present : ℕ) (tasks : present < 2 ^ 32) (t : ℕ) where
   -- a set with the releases of a time put to it, and the releases after them
@@ -124,12 +124,12 @@ module _ (present : ℕ) (tasks : present < 2 ^ 32) (t : ℕ) where
       by-test (eqb (r .time) t)
       (λ e.
       let x : r .time ≡ t = eqb-true (r .time) t e in
-      rw (Cursor.taken t set r rs x, Cursor.after-taken t set r rs x)
+      rw (Listing.taken t set r rs x, Listing.after-taken t set r rs x)
       (split-one set r rs (released-from t (insert (r .task) set) rs) (released-after t rs) (h .0) (u x)
       (split-from (insert (r .task) set) rs (h .3) (subst (λ (y : ℕ). NotBefore y rs) x (on-time r rs (h .2))) (under-more t set r rs x (u x) (h .2)))))
       (λ e.
       let x : r .time ≡ t → ⊥ = eqb-false (r .time) t e in
-      rw (Cursor.later t set r rs x, Cursor.after-later t set r rs x)
+      rw (Listing.later t set r rs x, Listing.after-later t set r rs x)
       (record { known = λ k m. inl m; sorted = h; later = omega arith; sizes = refl }))
 
   pub split : (rs : List Release) → Sorted present rs → NotBefore t rs → Split 0 rs (released-at t rs) (released-after t rs)
@@ -146,4 +146,4 @@ module _ (present : ℕ) (tasks : present < 2 ^ 32) (t : ℕ) where
   early (r ∷ rs) h e =
       by-test (eqb (r .time) t)
       (λ x. omega (arith, eqb-true (r .time) t x))
-      (λ x. absurd (eqb-false (released-at t (r ∷ rs)) 0 e (Cursor.later t 0 r rs (eqb-false (r .time) t x))))
+      (λ x. absurd (eqb-false (released-at t (r ∷ rs)) 0 e (Listing.later t 0 r rs (eqb-false (r .time) t x))))

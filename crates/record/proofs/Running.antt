@@ -1,51 +1,31 @@
 -- A run along its instants: what is laid so far and what is to come make the whole record. Assumes nothing.
 use mathlib.Core.Path.{_≡_, refl, sym, ap, _∙_, subst}
-use mathlib.Core.Bool.{Bool, true}
+use mathlib.Core.Bool.{Bool, true, false}
 use mathlib.Core.List.{List, [], _∷_, _++_, append-assoc, append-nil}
 use Prim.Native.Nat.{ℕ, zero, suc, _+_, _-_, _*_, _≤_}
 use native.Mathlib.Omega.{arith}
 use lib.ListN.{length, length-append}
-use Rattle.sets.specs.Sets.{member}
-use Rattle.sets.specs.Laws.{by-test}
-use Rattle.entries.specs.Entries.{laid, skipped-bytes, interval-bytes}
+use Rattle.entries.specs.Entries.{laid}
 use Rattle.rules.specs.Instant.{due, sooner, at-g, occurred}
-use Rattle.rules.specs.Calls.{refusal, instant, served}
-use Rattle.guarantees.specs.History.{Call, Instant, after-call}
-use Rattle.record.specs.Types.{Release, State, Never, Tick, Done, NoJob, Job, Closing, Unclosed, BeforeReleases, AfterReleases, Occurred}
-use Rattle.record.specs.Listed.{releases-at}
-use Rattle.record.specs.Run.{moment-bytes, record-bytes, done-bytes, skips-bytes, closed-bytes, run, first-time, released-at, released-after}
+use Rattle.rules.specs.Calls.{refusal, instant, served, after-call}
+use Rattle.rules.specs.declared.Call.{Call}
+use Rattle.rules.specs.declared.Call.the-variants.{Instant}
+use Rattle.record.specs.Types.{Release, State, Never, Tick, Occurred}
+use Rattle.run.specs.Listed.{releases-at}
+use Rattle.run.specs.Run.{Moment, record-bytes, run, first-time, released-at, released-after}
 use Rattle.record.specs.FileClaim.{Feeds, AllServed}
-use Rattle.record.specs.Advance.{Cursor, AllEarly, Served, Laid, run-bytes, most}
-use Rattle.record.specs.Moments.{served-bytes}
+use Rattle.record.specs.Cursor.{Cursor, AllEarly, Served, served-bytes, run-bytes, most}
 use Rattle.record.proofs.FileClaim.{not-over}
-use Rattle.record.proofs.Writing.{laid-none, laid-both, job-size, interval-size, skipped-size}
+use Rattle.run.proofs.Slices.{laid-none, laid-both}
+use Rattle.run.proofs.InOrder.{entries-joined, moment-most}
 
 -- ---- what one instant leaves at most
 
-done-most : (d : Done) → length (done-bytes d) ≤ 27
-unfolding done-bytes
-done-most NoJob = omega arith
-done-most (Job e) = omega (arith, job-size e)
-
-closed-most : (c : Closing) (skips : List ℕ) → length (closed-bytes c skips) ≤ 24 + length skips
-unfolding closed-bytes
-closed-most Unclosed skips = omega arith
-closed-most (BeforeReleases e) skips = omega (arith, interval-size e, length-append (interval-bytes e) skips)
-closed-most (AfterReleases e) skips = omega (arith, interval-size e, length-append skips (interval-bytes e))
-
-skips-most : (k set t : ℕ) → length (skips-bytes k set t) ≤ 10 * k
-unfolding skips-bytes
-skips-most zero set t = omega arith
-skips-most (suc k) set t =
-    by-test (member k set)
-    (λ e. rw e (omega (arith, skips-most k set t, length-append (skips-bytes k set t) (skipped-bytes k t), skipped-size k t)))
-    (λ e. rw e (omega (arith, skips-most k set t, length-append (skips-bytes k set t) [])))
-
 pub served-most : (t : ℕ) (o : Occurred) → length (served-bytes t o) ≤ most
-unfolding served-bytes moment-bytes
+unfolding served-bytes
 served-most t o =
-    let skips : List ℕ = skips-bytes 32 (o .skipped) t in
-    omega (arith, length-append (done-bytes (o .done)) (closed-bytes (o .closed) skips), done-most (o .done), closed-most (o .closed) skips, skips-most 32 (o .skipped) t)
+    let m : Moment = record { time = t; occurred = o } in
+    omega (arith, moment-most m, ap length (entries-joined m))
 
 -- ---- one instant of a run
 
@@ -79,17 +59,18 @@ pub record Progress (s whole before : List ℕ) (keep : Bool) (c : Cursor) (size
   pub size-is : size ≡ length done
   pub rest : done ++ run-bytes s c left ≡ whole
   pub kept : keep ≡ true → out ≡ laid 0 done before
+  pub unchanged : keep ≡ false → out ≡ before
   pub same : length out ≡ length before
   pub few : size + most * left ≤ most * 131104
 
 pub begins : (s out : List ℕ) (keep : Bool) (c : Cursor) (budget : ℕ) → budget ≤ 131104 → Progress s (run-bytes s c budget) out keep c 0 budget out
-begins s out keep c budget l = record { done = []; size-is = refl; rest = refl; kept = λ e. sym (laid-none 0 out); same = refl; few = omega arith }
+begins s out keep c budget l = record { done = []; size-is = refl; rest = refl; kept = λ e. sym (laid-none 0 out); unchanged = λ e. refl; same = refl; few = omega arith }
 
 module _ (s whole before : List ℕ) (keep : Bool) (c : Cursor) (size left : ℕ) (out : List ℕ) (p : Progress s whole before keep c size left out) where
-  pub ends : run-bytes s c left ≡ [] → (size ≡ length whole) × (keep ≡ true → out ≡ laid 0 whole before)
+  pub ends : run-bytes s c left ≡ [] → (size ≡ length whole) × (keep ≡ true → out ≡ laid 0 whole before) × (keep ≡ false → out ≡ before)
   ends e =
       let w : p .done ≡ whole = sym (append-nil (p .done)) ∙ ap (λ (x : List ℕ). p .done ++ x) (sym e) ∙ p .rest in
-      (p .size-is ∙ ap length w, λ k. p .kept k ∙ ap (λ (x : List ℕ). laid 0 x before) w)
+      (p .size-is ∙ ap length w, λ k. p .kept k ∙ ap (λ (x : List ℕ). laid 0 x before) w, p .unchanged)
 
   module _ (t at : ℕ) (some : left ≡ 0 → ⊥) (next : sooner (first-time (releases-at s (c .at))) (due (c .state .phase)) ≡ Tick t)
       (served : refusal (c .state) t (released-at t (releases-at s (c .at))) ≡ 0) (h : releases-at s at ≡ released-after t (releases-at s (c .at))) where
@@ -119,20 +100,22 @@ module _ (s whole before : List ℕ) (keep : Bool) (c : Cursor) (size left : ℕ
           length-append bytes (run-bytes s after (left - 1)),
         )
 
-    pub more : (place end : ℕ) (out′ : List ℕ) → Laid place (served-bytes t (occurred (c .state) t (released-at t (releases-at s (c .at))))) out end out′
-        → (keep ≡ true → place ≡ size) → (keep ≡ true → length whole ≤ length before)
-        → length out′ ≡ length out → Progress s whole before keep (next-cursor s c t at) (size + (end - place)) (left - 1) out′
-    more place end out′ x y fit same = record {
+    -- what was put is laid where the record is kept, and nothing changed where it is not
+    pub more : (n : ℕ) (out′ : List ℕ) → n ≡ length (served-bytes t (occurred (c .state) t (released-at t (releases-at s (c .at)))))
+        → (keep ≡ true → out′ ≡ laid size (served-bytes t (occurred (c .state) t (released-at t (releases-at s (c .at))))) out) → (keep ≡ false → out′ ≡ out)
+        → length out′ ≡ length out → Progress s whole before keep (next-cursor s c t at) (size + n) (left - 1) out′
+    more n out′ e x y same = record {
       done = p .done ++ bytes;
-      size-is = omega (arith, x .place-is, p .size-is, length-append (p .done) bytes);
+      size-is = omega (arith, e, p .size-is, length-append (p .done) bytes);
       rest = append-assoc (p .done) bytes (run-bytes s after (left - 1)) ∙ parts;
-      kept = λ e.
-          x .holds
-          ∙ ap (λ (n : ℕ). laid n bytes out) (y e ∙ p .size-is ∙ plus (length (p .done)))
-          ∙ ap (laid (0 + length (p .done)) bytes) (p .kept e)
+      kept = λ k.
+          x k
+          ∙ ap (λ (m : ℕ). laid m bytes out) (p .size-is ∙ plus (length (p .done)))
+          ∙ ap (laid (0 + length (p .done)) bytes) (p .kept k)
           ∙ laid-both 0 (p .done) bytes before (omega arith);
+      unchanged = λ k. y k ∙ p .unchanged k;
       same = same ∙ p .same;
-      few = omega (arith, x .place-is, served-most t (occurred (c .state) t (released-at t (releases-at s (c .at)))), p .few, positive left some);
+      few = omega (arith, e, served-most t (occurred (c .state) t (released-at t (releases-at s (c .at)))), p .few, positive left some);
     }
       where
         plus : (n : ℕ) → n ≡ 0 + n

@@ -6,78 +6,35 @@ use mathlib.Core.Logic.{_⊎_, inl, inr, ⊎-elim}
 use mathlib.Core.List.{List}
 use Prim.Native.Nat.{ℕ, zero, suc, _+_, _-_, _≤_, _<_}
 use native.Mathlib.Omega.{arith}
-use borrow.Author.Tests.{eqb-true, eq-eqb, ne-eqb, le-leb}
+use borrow.Author.Tests.{eq-eqb, ne-eqb}
 use lib.Dec.{eqb}
 use lib.ListN.{length, take}
-use lib.Seq.{length-take-le, getD-take}
+use lib.Seq.{length-take-le}
 use Rattle.sets.specs.Sets.{member}
-use Rattle.sets.specs.Laws.{by-test, clash, none}
-use Rattle.words.specs.Words.{numberAt}
-use Rattle.entries.specs.Entries.{entry-at, task-at}
-use Rattle.table.specs.Tasks.{no-table, behind-tasks, task-refusal, with-task, with-marked, refused-at, read-to, tasks-from, tasks-of}
-use Rattle.table.proofs.Laws.{behind-end, behind-release, before-release, task-whole, at-end, malformed, released, refuses, takes}
+use Rattle.sets.proofs.Laws.{by-test, none}
+use Rattle.entries.specs.Entries.{entry-at}
+use Rattle.entries.proofs.Front.{entry-in-front}
+use Rattle.table.specs.TaskPart.{no-table, behind-tasks, task-refusal, with-task, with-marked, refused-at, read-to, tasks-from, task-part}
+use Rattle.table.proofs.Laws.{behind-end, task-whole, at-end, malformed, released, refuses, takes}
+use Rattle.table.proofs.Front.{behind-in-front}
 use Rattle.rules.specs.Calls.{opened, not-opened, opened-behind, opening}
-use Rattle.guarantees.specs.Types.{Table, NoRefusal, Alone, AtEntry, Opening, Tasks}
-use Rattle.guarantees.specs.History.{Call}
+use Rattle.guarantees.specs.Types.{Table, NoRefusal, Alone, AtEntry, Opening, TaskPart, Call}
 use Rattle.guarantees.specs.Claim.{Claim, Demand3}
 use Rattle.guarantees.proofs.Proper
 use Rattle.guarantees.proofs.Proper.{Fair}
 use Rattle.guarantees.proofs.Demand3.{demand-3}
 use Rattle.record.specs.Types.{TaskParameters, Release, Entry, Malformed, TaskEntry, ReleaseEntry, Last, NoneBefore}
-use Rattle.record.specs.Files.{Releases, refusal-of, release-refusal, releases-from}
-use Rattle.record.proofs.Reading
+use Rattle.run.specs.Files.{Releases, refusal-of, release-refusal, releases-from}
+use Rattle.run.proofs.Checking
 use Rattle.record.proofs.Accepted.{Accepted}
 
--- ---- a task entry
-
-unlike : (r : Tasks) (n at : ℕ) → refused-at n at ≡ r → r .refusal ≡ NoRefusal → ⊥
-unlike r n at e h = let x : AtEntry n at ≡ NoRefusal = ap (λ (k : Tasks). k .refusal) e ∙ h in let z : _≡_ {A = ℕ} 0 1 = cc in omega arith
-
-module _ (s : List ℕ) (at : ℕ) (more : behind-tasks s at ≡ false) (p : TaskParameters) (entry : entry-at s at ≡ TaskEntry p) where
-  no-release-kind : eqb (numberAt 1 s at) 2 ≡ false
-  no-release-kind =
-      by-test (eqb (numberAt 1 s at) 2) (λ e. clash (behind-tasks s at) (behind-release s at (eqb-true (numberAt 1 s at) 2 e)) more) (λ e. e)
-
-  task-kind : (numberAt 1 s at ≡ 1) × (task-at s at ≡ p)
-  unfolding entry-at
-  task-kind =
-      by-test (eqb (numberAt 1 s at) 1)
-      (λ a.
-      let x : TaskEntry (task-at s at) ≡ TaskEntry p = rw (a, le-leb 16 (length s - at) (task-whole s at p entry)) at entry in
-      (eqb-true (numberAt 1 s at) 1 a, cc))
-      (λ a.
-      let x : Malformed 2 ≡ TaskEntry p = rw (a, no-release-kind) at entry in
-      let z : _≡_ {A = ℕ} 0 1 = cc in
-      absurd (omega arith))
-
--- one that ends before a place is the same in the bytes up to it
-module _ (s : List ℕ) (e : ℕ) (inside : e ≤ length s) where
-  number-before : (w at : ℕ) → at + w ≤ e → numberAt w (take e s) at ≡ numberAt w s at
-  unfolding numberAt
-  number-before zero at l = refl
-  number-before (suc w) at l = rw (number-before w at (omega arith), getD-take e s (at + w) 0 (omega arith))
-
-  parameters-before : (at : ℕ) → at + 16 ≤ e → task-at (take e s) at ≡ task-at s at
-  unfolding task-at
-  parameters-before at l =
-      rw (
-        number-before 1 (at + 1) (omega arith),
-        number-before 1 (at + 2) (omega arith),
-        number-before 1 (at + 3) (omega arith),
-        number-before 4 (at + 4) (omega arith),
-        number-before 4 (at + 8) (omega arith),
-        number-before 4 (at + 12) (omega arith),
-      )
-
-  entry-before : (at : ℕ) (p : TaskParameters) → at + 16 ≤ e → (numberAt 1 s at ≡ 1) × (task-at s at ≡ p) → entry-at (take e s) at ≡ TaskEntry p
-  unfolding entry-at
-  entry-before at p l k =
-      rw (number-before 1 at (omega arith), k .0, length-take-le e s inside, le-leb 16 (e - at) (omega arith), parameters-before at l) (ap TaskEntry (k .1))
+unlike : (r : TaskPart) (n at : ℕ) → refused-at n at ≡ r → r .refusal ≡ NoRefusal → ⊥
+unlike r n at e h = let x : AtEntry n at ≡ NoRefusal = ap (λ (k : TaskPart). k .refusal) e ∙ h in let z : _≡_ {A = ℕ} 0 1 = cc in omega arith
 
 -- ---- the entries one after another
 
 -- what is read from a place on, to an end, is read from the bytes up to that end
-pub record Prefix (s : List ℕ) (at : ℕ) (t : Table) (m : ℕ) (r : Tasks) : Type 0 where
+pub record Prefix (s : List ℕ) (at : ℕ) (t : Table) (m : ℕ) (r : TaskPart) : Type 0 where
   pub onward : at ≤ r .end
   pub inside : r .end ≤ length s
   pub some-entry : (read-to t m at ≡ r) ⊎ (at < r .end)
@@ -91,27 +48,23 @@ prefix-none s at t m l = record {
   same = λ k h. at-end (take at s) at t m k (behind-end (take at s) at (omega (arith, length-take-le at s l)));
 }
 
-prefix-more : (s : List ℕ) (at : ℕ) (t : Table) (m : ℕ) (p : TaskParameters) (r : Tasks) → (numberAt 1 s at ≡ 1) × (task-at s at ≡ p) → task-refusal t p ≡ 0
-    → Prefix s (at + 16) (with-task t p) (with-marked m p) r → Prefix s at t m r
-prefix-more s at t m p r e x h = record {
+prefix-more : (s : List ℕ) (at : ℕ) (t : Table) (m : ℕ) (p : TaskParameters) (r : TaskPart) → behind-tasks s at ≡ false → entry-at s at ≡ TaskEntry p
+    → task-refusal t p ≡ 0 → Prefix s (at + 16) (with-task t p) (with-marked m p) r → Prefix s at t m r
+prefix-more s at t m p r b e x h = record {
   onward = omega (arith, h .onward);
   inside = h .inside;
   some-entry = inr (omega (arith, h .onward));
   same = λ k l. go k l;
 }
   where
-    kind : numberAt 1 (take (r .end) s) at ≡ 1
-    kind = number-before s (r .end) (h .inside) 1 at (omega (arith, h .onward)) ∙ e .0
-
     go : (k : ℕ) → r .end - at ≤ k → tasks-from k (take (r .end) s) at t m ≡ r
     go zero l = absurd (omega (arith, h .onward))
     go (suc k) l =
-        takes (take (r .end) s) at t m k
-        (before-release (take (r .end) s) at (omega (arith, length-take-le (r .end) s (h .inside), h .onward)) (λ y. omega (arith, kind)))
-        p (entry-before s (r .end) (h .inside) at p (h .onward) e) x
+        takes (take (r .end) s) at t m k (behind-in-front s (r .end) (h .inside) at (omega (arith, h .onward)) ∙ b) p
+        (entry-in-front s (r .end) (h .inside) at (h .onward) ∙ e) x
         ∙ h .same k (omega arith)
 
-prefix : (k : ℕ) (s : List ℕ) (at : ℕ) (t : Table) (m : ℕ) (r : Tasks) → at ≤ length s → tasks-from k s at t m ≡ r → r .refusal ≡ NoRefusal → Prefix s at t m r
+prefix : (k : ℕ) (s : List ℕ) (at : ℕ) (t : Table) (m : ℕ) (r : TaskPart) → at ≤ length s → tasks-from k s at t m ≡ r → r .refusal ≡ NoRefusal → Prefix s at t m r
 prefix zero s at t m r l e h = unfold tasks-from in subst (Prefix s at t m) e (prefix-none s at t m l)
 prefix (suc k) s at t m r l e h =
     by-test (behind-tasks s at)
@@ -120,7 +73,7 @@ prefix (suc k) s at t m r l e h =
   where
     go-task : behind-tasks s at ≡ false → (p : TaskParameters) (n : ℕ) → entry-at s at ≡ TaskEntry p → task-refusal t p ≡ n
         → ((p : TaskParameters) → entry-at s at ≡ TaskEntry p → task-refusal t p ≡ 0 → Prefix s (at + 16) (with-task t p) (with-marked m p) r) → Prefix s at t m r
-    go-task b p zero x y f = prefix-more s at t m p r (task-kind s at b p x) y (f p x y)
+    go-task b p zero x y f = prefix-more s at t m p r b x y (f p x y)
     go-task b p (suc n) x y f = absurd (unlike r (suc n) at (sym (refuses s at t m k b p (suc n) x y (omega arith)) ∙ e) h)
 
     go : behind-tasks s at ≡ false → (i : Entry) → entry-at s at ≡ i
@@ -142,52 +95,52 @@ no-release k s at last count rs l e = go (entry-at s at) refl
     not-read n x = let y : NoRefusal ≡ AtEntry n at = sym (ap refusal-of e) ∙ x in let z : _≡_ {A = ℕ} 0 1 = cc in omega arith
 
     go : (i : Entry) → entry-at s at ≡ i → ⊥
-    go (Malformed n) x = not-read n (Reading.malformed s at 0 last count k l n x)
-    go (TaskEntry p) x = not-read 3 (Reading.task-late s at 0 last count k l p x)
-    go (ReleaseEntry r) x = not-read 8 (Reading.refuses s at 0 last count k l r 8 x (unknown-first 0 last count r (none (r .task))) (omega arith))
+    go (Malformed n) x = not-read n (Checking.malformed s at 0 last count k l n x)
+    go (TaskEntry p) x = not-read 3 (Checking.task-late s at 0 last count k l p x)
+    go (ReleaseEntry r) x = not-read 8 (Checking.refuses s at 0 last count k l r 8 x (unknown-first 0 last count r (none (r .task))) (omega arith))
 
 module _ (s : List ℕ) (rs : List Release) (a : Accepted s rs) where
-  all : Prefix s 0 no-table 0 (tasks-of s)
-  all = unfold tasks-of in prefix (length s) s 0 no-table 0 (tasks-of s) (omega arith) refl (a .tasks)
+  all : Prefix s 0 no-table 0 (task-part s)
+  all = unfold task-part in prefix (length s) s 0 no-table 0 (task-part s) (omega arith) refl (a .tasks)
 
-  some-task : tasks-of s .end ≡ 0 → ⊥
+  some-task : task-part s .end ≡ 0 → ⊥
   some-task e =
       ⊎-elim
-      (λ x. go (length s) refl (subst (λ (k : Tasks). releases-from (length s) s (k .end) (k .table .present) NoneBefore 0 ≡ Releases rs) (sym x) (a .read)))
+      (λ x. go (length s) refl (subst (λ (k : TaskPart). releases-from (length s) s (k .end) (k .table .present) NoneBefore 0 ≡ Releases rs) (sym x) (a .read)))
       (λ x. omega arith) (all .some-entry)
     where
       go : (n : ℕ) → length s ≡ n → releases-from n s 0 0 NoneBefore 0 ≡ Releases rs → ⊥
       go zero l h = a .some-byte l
       go (suc n) l h = no-release n s 0 NoneBefore 0 rs (omega arith) h
 
-  opens-behind : (k : Tasks) (n : ℕ) → (n ≡ 0 → ⊥) → k .refusal ≡ NoRefusal → k .end ≡ n
+  opens-behind : (k : TaskPart) (n : ℕ) → (n ≡ 0 → ⊥) → k .refusal ≡ NoRefusal → k .end ≡ n
       → cond (eqb n 0) (not-opened (Alone 12)) (opened-behind k n (k .refusal)) ≡ record { state = opened (k .table) (k .marked); refusal = NoRefusal }
   opens-behind k n h e x = rw (ne-eqb n 0 h, e, eq-eqb (k .end) n x)
 
-  before-length : length (take (tasks-of s .end) s) ≡ tasks-of s .end
-  before-length = length-take-le (tasks-of s .end) s (all .inside)
+  before-length : length (take (task-part s .end) s) ≡ task-part s .end
+  before-length = length-take-le (task-part s .end) s (all .inside)
 
-  before-same : tasks-of (take (tasks-of s .end) s) ≡ tasks-of s
-  unfolding tasks-of
-  before-same = all .same (length (take (tasks-of s .end) s)) (omega (arith, before-length))
+  before-same : task-part (take (task-part s .end) s) ≡ task-part s
+  unfolding task-part
+  before-same = all .same (length (take (task-part s .end) s)) (omega (arith, before-length))
 
-  pub opens : opening (take (tasks-of s .end) s) ≡ record { state = opened (tasks-of s .table) (tasks-of s .marked); refusal = NoRefusal }
+  pub opens : opening (take (task-part s .end) s) ≡ record { state = opened (task-part s .table) (task-part s .marked); refusal = NoRefusal }
   unfolding opening
   opens =
-      let b : List ℕ = take (tasks-of s .end) s in
-      opens-behind (tasks-of b) (length b) (λ e. some-task (sym before-length ∙ e)) (ap (λ (k : Tasks). k .refusal) before-same ∙ a .tasks)
-      (ap (λ (k : Tasks). k .end) before-same ∙ sym before-length)
-      ∙ ap (λ (k : Tasks). record { state = opened (k .table) (k .marked); refusal = NoRefusal }) before-same
+      let b : List ℕ = take (task-part s .end) s in
+      opens-behind (task-part b) (length b) (λ e. some-task (sym before-length ∙ e)) (ap (λ (k : TaskPart). k .refusal) before-same ∙ a .tasks)
+      (ap (λ (k : TaskPart). k .end) before-same ∙ sym before-length)
+      ∙ ap (λ (k : TaskPart). record { state = opened (k .table) (k .marked); refusal = NoRefusal }) before-same
 
   -- so its table is one that opening serves
-  pub fair : Fair (tasks-of s .table) (tasks-of s .marked)
+  pub fair : Fair (task-part s .table) (task-part s .marked)
   unfolding opened
   fair =
       subst (λ (o : Opening). Fair (o .state .table) (o .state .marked)) opens
-      (Proper.opens (take (tasks-of s .end) s) (ap (λ (o : Opening). o .refusal) opens) .proper .fair)
+      (Proper.opens (take (task-part s .end) s) (ap (λ (o : Opening). o .refusal) opens) .proper .fair)
 
   -- and the claim for lists holds of its dispatcher
-  pub claim : (calls : List Call) → Claim (opened (tasks-of s .table) (tasks-of s .marked)) calls
+  pub claim : (calls : List Call) → Claim (opened (task-part s .table) (task-part s .marked)) calls
   unfolding Demand3
   claim calls =
-      subst (λ (o : Opening). Claim (o .state) calls) opens (demand-3 (take (tasks-of s .end) s) (ap (λ (o : Opening). o .refusal) opens) calls)
+      subst (λ (o : Opening). Claim (o .state) calls) opens (demand-3 (take (task-part s .end) s) (ap (λ (o : Opening). o .refusal) opens) calls)

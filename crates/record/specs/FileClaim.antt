@@ -3,16 +3,20 @@
 use mathlib.Core.Path.{_≡_}
 use Prim.Native.Nat.{_<_}
 use lib.ListN.{length, take}
-use Rattle.record.specs.Types.{List, [], _∷_, _++_, ℕ, _+_, Release, Tasks, NoRefusal, State, Done, NoJob, Job, Closing, Unclosed, BeforeReleases, AfterReleases, Never, Tick, Outcome}
-use Rattle.sets.specs.Laws.{size}
-use Rattle.table.specs.Tasks.{tasks-of}
+use Rattle.record.specs.Types.{List, [], _∷_, _++_, ℕ, _+_, Release, TaskPart, NoRefusal, State, Done, NoJob, Job, Never, Tick, Occurred, Outcome}
+use Rattle.sets.specs.Sets.{size}
+use Rattle.table.specs.TaskPart.{task-part}
 use Rattle.rules.specs.Instant.{due, sooner}
-use Rattle.rules.specs.Calls.{opened, opening, refusal, instant}
-use Rattle.guarantees.specs.History.{Call, Instant, Mark, after-call, after-calls, history}
-use Rattle.guarantees.specs.Reading.{total, is-take}
+use Rattle.rules.specs.Calls.{opened, opening, refusal, instant, after-call}
+use Rattle.rules.specs.declared.Call.{Call}
+use Rattle.rules.specs.declared.Call.the-variants.{Instant, Mark}
+use Rattle.guarantees.specs.History.{after-calls, history}
+use Rattle.guarantees.specs.Queries.{total, is-take, none-yet}
+use Rattle.guarantees.specs.Entries.{done, completions, closed, ended}
 use Rattle.guarantees.specs.Claim.{Claim, AllCompleted}
-use Rattle.record.specs.Files.{Releases, releases-of}
-use Rattle.record.specs.Run.{Moment, moment, first-time, released-at, released-after, budget, moments-of, Wrote, file}
+use Rattle.run.specs.Files.{Releases, releases-of}
+use Rattle.run.specs.Run.{Moment, moment, first-time, released-at, released-after, budget, moments-of}
+use Rattle.record.specs.Writing.{Wrote, file, outcome-number, outcome-value}
 
 -- ---- The calls that feed a file to the dispatcher by instants
 
@@ -29,6 +33,11 @@ answers d [] = []
 answers d (Instant t set ∷ cs) = moment t (instant d t set .answer) ++ answers (after-call d (Instant t set)) cs
 answers d (Mark n m ∷ cs) = answers (after-call d (Mark n m)) cs
 
+-- what occurred at each
+unfoldable pub occurrences : List Moment → List Occurred
+occurrences [] = []
+occurrences (m ∷ ms) = m .occurred ∷ occurrences ms
+
 -- each is an instant that meets no row of the refusals
 unfoldable pub AllServed : State → List Call → Type 0
 AllServed d [] = Unit {0}
@@ -41,20 +50,10 @@ abbrev pub is-job : Done → ℕ
 is-job NoJob = 0
 is-job (Job e) = 1
 
-abbrev pub is-interval : Closing → ℕ
-is-interval Unclosed = 0
-is-interval (BeforeReleases e) = 1
-is-interval (AfterReleases e) = 1
-
 -- kind 16
 unfoldable pub jobs-done : List Moment → ℕ
 jobs-done [] = 0
 jobs-done (m ∷ ms) = is-job (m .occurred .done) + jobs-done ms
-
--- kind 17
-unfoldable pub intervals-ended : List Moment → ℕ
-intervals-ended [] = 0
-intervals-ended (m ∷ ms) = is-interval (m .occurred .closed) + intervals-ended ms
 
 -- kind 18
 unfoldable pub releases-skipped : List Moment → ℕ
@@ -71,8 +70,12 @@ pub record FedClaim (d : State) (rs : List Release) (ms : List Moment) (calls : 
   pub gives-record : answers d calls ≡ ms
   -- no run is cut off: it has fewer instants than its budget
   pub within-budget : length calls < budget (length rs)
-  -- demand 3 of this list of calls, "lists of calls and files alike"
+  -- demand 3 of this list of calls, "lists of calls and files alike", and that what each entry of a job says is true (`entries`)
   pub claim : Claim d calls
+  -- "The record has kind 16 at step a": one entry for each job that completes, in their order,
+  pub each-done : done (occurrences ms) ≡ completions (history d calls)
+  -- "kind 17 at the interval's end": and one for each interval that ended, in their order, with its begin and its end
+  pub each-interval : closed (occurrences ms) ≡ ended none-yet (history d calls)
   -- "The run goes on until nothing is pending."
   pub nothing-pending : after-calls d calls .jobs .pending ≡ 0
   -- the run completes all N, "N is the number of releases taken in the list or the file"
@@ -85,17 +88,20 @@ pub record FedClaim (d : State) (rs : List Release) (ms : List Moment) (calls : 
 -- of a file's bytes and its releases
 pub record FileClaim (s : List ℕ) (rs : List Release) (d : State) : Type 0 where
   -- "It opens from the task entries alone."
-  pub opens : opening (take (tasks-of s .end) s) ≡ record { state = d; refusal = NoRefusal }
+  pub opens : opening (take (task-part s .end) s) ≡ record { state = d; refusal = NoRefusal }
   pub come-to-an-end : (calls : List Call) × Feeds d rs calls
   pub of-the-feed : (calls : List Call) → Feeds d rs calls → FedClaim d rs (moments-of s rs) calls
 
 -- for every input that is accepted
 unfoldable pub Demand3Files : Type 0
-Demand3Files = (s : List ℕ) (rs : List Release) → releases-of s ≡ Releases rs → let k : Tasks = tasks-of s in FileClaim s rs (opened (k .table) (k .marked))
+Demand3Files = (s : List ℕ) (rs : List Release) → releases-of s ≡ Releases rs → let k : TaskPart = task-part s in FileClaim s rs (opened (k .table) (k .marked))
 
 -- ---- The claim on a promise
 
 -- what comes of an input and a lent slice, and the claim for the run of the input where it is accepted
 pub record WroteWithClaim (s before : List ℕ) (outcome : Outcome) (after : List ℕ) : Type 0 where
   pub wrote : Wrote (file s before) outcome after
-  pub claim : (rs : List Release) → releases-of s ≡ Releases rs → FileClaim s rs (opened (tasks-of s .table) (tasks-of s .marked))
+  -- and in document 01's numbers: the refusal's, and the place, the length needed or the record's length
+  pub number : outcome-number outcome ≡ outcome-number (file s before .outcome)
+  pub value : outcome-value outcome ≡ outcome-value (file s before .outcome)
+  pub claim : (rs : List Release) → releases-of s ≡ Releases rs → FileClaim s rs (opened (task-part s .table) (task-part s .marked))

@@ -1,7 +1,4 @@
 pub mod Types
-pub mod Files
-pub mod Listed
-pub mod Run
+pub mod Writing
 pub mod FileClaim
-pub mod Advance
-pub mod Moments
+pub mod Cursor

@@ -1,19 +1,8 @@
-// A file's run and its record in a lent slice.
-mod advance;
-mod check;
-mod instant;
-mod moment;
-mod whole;
+// A file's record in a lent slice.
+mod writing;
 
-use entries::Release;
 use table::Refusal;
-pub use whole::write;
-
-// The release before the one that is checked.
-pub enum Last {
-    NoneBefore,
-    Before(Release),
-}
+pub use writing::write;
 
 // What comes of an input and a lent slice: a refusal of the input, the length needed where the slice is too short,
 // or the length of the record.

@@ -1,16 +1,95 @@
-// Reads an input on standard input and writes the bytes of its record to standard output: none where the input is refused.
+// Reads an input on standard input and writes the bytes of its record to standard output, instant by instant: none where the input is
+// refused. No more of a record is kept than its buffer holds.
+use libc::STDIN_FILENO;
 use libc::STDOUT_FILENO;
-use record::Outcome;
+use table::Refusal;
+use table::TaskPart;
+ghost use Prim.Native.Nat.{_+_, _≤_};
+ghost use lib.ListN.{length};
+ghost use Rattle.io.specs.Counts.{Counts};
+ghost use Rattle.run.specs.Cut.{file-most};
 
-fn answer(input: &mut [u8], lent: &mut [u8]) {
-    let outcome = intake::record_input(input, lent);
-    if let Outcome::Recorded(count) = outcome {
-        io::write_all(STDOUT_FILENO, &lent[..count]);
+// As many bytes of an input as are enough, which is proved: run/specs/Cut, `ReadFromFront`. What stands behind them is not read.
+const INPUT: usize = 33 * entries::TASK_SIZE + 4096 * entries::RELEASE_SIZE;
+
+// Room for the entries of many instants.
+const ENTRIES: usize = 16384;
+
+// As many instants as no run has.
+const INSTANTS: usize = 32 * 4096 + 32;
+
+// Writes the first `count` bytes of `bytes`.
+fn print(bytes: &[u8], count: usize)
+    requires { ⌜ count ≤ length (now bytes) ⌝ }
+{
+    io::write_all(STDOUT_FILENO, &bytes[..count]);
+}
+
+// Writes the `len` bytes of `out` where there may be no room behind them for what one instant leaves, and answers how many are kept.
+fn make_room(out: &[u8], len: usize) -> usize
+    requires { ⌜ len ≤ length (now out) ⌝ }
+    requires { ⌜ 371 ≤ length (now out) ⌝ }
+    ensures { λ r. ⌜ r + 371 ≤ length (now (out .entry)) ⌝ }
+{
+    if out.len() - len < run::MOST {
+        print(out, len);
+        return 0;
+    }
+    len
+}
+
+fn write_run(input: &[u8], part: TaskPart, out: &mut [u8])
+    requires { ⌜ part .end ≤ length (now input) ⌝ }
+    requires { ⌜ 371 ≤ length (now out) ⌝ }
+{
+    let mut release = [0u64; 32];
+    let mut blocked = [0u8; 32];
+    let mut r = rules::empty(part.marked);
+    let mut at = part.end;
+    let mut len = 0;
+    let mut left = INSTANTS;
+    while left != 0 {
+        let x = run::advance(
+            &input[at..],
+            r,
+            &part.table.priority,
+            &part.table.columns,
+            &mut release,
+            &mut blocked,
+            &mut out[len..],
+        );
+        if x.time == u64::MAX {
+            break;
+        }
+        len = make_room(out, len + x.size);
+        r = x.registers;
+        at += x.read;
+        left -= 1;
+    }
+    print(out, len);
+}
+
+fn answer(input: &[u8], out: &mut [u8])
+    requires { ⌜ 371 ≤ length (now out) ⌝ }
+{
+    let part = run::check_file(input);
+    let refusal = part.refusal;
+    if let Refusal::NoRefusal = refusal {
+        write_run(input, part, out);
     }
 }
 
+// Reads as much of an input as there is room for, which is enough.
+fn read(input: &mut [u8]) -> usize
+    requires { ⌜ file-most ≤ length (now input) ⌝ }
+    ensures { λ r. ⌜ Counts r (now (input .exit)) ⌝ }
+{
+    io::read_full(STDIN_FILENO, input)
+}
+
 fn main() {
-    let mut input = intake::input_buffer();
-    let mut lent = intake::record_buffer();
-    answer(&mut input, &mut lent);
+    let mut input = [0u8; INPUT];
+    let mut out = [0u8; ENTRIES];
+    let count = read(&mut input);
+    answer(&input[..count], &mut out);
 }

@@ -7,7 +7,7 @@ use lib.Dec.{eqb}
 use lib.ListN.{length, getD, set, length-set}
 use lib.Seq.{set-getD, getD-set-same, getD-set-other, ext-getD}
 use Rattle.sets.specs.Sets.{member, remove, lowest}
-use Rattle.sets.specs.Laws.{by-test, none}
+use Rattle.sets.proofs.Laws.{by-test, none}
 use Rattle.rules.specs.Instant.{stamped}
 use Rattle.rules.proofs.Members.{Left, Turn, passed, start, at-start, at-end, turn}
 

@@ -1,33 +1,33 @@
 -- The registers with some of them others, read back.
-use Rattle.rules.specs.Types.{Bool, true, false, List, ℕ, _-_, _≡_, _∙_, Table, Clock, MaybeTask, Processor, CopyOut, CopyIn, Within, Registers}
+use Rattle.rules.specs.Types.{Bool, true, false, ℕ, _-_, _≡_, _∙_, MaybeTask, Processor, CopyOut, CopyIn, Within, Registers}
 use borrow.Author.Tests.{eq-eqb, ne-eqb}
 use lib.Dec.{eqb}
 use Rattle.sets.specs.Sets.{union, intersection}
-use Rattle.sets.specs.Laws.{by-test}
-use Rattle.rules.specs.Instant.{processor-at, copyout-at, copyin-at, ended, completed, after-done, without-done, step-a, resting, settled, processor-task, copyout-task, copyin-task, copyin-fate, without-promoted, next-of, awaiting-copyout, stamped, with-candidates, step-c, work-of, begin-processor, begin-copyout, begin}
-use Rattle.rules.specs.Apart.{as-task, as-processor, as-copyout, as-next, as-outgoing, processor-in, copyout-in, copyin-in, interval-in, phase-in, whole, ends, closed-with, entry-with}
-use Rattle.rules.specs.Steps.{CopyInAt}
+use Rattle.sets.proofs.Laws.{by-test}
+use Rattle.rules.specs.Instant.{processor-at, copyout-at, copyin-at, ended, completed, after-done, without-done, step-a, resting, settled, processor-task, copyout-task, copyin-task, copyin-fate, without-promoted, next-of, awaiting-copyout, stamped, with-candidates, step-c, work-of, begin-processor, begin-copyout, begin, is-over, closed-with, entry-with}
+use Rattle.rules.specs.Registers.{as-task, as-processor, as-copyout, as-next, as-outgoing, processor-in, copyout-in, copyin-in, interval-in, phase-in, Memory, with-arrays, state-in}
+use Rattle.rules.specs.Steps.{CopyInAt, taken-arrays}
 use Rattle.rules.proofs.Parts.{not-copying-out}
 
 -- an open interval, by its units
-pub opened-with : (table : Table) (clock : Clock) (release blocked : List ℕ) (r : Registers) (p : Processor) (o : CopyOut) (i : CopyIn)
+pub opened-with : (m : Memory) (r : Registers) (p : Processor) (o : CopyOut) (i : CopyIn)
     → eqb (r .copyin) 5 ≡ false → processor-in r ≡ p → copyout-in r ≡ o → copyin-in r ≡ i
-    → whole table clock release blocked r ≡ record {
-      table = table;
+    → state-in m r ≡ record {
+      table = m .table;
       marked = r .marked;
-      clock = clock;
+      clock = m .clock;
       half = r .half;
-      jobs = record { pending = r .pending; ready = r .ready; release = release; blocked = blocked };
+      jobs = record { pending = r .pending; ready = r .ready; release = m .arrays .release; blocked = m .arrays .blocked };
       phase = Within (record { begin = r .begin; work = r .work; processor = p; copyout = o; copyin = i; candidates = r .candidates });
     }
-unfolding whole phase-in interval-in
-opened-with table clock release blocked r p o i e ep eo ei = simp (e, ep, eo, ei)
+unfolding state-in phase-in interval-in
+opened-with m r p o i e ep eo ei = simp (e, ep, eo, ei)
 
 -- ---- a
 
-pub not-ended : (table : Table) (clock : Clock) (release blocked : List ℕ) (r : Registers) (t : ℕ) → r .copyin ≡ 5 → whole table clock release blocked r ≡ step-a (whole table clock release blocked r) t (phase-in r) .state
+pub not-ended : (m : Memory) (r : Registers) (t : ℕ) → r .copyin ≡ 5 → state-in m r ≡ step-a (state-in m r) t (phase-in r) .state
 unfolding phase-in step-a
-not-ended table clock release blocked r t e = simp (eq-eqb _ _ e)
+not-ended m r t e = simp (eq-eqb _ _ e)
 
 abbrev at-end : Registers → ℕ → ℕ → ℕ → ℕ → ℕ → ℕ → ℕ → Registers
 at-end r pending kind n start until out choice = record {
@@ -51,36 +51,36 @@ at-end r pending kind n start until out choice = record {
   intask = r .intask;
 }
 
-pub ended-with : (table : Table) (clock : Clock) (release blocked : List ℕ) (r : Registers) (t pending kind n start until out choice : ℕ)
+pub ended-with : (m : Memory) (r : Registers) (t pending kind n start until out choice : ℕ)
     → (r .copyin ≡ 5 → ⊥)
-    → pending ≡ after-done (r .pending) (completed (record { pending = r .pending; ready = r .ready; release = release; blocked = blocked }) t (copyout-in r))
-    → as-processor kind n start until ≡ processor-at table t (processor-in r)
+    → pending ≡ after-done (r .pending) (completed (record { pending = r .pending; ready = r .ready; release = m .arrays .release; blocked = m .arrays .blocked }) t (copyout-in r))
+    → as-processor kind n start until ≡ processor-at (m .table) t (processor-in r)
     → as-copyout out (r .outtask) (r .outstart) (r .outuntil) ≡ copyout-at t (copyout-in r)
     → CopyInAt (r .copyin) (r .inuntil) t choice
-    → whole table clock release blocked (at-end r pending kind n start until out choice) ≡ step-a (whole table clock release blocked r) t (phase-in r) .state
-unfolding whole phase-in interval-in step-a without-done ended
-ended-with table clock release blocked r t pending kind n start until out choice ne ej ep eo ei =
-    opened-with table clock release blocked (at-end r pending kind n start until out choice)
-    (processor-at table t (processor-in r)) (copyout-at t (copyout-in r)) (copyin-at t (copyin-in r))
+    → state-in m (at-end r pending kind n start until out choice) ≡ step-a (state-in m r) t (phase-in r) .state
+unfolding state-in phase-in interval-in step-a without-done ended
+ended-with m r t pending kind n start until out choice ne ej ep eo ei =
+    opened-with m (at-end r pending kind n start until out choice)
+    (processor-at (m .table) t (processor-in r)) (copyout-at t (copyout-in r)) (copyin-at t (copyin-in r))
     (ei .stays ∙ ne-eqb _ _ ne) ep eo (ei .is (r .intask))
     ∙ simp (ne-eqb _ _ ne, ej)
 
 -- ---- b
 
-pub none-ends : (r : Registers) → r .copyin ≡ 5 → false ≡ ends (phase-in r)
-unfolding phase-in ends
+pub none-ends : (r : Registers) → r .copyin ≡ 5 → false ≡ is-over (phase-in r)
+unfolding phase-in is-over
 none-ends r e = simp (eq-eqb _ _ e)
 
-pub works : (r : Registers) → (r .copyin ≡ 5 → ⊥) → resting (processor-in r) ≡ false → false ≡ ends (phase-in r)
-unfolding phase-in interval-in ends
+pub works : (r : Registers) → (r .copyin ≡ 5 → ⊥) → resting (processor-in r) ≡ false → false ≡ is-over (phase-in r)
+unfolding phase-in interval-in is-over
 works r ne p = simp (ne-eqb _ _ ne, p)
 
-pub copies : (r : Registers) → (r .copyin ≡ 5 → ⊥) → resting (processor-in r) ≡ true → r .copyout ≡ 1 → false ≡ ends (phase-in r)
-unfolding phase-in interval-in ends
+pub copies : (r : Registers) → (r .copyin ≡ 5 → ⊥) → resting (processor-in r) ≡ true → r .copyout ≡ 1 → false ≡ is-over (phase-in r)
+unfolding phase-in interval-in is-over
 copies r ne p o = simp (ne-eqb _ _ ne, p, o)
 
-pub ends-settled : (r : Registers) (x : Bool) → (r .copyin ≡ 5 → ⊥) → resting (processor-in r) ≡ true → (r .copyout ≡ 1 → ⊥) → x ≡ settled (copyin-in r) → x ≡ ends (phase-in r)
-unfolding phase-in interval-in ends
+pub ends-settled : (r : Registers) (x : Bool) → (r .copyin ≡ 5 → ⊥) → resting (processor-in r) ≡ true → (r .copyout ≡ 1 → ⊥) → x ≡ settled (copyin-in r) → x ≡ is-over (phase-in r)
+unfolding phase-in interval-in is-over
 ends-settled r x ne p o s =
     simp (ne-eqb _ _ ne, p, not-copying-out (r .copyout) (r .outtask) (r .outstart) (r .outuntil) (ne-eqb _ _ o), s)
 
@@ -91,29 +91,29 @@ pub entry-by : (r : Registers) (t p fate : ℕ) (task copiedout chosen promoted 
 unfolding interval-in entry-with
 entry-by r t p fate task copiedout chosen promoted a b c d e = simp (a, b, c, d, e)
 
-pub closed-by : (table : Table) (clock : Clock) (release blocked : List ℕ) (r : Registers) (p : MaybeTask) (out ready work n : ℕ)
+pub closed-by : (m : Memory) (r : Registers) (p : MaybeTask) (out ready work n : ℕ)
     → as-outgoing out (r .task) (r .start) ≡ awaiting-copyout (processor-in r) → ready ≡ without-promoted (r .ready) p → as-next work n ≡ next-of (copyin-in r) p
-    → whole table clock release blocked (record { marked = r .marked; pending = r .pending; ready = ready; candidates = r .candidates; begin = r .begin; start = r .start; until = r .until; outstart = r .start; outuntil = r .outuntil; inuntil = r .inuntil; half = r .half; work = work; processor = r .processor; task = n; copyout = out; outtask = r .task; copyin = 5; intask = r .intask }) ≡ closed-with (whole table clock release blocked r) (interval-in r) p
-unfolding whole phase-in interval-in closed-with
-closed-by table clock release blocked r p out ready work n o a b = simp (a, b, o)
+    → state-in m (record { marked = r .marked; pending = r .pending; ready = ready; candidates = r .candidates; begin = r .begin; start = r .start; until = r .until; outstart = r .start; outuntil = r .outuntil; inuntil = r .inuntil; half = r .half; work = work; processor = r .processor; task = n; copyout = out; outtask = r .task; copyin = 5; intask = r .intask }) ≡ closed-with (state-in m r) (interval-in r) p
+unfolding state-in phase-in interval-in closed-with
+closed-by m r p out ready work n o a b = simp (a, b, o)
 
 -- ---- c
 
-pub taken-with : (table : Table) (clock : Clock) (release blocked : List ℕ) (r : Registers) (t new pending ready marked candidates : ℕ)
+pub taken-with : (m : Memory) (r : Registers) (t new pending ready marked candidates : ℕ)
     → pending ≡ union (r .pending) new → ready ≡ union (r .ready) new → marked ≡ intersection new (r .marked) → candidates ≡ union (r .candidates) marked
-    → whole table clock (stamped new t 0 release) (stamped new 0 0 blocked) (record { marked = r .marked; pending = pending; ready = ready; candidates = candidates; begin = r .begin; start = r .start; until = r .until; outstart = r .outstart; outuntil = r .outuntil; inuntil = r .inuntil; half = r .half; work = r .work; processor = r .processor; task = r .task; copyout = r .copyout; outtask = r .outtask; copyin = r .copyin; intask = r .intask }) ≡ step-c (whole table clock release blocked r) t new
-unfolding whole phase-in interval-in step-c with-candidates
-taken-with table clock release blocked r t new pending ready marked candidates a b m c =
-    by-test (eqb (r .copyin) 5) (λ e. simp (e, a, b)) (λ e. simp (e, a, b, c, m))
+    → state-in (with-arrays m (taken-arrays new t (m .arrays))) (record { marked = r .marked; pending = pending; ready = ready; candidates = candidates; begin = r .begin; start = r .start; until = r .until; outstart = r .outstart; outuntil = r .outuntil; inuntil = r .inuntil; half = r .half; work = r .work; processor = r .processor; task = r .task; copyout = r .copyout; outtask = r .outtask; copyin = r .copyin; intask = r .intask }) ≡ step-c (state-in m r) t new
+unfolding state-in phase-in interval-in step-c with-candidates
+taken-with m r t new pending ready marked candidates a b k c =
+    by-test (eqb (r .copyin) 5) (λ e. simp (e, a, b)) (λ e. simp (e, a, b, c, k))
 
 -- ---- g
 
-pub begun-with : (table : Table) (clock : Clock) (release blocked : List ℕ) (r : Registers) (t new kind until out outuntil half work candidates : ℕ)
-    → as-processor kind (r .task) t until ≡ begin-processor table t (as-next (r .work) (r .task))
-    → as-copyout out (r .outtask) (r .outstart) outuntil ≡ begin-copyout table t (as-outgoing (r .copyout) (r .outtask) (r .outstart))
+pub begun-with : (m : Memory) (r : Registers) (t new kind until out outuntil half work candidates : ℕ)
+    → as-processor kind (r .task) t until ≡ begin-processor (m .table) t (as-next (r .work) (r .task))
+    → as-copyout out (r .outtask) (r .outstart) outuntil ≡ begin-copyout (m .table) t (as-outgoing (r .copyout) (r .outtask) (r .outstart))
     → half ≡ 1 - r .half
     → work ≡ work-of (as-next (r .work) (r .task))
     → candidates ≡ intersection new (r .marked)
-    → whole table clock release blocked (record { marked = r .marked; pending = r .pending; ready = r .ready; candidates = candidates; begin = t; start = t; until = until; outstart = r .outstart; outuntil = outuntil; inuntil = r .inuntil; half = half; work = work; processor = kind; task = r .task; copyout = out; outtask = r .outtask; copyin = 0; intask = r .intask }) ≡ begin (whole table clock release blocked r) t new (as-next (r .work) (r .task)) (as-outgoing (r .copyout) (r .outtask) (r .outstart))
-unfolding whole phase-in interval-in begin
-begun-with table clock release blocked r t new kind until out outuntil half work candidates p o h x c = simp (p, o, h, x, c)
+    → state-in m (record { marked = r .marked; pending = r .pending; ready = r .ready; candidates = candidates; begin = t; start = t; until = until; outstart = r .outstart; outuntil = outuntil; inuntil = r .inuntil; half = half; work = work; processor = kind; task = r .task; copyout = out; outtask = r .outtask; copyin = 0; intask = r .intask }) ≡ begin (state-in m r) t new (as-next (r .work) (r .task)) (as-outgoing (r .copyout) (r .outtask) (r .outstart))
+unfolding state-in phase-in interval-in begin
+begun-with m r t new kind until out outuntil half work candidates p o h x c = simp (p, o, h, x, c)

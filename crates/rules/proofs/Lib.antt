@@ -2,6 +2,8 @@ pub mod Members
 pub mod ByTask
 pub mod Parts
 pub mod Fields
-pub mod Turning
-pub mod Testing
+pub mod BySteps
+pub mod ClosingTest
 pub mod Ticks
+pub mod Numbers
+pub mod Cut

@@ -5,7 +5,7 @@ use native.Mathlib.Nat.{lt-of-lt-of-le}
 use borrow.Author.Tests.{ltb-true, ltb-false, eqb-true, eq-eqb, ne-eqb}
 use lib.Dec.{eqb, ltb}
 use Rattle.sets.specs.Sets.{member, remove, lowest}
-use Rattle.sets.specs.Laws.{by-test, clash, removed, remove-small, remove-out, remove-other, none, none-past, lowest-most, lowest-member, lowest-first, lowest-least, lowest-task}
+use Rattle.sets.proofs.Laws.{by-test, clash, removed, remove-small, remove-out, remove-other, none, none-past, lowest-most, lowest-member, lowest-first, lowest-least, lowest-task}
 
 -- what a loop has left: from the lowest task left on, the tasks of the set
 pub record Left (set left : ℕ) : Type 0 where

@@ -1,25 +1,18 @@
 -- What stands in numbers, by its kind, where the code tests fewer kinds than there are.
-use Rattle.rules.specs.Types.{List, true, false, not, ℕ, _≤_, _<_, _≡_, ap, _∙_, Table, Jobs, Registers, Clock, Done, CopyingIn, Executing, Finished, CopyingOut, Outgoing, Task, NoTask, NoneNext, NoneOutgoing, NoJob, Job}
+use Rattle.rules.specs.Types.{List, true, false, not, ℕ, _≡_, ap, _∙_, Table, Jobs, Registers, Done, CopyingIn, Executing, Finished, CopyingOut, Outgoing, Task, NoTask, NoneNext, NoneOutgoing, NoJob, Job}
 use native.Mathlib.Omega.{arith}
 use borrow.Author.Tests.{eqb-true, eqb-false, eq-eqb, ne-eqb}
 use lib.Dec.{eqb}
 use lib.ListN.{getD}
-use Rattle.sets.specs.Laws.{by-test}
+use Rattle.table.specs.Table.{copyin-length, execution-length, copyout-length}
+use Rattle.sets.proofs.Laws.{by-test}
 use Rattle.rules.specs.With.{later}
-use Rattle.rules.specs.Instant.{processor-at, copyout-at, copyin-at, completed, step-a, resting, copying-out, settled, waiting, processor-task, copyout-task, copyin-task, copyin-fate, awaiting-copyout, next-of, wanted, begin-processor, begin-copyout}
-use Rattle.rules.specs.Apart.{as-processor, as-copyout, as-copyin, as-next, as-outgoing, copyout-in, phase-in, interval-in, whole}
-
--- ---- Tests
-
-pub past : (kind k : ℕ) → 3 ≤ kind → k < 3 → eqb kind k ≡ false
-past kind k l h = ne-eqb kind k (λ e. omega (arith, e, l, h))
-
-pub third : (kind : ℕ) → kind < 3 → eqb kind 0 ≡ false → eqb kind 1 ≡ false → eqb kind 2 ≡ true
-third kind l e f = eq-eqb kind 2 (omega (arith, l, eqb-false kind 0 e, eqb-false kind 1 f))
+use Rattle.rules.specs.Instant.{processor-at, copyout-at, copyin-at, completed, step-a, resting, copying-out, settled, awaiting-execution, processor-task, copyout-task, copyin-task, copyin-fate, awaiting-copyout, next-of, wanted, begin-processor, begin-copyout}
+use Rattle.rules.specs.Registers.{as-processor, as-copyout, as-copyin, as-next, as-outgoing, copyout-in, phase-in, interval-in, Memory, state-in}
 
 -- ---- a
 
--- before its phase ends
+-- before its phase is-over
 pub processor-stays : (table : Table) (t kind n start until : ℕ) → (until ≡ t → ⊥) → as-processor kind n start until ≡ processor-at table t (as-processor kind n start until)
 unfolding processor-at
 processor-stays table t kind n start until ne =
@@ -36,14 +29,14 @@ pub processor-rests : (table : Table) (t kind n start until : ℕ) → eqb kind 
 unfolding processor-at
 processor-rests table t kind n start until f g = by-test (eqb kind 0) (λ e. simp e) (λ e. simp (e, f, g))
 
--- its own copy-in ends
-pub processor-copied : (table : Table) (execution : List ℕ) (t kind n start until length later-on : ℕ)
-    → until ≡ t → kind ≡ 1 → length ≡ getD execution n 0 → later-on ≡ later t length → table .execution ≡ execution
+-- its own copy-in is-over
+pub processor-copied : (table : Table) (columns : List ℕ) (t kind n start until length later-on : ℕ)
+    → until ≡ t → kind ≡ 1 → length ≡ execution-length columns n → later-on ≡ later t length → table .columns ≡ columns
     → Executing n t later-on ≡ processor-at table t (as-processor kind n start until)
 unfolding processor-at
-processor-copied table execution t kind n start until length later-on e k l u same = simp (k, eq-eqb _ _ e, u, l, same)
+processor-copied table columns t kind n start until length later-on e k l u same = simp (k, eq-eqb _ _ e, u, l, same)
 
--- its execution ends
+-- its execution is-over
 pub processor-executed : (table : Table) (t kind n start until : ℕ) → until ≡ t → kind ≡ 2 → Finished n start ≡ processor-at table t (as-processor kind n start until)
 unfolding processor-at
 processor-executed table t kind n start until e k = simp (k, eq-eqb _ _ e)
@@ -74,17 +67,17 @@ pub nothing-completed : (j : Jobs) (t kind n start until : ℕ) → eqb kind 1 �
 unfolding completed
 nothing-completed j t kind n start until f = by-test (eqb kind 0) (λ e. simp e) (λ e. simp (e, f))
 
-pub none-completed : (table : Table) (clock : Clock) (release blocked : List ℕ) (r : Registers) (t : ℕ)
-    → r .copyin ≡ 5 → NoJob ≡ step-a (whole table clock release blocked r) t (phase-in r) .done
-unfolding whole phase-in interval-in step-a
-none-completed table clock release blocked r t e = simp (eq-eqb _ _ e)
+pub none-completed : (m : Memory) (r : Registers) (t : ℕ)
+    → r .copyin ≡ 5 → NoJob ≡ step-a (state-in m r) t (phase-in r) .done
+unfolding state-in phase-in interval-in step-a
+none-completed m r t e = simp (eq-eqb _ _ e)
 
-pub is-completed : (table : Table) (clock : Clock) (release blocked : List ℕ) (r : Registers) (t : ℕ) (x : Done)
+pub is-completed : (m : Memory) (r : Registers) (t : ℕ) (x : Done)
     → (r .copyin ≡ 5 → ⊥)
-    → x ≡ completed (record { pending = r .pending; ready = r .ready; release = release; blocked = blocked }) t (copyout-in r)
-    → x ≡ step-a (whole table clock release blocked r) t (phase-in r) .done
-unfolding whole phase-in interval-in step-a
-is-completed table clock release blocked r t x ne e = simp (ne-eqb _ _ ne, e)
+    → x ≡ completed (record { pending = r .pending; ready = r .ready; release = m .arrays .release; blocked = m .arrays .blocked }) t (copyout-in r)
+    → x ≡ step-a (state-in m r) t (phase-in r) .done
+unfolding state-in phase-in interval-in step-a
+is-completed m r t x ne e = simp (ne-eqb _ _ ne, e)
 
 -- ---- b
 
@@ -105,7 +98,7 @@ settles kind n until e =
 pub not-copying-out : (kind n start until : ℕ) → eqb kind 1 ≡ false → copying-out (as-copyout kind n start until) ≡ false
 not-copying-out kind n start until f = by-test (eqb kind 0) (λ e. simp e) (λ e. simp (e, f))
 
-pub waits : (kind n until ready : ℕ) → eqb kind 3 ≡ false → ready ≡ waiting (as-copyin kind n until) ready
+pub waits : (kind n until ready : ℕ) → eqb kind 3 ≡ false → ready ≡ awaiting-execution (as-copyin kind n until) ready
 waits kind n until ready h =
     by-test (eqb kind 0)
     (λ e. simp e)
@@ -123,18 +116,6 @@ copies-out kind n start until e = by-test (eqb kind 1) (λ f. simp (e, f)) (λ f
 pub copies-in : (kind n until : ℕ) → eqb kind 0 ≡ false → eqb kind 1 ≡ false → Task n ≡ copyin-task (as-copyin kind n until)
 copies-in kind n until e f =
     by-test (eqb kind 2) (λ g. simp (e, f, g)) (λ g. by-test (eqb kind 3) (λ h. simp (e, f, g, h)) (λ h. simp (e, f, g, h)))
-
-pub no-fate : (kind n until : ℕ) → kind < 3 → 0 ≡ copyin-fate (as-copyin kind n until)
-no-fate kind n until l =
-    by-test (eqb kind 0)
-    (λ e. simp e)
-    (λ e. by-test (eqb kind 1) (λ f. simp (e, f)) (λ f. simp (e, f, third kind l e f)))
-
-pub none-awaits : (kind n start until : ℕ) → kind < 3 → NoneOutgoing ≡ awaiting-copyout (as-processor kind n start until)
-none-awaits kind n start until l =
-    by-test (eqb kind 0)
-    (λ e. simp e)
-    (λ e. by-test (eqb kind 1) (λ f. simp (e, f)) (λ f. simp (e, f, third kind l e f)))
 
 pub none-next : (kind n until : ℕ) → eqb kind 3 ≡ false → NoneNext ≡ next-of (as-copyin kind n until) NoTask
 none-next kind n until h =
@@ -166,17 +147,17 @@ module _ (work n kind m start ready : ℕ) where
       (λ e. simp (e, f, g))
       (λ e. ap not e ∙ wanted-next work n ready (as-outgoing kind m start) e)
 
-pub loaded-begins : (table : Table) (execution : List ℕ) (t work n length until : ℕ)
-    → work ≡ 1 → length ≡ getD execution n 0 → until ≡ later t length → table .execution ≡ execution
+pub loaded-begins : (table : Table) (columns : List ℕ) (t work n length until : ℕ)
+    → work ≡ 1 → length ≡ execution-length columns n → until ≡ later t length → table .columns ≡ columns
     → Executing n t until ≡ begin-processor table t (as-next work n)
-loaded-begins table execution t work n length until k l u same = simp (k, u, l, same)
+loaded-begins table columns t work n length until k l u same = simp (k, u, l, same)
 
-pub promoted-begins : (table : Table) (copyin : List ℕ) (t work n length until : ℕ)
-    → eqb work 0 ≡ false → eqb work 1 ≡ false → length ≡ getD copyin n 0 → until ≡ later t length → table .copyin ≡ copyin
+pub promoted-begins : (table : Table) (columns : List ℕ) (t work n length until : ℕ)
+    → eqb work 0 ≡ false → eqb work 1 ≡ false → length ≡ copyin-length columns n → until ≡ later t length → table .columns ≡ columns
     → CopyingIn n until ≡ begin-processor table t (as-next work n)
-promoted-begins table copyin t work n length until e f l u same = simp (e, f, u, l, same)
+promoted-begins table columns t work n length until e f l u same = simp (e, f, u, l, same)
 
-pub copyout-begins : (table : Table) (copyout : List ℕ) (t kind n start length until : ℕ)
-    → eqb kind 0 ≡ false → length ≡ getD copyout n 0 → until ≡ later t length → table .copyout ≡ copyout
+pub copyout-begins : (table : Table) (columns : List ℕ) (t kind n start length until : ℕ)
+    → eqb kind 0 ≡ false → length ≡ copyout-length columns n → until ≡ later t length → table .columns ≡ columns
     → CopyingOut n start until ≡ begin-copyout table t (as-outgoing kind n start)
-copyout-begins table copyout t kind n start length until e l u same = simp (e, u, l, same)
+copyout-begins table columns t kind n start length until e l u same = simp (e, u, l, same)

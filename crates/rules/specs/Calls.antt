@@ -1,10 +1,10 @@
 -- The dispatcher by instants, over its state: opening from the task entries, an instant and a mark call, each with its refusals in their
 -- order. A refused call hands the state back as it was.
-use Rattle.rules.specs.Types.{Bool, false, cond, not, _&&_, List, ℕ, Table, Clock, Unset, At, NoneNext, NoneOutgoing, Between, State, Due, Never, Tick, Answer, Refused, Served, MarkAnswer, MarkRefused, MarkServed, Refusal, NoRefusal, Alone, AtEntry, Tasks}
+use Rattle.rules.specs.Types.{Bool, false, cond, not, _&&_, List, ℕ, Table, Clock, Unset, At, NoneNext, NoneOutgoing, Between, State, Call, Instant, Mark, Due, Never, Tick, Answer, Refused, Served, MarkAnswer, MarkRefused, MarkServed, Refusal, NoRefusal, Alone, AtEntry, TaskPart}
 use lib.Dec.{ltb, leb, eqb}
 use lib.ListN.{length, replicate}
 use Rattle.sets.specs.Sets.{member, difference, insert, remove}
-use Rattle.table.specs.Tasks.{tasks-of, no-table}
+use Rattle.table.specs.TaskPart.{task-part, no-table}
 use Rattle.rules.specs.Instant.{at-g, occurred, due}
 
 -- ---- What a call hands back: the next state, and what it says
@@ -39,13 +39,13 @@ abbrev pub not-opened : Refusal → Opening
 not-opened r = record { state = opened no-table 0; refusal = r }
 
 -- past the task entries there is nothing, or an entry that is no task's
-abbrev pub opened-behind : Tasks → ℕ → Refusal → Opening
+abbrev pub opened-behind : TaskPart → ℕ → Refusal → Opening
 opened-behind k size NoRefusal = cond (eqb (k .end) size) (record { state = opened (k .table) (k .marked); refusal = NoRefusal }) (not-opened (AtEntry 2 (k .end)))
 opened-behind k size (Alone n) = not-opened (Alone n)
 opened-behind k size (AtEntry n at) = not-opened (AtEntry n at)
 
 unfoldable pub opening : List ℕ → Opening
-opening s = cond (eqb (length s) 0) (not-opened (Alone 12)) (let k : Tasks = tasks-of s in opened-behind k (length s) (k .refusal))
+opening s = cond (eqb (length s) 0) (not-opened (Alone 12)) (let k : TaskPart = task-part s in opened-behind k (length s) (k .refusal))
 
 -- ---- An instant: 16, 10, 14, 15; 0 is none.
 
@@ -99,3 +99,10 @@ unfoldable pub mark : State → ℕ → ℕ → MarkStep
 mark d n m =
     let r : ℕ = mark-refusal d n m in
     cond (eqb r 0) (record { state = with-mark d n m; answer = MarkServed }) (record { state = d; answer = MarkRefused r })
+
+-- ---- A call of either kind
+
+-- the state that a call, served or refused, hands back
+unfoldable pub after-call : State → Call → State
+after-call d (Instant t set) = instant d t set .state
+after-call d (Mark n m) = mark d n m .state

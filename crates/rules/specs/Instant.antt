@@ -2,16 +2,21 @@
 use Rattle.rules.specs.Types.{Bool, true, false, cond, not, _&&_, List, [], _∷_, ℕ, suc, _+_, _-_, min, Table, Jobs, MaybeTask, NoTask, Task, Processor, Idle, CopyingIn, Executing, Finished, CopyOut, NoCopyOut, CopyingOut, CopiedOut, CopyIn, Unchosen, NoneChosen, Copying, Loaded, Cancelled, Interval, Next, NoneNext, LoadedNext, PromotedNext, Outgoing, NoneOutgoing, AwaitsCopyOut, Phase, Between, Within, State, JobEntry, IntervalEntry, Done, NoJob, Job, Closed, NoInterval, Span, Closing, Unclosed, BeforeReleases, AfterReleases, Due, Never, Tick, Occurred, Stage}
 use lib.Dec.{eqb}
 use lib.ListN.{getD}
+use Rattle.table.specs.Table.{copyin-length, execution-length, copyout-length}
 use Rattle.sets.specs.Sets.{member, union, intersection, difference, insert, remove}
-use Rattle.rules.specs.With.{with-jobs, with-phase, with-ready, with-copyin, at-clock, later}
+use Rattle.rules.specs.With.{with-jobs, with-phase, with-ready, with-blocked, with-copyin, at-clock, later}
 use Rattle.rules.specs.Order.{highest-of, outranks, higher}
+
+-- a state in which no step has done anything yet
+abbrev pub fresh-stage : State → Stage
+fresh-stage d = record { state = d; done = NoJob; closed = NoInterval }
 
 -- ---- a. Phases that end now end. A copy-out's end completes its job.
 
 -- the processor's own copy-in is followed by the execution
 unfoldable pub processor-at : Table → ℕ → Processor → Processor
 processor-at table t Idle = Idle
-processor-at table t (CopyingIn n until) = cond (eqb until t) (Executing n t (later t (getD (table .execution) n 0))) (CopyingIn n until)
+processor-at table t (CopyingIn n until) = cond (eqb until t) (Executing n t (later t (execution-length (table .columns) n))) (CopyingIn n until)
 processor-at table t (Executing n start until) = cond (eqb until t) (Finished n start) (Executing n start until)
 processor-at table t (Finished n start) = Finished n start
 
@@ -55,7 +60,7 @@ unfoldable pub without-done : Jobs → Done → Jobs
 without-done j done = record { pending = after-done (j .pending) done; ready = j .ready; release = j .release; blocked = j .blocked }
 
 unfoldable pub step-a : State → ℕ → Phase → Stage
-step-a d t (Between next outgoing) = record { state = d; done = NoJob; closed = NoInterval }
+step-a d t (Between next outgoing) = fresh-stage d
 step-a d t (Within i) =
     let done : Done = completed (d .jobs) t (i .copyout) in
     record { state = with-phase (with-jobs d (without-done (d .jobs) done)) (Within (ended (d .table) t i)); done = done; closed = NoInterval }
@@ -84,6 +89,11 @@ settled (Cancelled n) = true
 -- R6: both units are at their ends
 abbrev pub over : Interval → Bool
 over i = resting (i .processor) && (not (copying-out (i .copyout)) && settled (i .copyin))
+
+-- an interval is open and at its end
+unfoldable pub is-over : Phase → Bool
+is-over (Between next outgoing) = false
+is-over (Within i) = over i
 
 abbrev pub processor-task : Processor → MaybeTask
 processor-task Idle = NoTask
@@ -140,47 +150,55 @@ awaiting-copyout (Executing n start until) = NoneOutgoing
 awaiting-copyout (Finished n start) = AwaitsCopyOut n start
 
 -- the jobs released in the interval or before it that a later one executes
-abbrev pub waiting : CopyIn → ℕ → ℕ
-waiting Unchosen ready = ready
-waiting NoneChosen ready = ready
-waiting (Copying n until) ready = ready
-waiting (Loaded n) ready = insert n ready
-waiting (Cancelled n) ready = ready
+abbrev pub awaiting-execution : CopyIn → ℕ → ℕ
+awaiting-execution Unchosen ready = ready
+awaiting-execution NoneChosen ready = ready
+awaiting-execution (Copying n until) ready = ready
+awaiting-execution (Loaded n) ready = insert n ready
+awaiting-execution (Cancelled n) ready = ready
 
 -- blocked: such a job, where the processor executes a lower-priority one in the interval
 unfoldable pub blocks : State → Interval → ℕ
-blocks d i = higher d (processor-task (i .processor)) (waiting (i .copyin) (d .jobs .ready))
+blocks d i = higher d (processor-task (i .processor)) (awaiting-execution (i .copyin) (d .jobs .ready))
 
 -- one interval more for each task of a set, from task k on
 unfoldable pub counted : ℕ → ℕ → List ℕ → List ℕ
 counted s k [] = []
 counted s k (x ∷ xs) = cond (member k s) (min (x + 1) 255) x ∷ counted s (suc k) xs
 
-unfoldable pub close : State → Interval → State
-unfolding counted
-close d i =
-    let p : MaybeTask = promoted d i (i .copyin) in
+-- the state after an interval that ends, where the blocked intervals are counted already
+unfoldable pub closed-with : State → Interval → MaybeTask → State
+closed-with d i p =
     with-phase
     (with-jobs d (record {
       pending = d .jobs .pending;
       ready = without-promoted (d .jobs .ready) p;
       release = d .jobs .release;
-      blocked = counted (blocks d i) 0 (d .jobs .blocked);
+      blocked = d .jobs .blocked;
     }))
     (Between (next-of (i .copyin) p) (awaiting-copyout (i .processor)))
 
-unfoldable pub interval-entry : State → ℕ → Interval → IntervalEntry
-interval-entry d t i = record {
+unfoldable pub close : State → Interval → State
+unfolding counted closed-with
+close d i = closed-with (with-blocked d (counted (blocks d i) 0 (d .jobs .blocked))) i (promoted d i (i .copyin))
+
+-- what is recorded of an interval that ends: its half, its end and the task promoted
+unfoldable pub entry-with : ℕ → ℕ → Interval → MaybeTask → IntervalEntry
+entry-with half t i p = record {
   begin = i .begin;
   end = t;
-  half = d .half;
+  half = half;
   task = processor-task (i .processor);
   work = i .work;
   copiedout = copyout-task (i .copyout);
   chosen = copyin-task (i .copyin);
   fate = copyin-fate (i .copyin);
-  promoted = promoted d i (i .copyin);
+  promoted = p;
 }
+
+unfoldable pub interval-entry : State → ℕ → Interval → IntervalEntry
+unfolding entry-with
+interval-entry d t i = entry-with (d .half) t i (promoted d i (i .copyin))
 
 unfoldable pub close-stage : Stage → ℕ → Interval → Bool → Stage
 close-stage s t i false = s
@@ -258,7 +276,7 @@ step-d d new (Within i) = cancel-by d new i (i .copyin)
 unfoldable pub choose : State → ℕ → Interval → MaybeTask → State
 choose d t i NoTask = with-phase d (Within (with-copyin i NoneChosen))
 choose d t i (Task n) =
-    with-phase (with-ready d (remove n (d .jobs .ready))) (Within (with-copyin i (Copying n (later t (getD (d .table .copyin) n 0)))))
+    with-phase (with-ready d (remove n (d .jobs .ready))) (Within (with-copyin i (Copying n (later t (copyin-length (d .table .columns) n)))))
 
 unfoldable pub choose-if : State → ℕ → Interval → CopyIn → State
 choose-if d t i Unchosen = cond (copying-out (i .copyout)) d (choose d t i (highest-of d (d .jobs .ready)))
@@ -273,6 +291,27 @@ step-e d t (Within i) = choose-if d t i (i .copyin)
 
 -- ---- f. The test of step b again.
 
+abbrev pub step-f : State → ℕ → Stage
+step-f d t = step-b (fresh-stage d) t (d .phase)
+
+-- ---- Steps c to f
+
+-- steps c and d, with the tasks whose release is taken
+unfoldable pub steps-c-d : State → ℕ → ℕ → State
+steps-c-d d t new =
+    let c : State = step-c d t new in
+    step-d c new (c .phase)
+
+unfoldable pub steps-c-to-e : State → ℕ → ℕ → State
+unfolding steps-c-d
+steps-c-to-e d t new =
+    let x : State = steps-c-d d t new in
+    step-e x t (x .phase)
+
+-- what they leave, and the interval that ends at step f
+unfoldable pub steps-c-to-f : State → ℕ → ℕ → Stage
+steps-c-to-f d t new = step-f (steps-c-to-e d t new) t
+
 -- ---- g. If no interval is open and some job is loaded, promoted, ready or waiting for copy-out, an interval begins.
 
 abbrev pub wanted : Next → Outgoing → ℕ → Bool
@@ -284,8 +323,8 @@ wanted (PromotedNext n) l ready = true
 -- R5: the processor copies in and then executes the promoted job; else it executes the loaded one; else it idles
 abbrev pub begin-processor : Table → ℕ → Next → Processor
 begin-processor table t NoneNext = Idle
-begin-processor table t (LoadedNext n) = Executing n t (later t (getD (table .execution) n 0))
-begin-processor table t (PromotedNext n) = CopyingIn n (later t (getD (table .copyin) n 0))
+begin-processor table t (LoadedNext n) = Executing n t (later t (execution-length (table .columns) n))
+begin-processor table t (PromotedNext n) = CopyingIn n (later t (copyin-length (table .columns) n))
 
 -- 0 idle, 1 execute, 2 copy in and execute
 abbrev pub work-of : Next → ℕ
@@ -296,7 +335,7 @@ work-of (PromotedNext n) = 2
 -- R2: the engine copies out the job executed in the interval before
 abbrev pub begin-copyout : Table → ℕ → Outgoing → CopyOut
 begin-copyout table t NoneOutgoing = NoCopyOut
-begin-copyout table t (AwaitsCopyOut n start) = CopyingOut n start (later t (getD (table .copyout) n 0))
+begin-copyout table t (AwaitsCopyOut n start) = CopyingOut n start (later t (copyout-length (table .columns) n))
 
 -- R1: the halves swap
 unfoldable pub begin : State → ℕ → ℕ → Next → Outgoing → State
@@ -366,17 +405,11 @@ unfoldable pub new-at : State → ℕ → ℕ → ℕ
 new-at d t set = taken (at-b d t .state) set
 
 unfoldable pub at-e : State → ℕ → ℕ → State
-at-e d t set =
-    let new : ℕ = new-at d t set in
-    let c : State = step-c (at-b d t .state) t new in
-    let x : State = step-d c new (c .phase) in
-    step-e x t (x .phase)
+unfolding steps-c-to-e
+at-e d t set = steps-c-to-e (at-b d t .state) t (new-at d t set)
 
 unfoldable pub at-f : State → ℕ → ℕ → Stage
-at-f d t set =
-    let b : Stage = at-b d t in
-    let e : State = at-e d t set in
-    step-b (record { state = e; done = b .done; closed = b .closed }) t (e .phase)
+at-f d t set = step-f (at-e d t set) t
 
 unfoldable pub at-g : State → ℕ → ℕ → State
 at-g d t set =

@@ -1,8 +1,10 @@
+pub mod State
 pub mod Types
 pub mod With
 pub mod Order
 pub mod Instant
-pub mod Apart
+pub mod Registers
 pub mod Calls
+pub mod Cut
 pub mod Steps
 pub mod Answers

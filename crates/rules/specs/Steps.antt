@@ -1,12 +1,11 @@
--- What each function over the state taken apart promises: read back, its outcome is that of the rules, whatever stands in the parts
--- that it is not handed.
-use Rattle.rules.specs.Types.{Bool, List, ℕ, _-_, _^_, _≤_, _≡_, _⊎_, Table, Clock, Unset, MaybeTask, State, Done, Closed, Due, Never, Tick, Stage, Registers, Unit}
+-- What each function over the registers promises: read back, its outcome is that of the rules, whatever stands in the memory that it is
+-- not handed.
+use Rattle.rules.specs.Types.{Bool, List, ℕ, _-_, _^_, _≤_, _≡_, _⊎_, Table, MaybeTask, State, Done, Closed, Due, Never, Tick, Stage, Registers, Unit}
 use lib.Dec.{eqb}
-use lib.ListN.{replicate}
 use Rattle.rules.specs.Order.{outranks}
-use Rattle.rules.specs.Instant.{processor-at, copyin-at, step-a, resting, settled, blocks, promoted, processor-task, copyout-task, copyin-task, copyin-fate, without-promoted, next-of, awaiting-copyout, counted, stamped, step-c, step-d, step-e, begin-processor, begin-copyout, begin, step-g, processor-due, copyout-due, copyin-due}
+use Rattle.rules.specs.Instant.{processor-at, copyin-at, step-a, resting, settled, blocks, promoted, processor-task, copyout-task, copyin-task, copyin-fate, without-promoted, next-of, awaiting-copyout, counted, closed-with, stamped, step-c, step-d, steps-c-d, step-e, begin-processor, begin-copyout, begin, step-g, processor-due, copyout-due, copyin-due}
 use Rattle.rules.specs.Calls.{opened}
-use Rattle.rules.specs.Apart.{as-task, as-processor, as-copyout, as-copyin, as-next, as-outgoing, copyin-in, interval-in, phase-in, whole, closed-with, with-releases}
+use Rattle.rules.specs.Registers.{as-task, as-processor, as-copyout, as-copyin, as-next, as-outgoing, copyin-in, interval-in, phase-in, Arrays, arrays, Memory, with-arrays, first-memory, state-in}
 
 -- ---- Order
 
@@ -16,8 +15,8 @@ Outranks priority by n x = (d : State) → d .table .priority ≡ priority → x
 -- ---- a
 
 abbrev pub ProcessorAt : List ℕ → ℕ → Unit → Unit → Type 0
-ProcessorAt execution t p x =
-    (table : Table) → table .execution ≡ execution
+ProcessorAt columns t p x =
+    (table : Table) → table .columns ≡ columns
     → as-processor (x .kind) (x .task) (x .start) (x .until) ≡ processor-at table t (as-processor (p .kind) (p .task) (p .start) (p .until))
 
 -- and an open interval stays open
@@ -25,13 +24,13 @@ pub record CopyInAt (kind until t x : ℕ) : Type 0 where
   pub is : (n : ℕ) → as-copyin x n until ≡ copyin-at t (as-copyin kind n until)
   pub stays : eqb x 5 ≡ eqb kind 5
 
-abbrev pub Completed : Registers → ℕ → List ℕ → List ℕ → Done → Type 0
-Completed r t release blocked x = (table : Table) (clock : Clock) → x ≡ step-a (whole table clock release blocked r) t (phase-in r) .done
+abbrev pub Completed : Registers → ℕ → Arrays → Done → Type 0
+Completed r t a x = (m : Memory) → x ≡ step-a (state-in (with-arrays m a) r) t (phase-in r) .done
 
 abbrev pub Ended : Registers → ℕ → List ℕ → Registers → Type 0
-Ended r t execution x =
-    (table : Table) (clock : Clock) (release blocked : List ℕ) → table .execution ≡ execution
-    → whole table clock release blocked x ≡ step-a (whole table clock release blocked r) t (phase-in r) .state
+Ended r t columns x =
+    (m : Memory) → m .table .columns ≡ columns
+    → state-in m x ≡ step-a (state-in m r) t (phase-in r) .state
 
 -- ---- b
 
@@ -44,13 +43,13 @@ Settled kind x = (n until : ℕ) → x ≡ settled (as-copyin kind n until)
 -- one more for each job that the interval blocks
 abbrev pub CountsBlocked : Registers → List ℕ → List ℕ → List ℕ → Type 0
 CountsBlocked r priority before after =
-    (table : Table) (clock : Clock) (release blocked : List ℕ) → table .priority ≡ priority
-    → after ≡ counted (blocks (whole table clock release blocked r) (interval-in r)) 0 before
+    (m : Memory) → m .table .priority ≡ priority
+    → after ≡ counted (blocks (state-in m r) (interval-in r)) 0 before
 
 abbrev pub Promoted : Registers → List ℕ → ℕ → Type 0
 Promoted r priority x =
-    (table : Table) (clock : Clock) (release blocked : List ℕ) → table .priority ≡ priority
-    → as-task x ≡ promoted (whole table clock release blocked r) (interval-in r) (copyin-in r)
+    (m : Memory) → m .table .priority ≡ priority
+    → as-task x ≡ promoted (state-in m r) (interval-in r) (copyin-in r)
 
 abbrev pub ProcessorTask : ℕ → ℕ → MaybeTask → Type 0
 ProcessorTask kind n x = (start until : ℕ) → x ≡ processor-task (as-processor kind n start until)
@@ -69,70 +68,74 @@ AwaitingCopyOut kind x = (n start until : ℕ) → as-outgoing x n start ≡ awa
 
 abbrev pub BetweenWith : Registers → ℕ → ℕ → ℕ → Registers → Type 0
 BetweenWith r ready work n x =
-    (table : Table) (clock : Clock) (release blocked : List ℕ) (p : MaybeTask)
+    (m : Memory) (p : MaybeTask)
     → ready ≡ without-promoted (r .ready) p → as-next work n ≡ next-of (copyin-in r) p
-    → whole table clock release blocked x ≡ closed-with (whole table clock release blocked r) (interval-in r) p
+    → state-in m x ≡ closed-with (state-in m r) (interval-in r) p
 
 abbrev pub ClosedTo : Registers → ℕ → Registers → Type 0
 ClosedTo r p x =
-    (table : Table) (clock : Clock) (release blocked : List ℕ)
-    → whole table clock release blocked x ≡ closed-with (whole table clock release blocked r) (interval-in r) (as-task p)
+    (m : Memory)
+    → state-in m x ≡ closed-with (state-in m r) (interval-in r) (as-task p)
 
 -- after the test of steps b and f: what is left, and the interval that ended
-pub record TestedTo (s : Stage) (table : Table) (clock : Clock) (release blocked : List ℕ) (x : Registers) (closed : Closed) : Type 0 where
-  pub state : whole table clock release blocked x ≡ s .state
+pub record TestedTo (s : Stage) (m : Memory) (x : Registers) (closed : Closed) : Type 0 where
+  pub state : state-in m x ≡ s .state
   pub interval : closed ≡ s .closed
 
 -- ---- c
 
+-- the arrays after the releases of a set at a time are taken
+abbrev pub taken-arrays : ℕ → ℕ → Arrays → Arrays
+taken-arrays new t a = arrays (stamped new t 0 (a .release)) (stamped new 0 0 (a .blocked))
+
 abbrev pub Taken : Registers → ℕ → Registers → Type 0
 Taken r new x =
-    (table : Table) (clock : Clock) (release blocked : List ℕ) (t : ℕ)
-    → whole table clock (stamped new t 0 release) (stamped new 0 0 blocked) x ≡ step-c (whole table clock release blocked r) t new
+    (m : Memory) (t : ℕ)
+    → state-in (with-arrays m (taken-arrays new t (m .arrays))) x ≡ step-c (state-in m r) t new
 
 -- ---- d
 
 abbrev pub CancelledTo : Registers → ℕ → List ℕ → Registers → Type 0
 CancelledTo r new priority x =
-    (table : Table) (clock : Clock) (release blocked : List ℕ) → table .priority ≡ priority
-    → whole table clock release blocked x ≡ step-d (whole table clock release blocked r) new (phase-in r)
+    (m : Memory) → m .table .priority ≡ priority
+    → state-in m x ≡ step-d (state-in m r) new (phase-in r)
 
 -- ---- c and d
 
-abbrev pub Releases : Registers → ℕ → ℕ → List ℕ → List ℕ → List ℕ → Registers → List ℕ → List ℕ → Type 0
-Releases r t new priority release blocked x release-after blocked-after =
-    (table : Table) (clock : Clock) → table .priority ≡ priority
-    → whole table clock release-after blocked-after x ≡ with-releases (whole table clock release blocked r) t new
+abbrev pub StepsCD : Registers → ℕ → ℕ → List ℕ → Arrays → Registers → Arrays → Type 0
+StepsCD r t new priority before x after =
+    (m : Memory) → m .table .priority ≡ priority
+    → state-in (with-arrays m after) x ≡ steps-c-d (state-in (with-arrays m before) r) t new
 
 -- ---- e
 
 abbrev pub Chosen : Registers → ℕ → List ℕ → List ℕ → Registers → Type 0
-Chosen r t priority copyin x =
-    (table : Table) (clock : Clock) (release blocked : List ℕ) → table .priority ≡ priority → table .copyin ≡ copyin
-    → whole table clock release blocked x ≡ step-e (whole table clock release blocked r) t (phase-in r)
+Chosen r t priority columns x =
+    (m : Memory) → m .table .priority ≡ priority → m .table .columns ≡ columns
+    → state-in m x ≡ step-e (state-in m r) t (phase-in r)
 
 -- ---- g
 
-abbrev pub BeginProcessor : ℕ → ℕ → ℕ → List ℕ → List ℕ → Unit → Type 0
-BeginProcessor work n t copyin execution x =
-    (table : Table) → table .copyin ≡ copyin → table .execution ≡ execution
+abbrev pub BeginProcessor : ℕ → ℕ → ℕ → List ℕ → Unit → Type 0
+BeginProcessor work n t columns x =
+    (table : Table) → table .columns ≡ columns
     → as-processor (x .kind) n t (x .until) ≡ begin-processor table t (as-next work n)
 
 abbrev pub BeginCopyOut : ℕ → ℕ → ℕ → List ℕ → Unit → Type 0
-BeginCopyOut kind n t copyout x =
-    (table : Table) (start : ℕ) → table .copyout ≡ copyout
+BeginCopyOut kind n t columns x =
+    (table : Table) (start : ℕ) → table .columns ≡ columns
     → as-copyout (x .kind) n start (x .until) ≡ begin-copyout table t (as-outgoing kind n start)
 
-abbrev pub BeginAt : Registers → ℕ → ℕ → List ℕ → List ℕ → List ℕ → Registers → Type 0
-BeginAt r t new copyin execution copyout x =
-    (table : Table) (clock : Clock) (release blocked : List ℕ) → table .copyin ≡ copyin → table .execution ≡ execution → table .copyout ≡ copyout
-    → whole table clock release blocked x ≡ begin (whole table clock release blocked r) t new (as-next (r .work) (r .task)) (as-outgoing (r .copyout) (r .outtask) (r .outstart))
+abbrev pub BeginAt : Registers → ℕ → ℕ → List ℕ → Registers → Type 0
+BeginAt r t new columns x =
+    (m : Memory) → m .table .columns ≡ columns
+    → state-in m x ≡ begin (state-in m r) t new (as-next (r .work) (r .task)) (as-outgoing (r .copyout) (r .outtask) (r .outstart))
 
-abbrev pub Begun : Registers → ℕ → ℕ → List ℕ → List ℕ → List ℕ → List ℕ → Registers → Type 0
-Begun r t new priority copyin execution copyout x =
-    (table : Table) (clock : Clock) (release blocked : List ℕ)
-    → table .priority ≡ priority → table .copyin ≡ copyin → table .execution ≡ execution → table .copyout ≡ copyout
-    → whole table clock release blocked x ≡ step-g (whole table clock release blocked r) t new (phase-in r)
+abbrev pub Begun : Registers → ℕ → ℕ → List ℕ → List ℕ → Registers → Type 0
+Begun r t new priority columns x =
+    (m : Memory)
+    → m .table .priority ≡ priority → m .table .columns ≡ columns
+    → state-in m x ≡ step-g (state-in m r) t new (phase-in r)
 
 -- ---- The next due time
 
@@ -164,4 +167,4 @@ CopyInTick kind until x = (n : ℕ) → Stands x (copyin-due (as-copyin kind n u
 -- ---- At opening
 
 abbrev pub Empty : ℕ → Registers → Type 0
-Empty marked x = (table : Table) → whole table Unset (replicate 32 0) (replicate 32 0) x ≡ opened table marked
+Empty marked x = (table : Table) → state-in (first-memory table) x ≡ opened table marked

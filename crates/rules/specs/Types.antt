@@ -1,24 +1,10 @@
 -- The names that the definitions and the laws share: the declared types and their variants, and the library's.
 pub use Rattle.table.specs.declared.Table.{Table}
-pub use Rattle.rules.specs.declared.Jobs.{Jobs}
+pub use Rattle.rules.specs.State.{Jobs, Processor, Idle, CopyingIn, Executing, Finished, CopyOut, NoCopyOut, CopyingOut, CopiedOut, CopyIn, Unchosen, NoneChosen, Copying, Loaded, Cancelled, Interval, Next, NoneNext, LoadedNext, PromotedNext, Outgoing, NoneOutgoing, AwaitsCopyOut, Phase, Between, Within, State, Stage}
 pub use Rattle.rules.specs.declared.Clock.{Clock}
 pub use Rattle.rules.specs.declared.Clock.the-variants.{Unset, At}
 pub use Rattle.entries.specs.declared.MaybeTask.{MaybeTask}
 pub use Rattle.entries.specs.declared.MaybeTask.the-variants.{NoTask, Task}
-pub use Rattle.rules.specs.declared.Processor.{Processor}
-pub use Rattle.rules.specs.declared.Processor.the-variants.{Idle, CopyingIn, Executing, Finished}
-pub use Rattle.rules.specs.declared.CopyOut.{CopyOut}
-pub use Rattle.rules.specs.declared.CopyOut.the-variants.{NoCopyOut, CopyingOut, CopiedOut}
-pub use Rattle.rules.specs.declared.CopyIn.{CopyIn}
-pub use Rattle.rules.specs.declared.CopyIn.the-variants.{Unchosen, NoneChosen, Copying, Loaded, Cancelled}
-pub use Rattle.rules.specs.declared.Interval.{Interval}
-pub use Rattle.rules.specs.declared.Next.{Next}
-pub use Rattle.rules.specs.declared.Next.the-variants.{NoneNext, LoadedNext, PromotedNext}
-pub use Rattle.rules.specs.declared.Outgoing.{Outgoing}
-pub use Rattle.rules.specs.declared.Outgoing.the-variants.{NoneOutgoing, AwaitsCopyOut}
-pub use Rattle.rules.specs.declared.Phase.{Phase}
-pub use Rattle.rules.specs.declared.Phase.the-variants.{Between, Within}
-pub use Rattle.rules.specs.declared.State.{State}
 pub use Rattle.rules.specs.declared.Registers.{Registers}
 pub use Rattle.rules.specs.declared.Unit.{Unit}
 pub use Rattle.entries.specs.declared.JobEntry.{JobEntry}
@@ -29,17 +15,18 @@ pub use Rattle.rules.specs.declared.Closed.{Closed}
 pub use Rattle.rules.specs.declared.Closed.the-variants.{NoInterval, Span}
 pub use Rattle.rules.specs.declared.Closing.{Closing}
 pub use Rattle.rules.specs.declared.Closing.the-variants.{Unclosed, BeforeReleases, AfterReleases}
+pub use Rattle.rules.specs.declared.Call.{Call}
+pub use Rattle.rules.specs.declared.Call.the-variants.{Instant, Mark}
 pub use Rattle.rules.specs.declared.Due.{Due}
 pub use Rattle.rules.specs.declared.Due.the-variants.{Never, Tick}
 pub use Rattle.rules.specs.declared.Occurred.{Occurred}
 pub use Rattle.rules.specs.declared.Answer.{Answer}
 pub use Rattle.rules.specs.declared.Answer.the-variants.{Refused, Served}
-pub use Rattle.rules.specs.declared.Stage.{Stage}
 pub use Rattle.rules.specs.declared.MarkAnswer.{MarkAnswer}
 pub use Rattle.rules.specs.declared.MarkAnswer.the-variants.{MarkRefused, MarkServed}
 pub use Rattle.table.specs.declared.Refusal.{Refusal}
 pub use Rattle.table.specs.declared.Refusal.the-variants.{NoRefusal, Alone, AtEntry}
-pub use Rattle.table.specs.declared.Tasks.{Tasks}
+pub use Rattle.table.specs.declared.TaskPart.{TaskPart}
 pub use mathlib.Core.Path.{_≡_, refl, sym, ap, _∙_, subst}
 pub use mathlib.Core.Bool.{Bool, true, false, cond, not, _&&_, _||_}
 pub use mathlib.Core.List.{List, [], _∷_}

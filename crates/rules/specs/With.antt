@@ -1,5 +1,5 @@
 -- The state with one part another, and times.
-use Rattle.rules.specs.Types.{ℕ, _+_, _-_, _^_, min, Jobs, At, Interval, CopyIn, Phase, State}
+use Rattle.rules.specs.Types.{List, ℕ, _+_, _-_, _^_, min, Jobs, At, Interval, CopyIn, Phase, State}
 
 abbrev pub with-jobs : State → Jobs → State
 with-jobs d j = record { table = d .table; marked = d .marked; clock = d .clock; half = d .half; jobs = j; phase = d .phase }
@@ -10,6 +10,10 @@ with-phase d p = record { table = d .table; marked = d .marked; clock = d .clock
 -- the state with other ready jobs
 abbrev pub with-ready : State → ℕ → State
 with-ready d s = with-jobs d (record { pending = d .jobs .pending; ready = s; release = d .jobs .release; blocked = d .jobs .blocked })
+
+-- and with other counts of blocked intervals
+abbrev pub with-blocked : State → List ℕ → State
+with-blocked d b = with-jobs d (record { pending = d .jobs .pending; ready = d .jobs .ready; release = d .jobs .release; blocked = b })
 
 -- the state at an instant's time
 abbrev pub at-clock : State → ℕ → State

@@ -10,13 +10,6 @@ pub fn byte_of(values: &[u8], n: u8) -> u8
     if i < values.len() { values[i] } else { 0 }
 }
 
-pub fn length_of(values: &[u32], n: u8) -> u32
-    ensures { λ r. ⌜ r ≡ getD (now (values .entry)) n 0 ⌝ }
-{
-    let i = n as usize;
-    if i < values.len() { values[i] } else { 0 }
-}
-
 pub fn time_of(values: &[u64], n: u8) -> u64
     ensures { λ r. ⌜ r ≡ getD (now (values .entry)) n 0 ⌝ }
 {

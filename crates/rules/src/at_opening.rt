@@ -1,5 +1,6 @@
 // What an opening has beside its table.
 use crate::Registers;
+use crate::codes;
 ghost use Rattle.rules.specs.Steps.{Empty};
 
 // No task has a job, and the first interval gives the processor half 0; the arrays beside it have 0 for each task.
@@ -18,12 +19,12 @@ pub fn empty(marked: u32) -> Registers
         outuntil: 0,
         inuntil: 0,
         half: 1,
-        work: 0,
-        processor: 0,
+        work: codes::NO_WORK,
+        processor: codes::IDLE,
         task: 0,
-        copyout: 0,
+        copyout: codes::NO_COPYOUT,
         outtask: 0,
-        copyin: 5,
+        copyin: codes::NO_INTERVAL,
         intask: 0,
     }
 }

@@ -1,9 +1,10 @@
 // The next due time: when the next phase ends.
 use crate::Due;
 use crate::Registers;
+use crate::codes;
 ghost use mathlib.Core.Path.{_≡_};
 ghost use Rattle.rules.specs.Instant as instant;
-ghost use Rattle.rules.specs.Apart.{phase-in};
+ghost use Rattle.rules.specs.Registers.{phase-in};
 ghost use Rattle.rules.specs.Steps.{ProcessorDue, CopyOutDue, CopyInDue, Stands, ProcessorTick, CopyOutTick, CopyInTick};
 ghost use Prim.Native.Nat.{min};
 
@@ -27,10 +28,10 @@ pub fn sooner(a: Due, b: Due) -> Due
 fn processor_due(kind: u8, until: u64) -> Due
     ensures { λ x. ⌜ ProcessorDue kind until x ⌝ }
 {
-    if kind == 1 {
+    if kind == codes::COPYING_IN {
         return Due::Tick(until);
     }
-    if kind == 2 {
+    if kind == codes::EXECUTING {
         return Due::Tick(until);
     }
     Due::Never
@@ -39,7 +40,7 @@ fn processor_due(kind: u8, until: u64) -> Due
 fn copyout_due(kind: u8, until: u64) -> Due
     ensures { λ x. ⌜ CopyOutDue kind until x ⌝ }
 {
-    if kind != 1 {
+    if kind != codes::COPYING_OUT {
         return Due::Never;
     }
     Due::Tick(until)
@@ -48,7 +49,7 @@ fn copyout_due(kind: u8, until: u64) -> Due
 fn copyin_due(kind: u8, until: u64) -> Due
     ensures { λ x. ⌜ CopyInDue kind until x ⌝ }
 {
-    if kind == 2 {
+    if kind == codes::COPYING {
         return Due::Tick(until);
     }
     Due::Never
@@ -57,7 +58,7 @@ fn copyin_due(kind: u8, until: u64) -> Due
 pub fn due(r: Registers) -> Due
     ensures { λ x. ⌜ x ≡ instant.due (phase-in r) ⌝ }
 {
-    if r.copyin == 5 {
+    if r.copyin == codes::NO_INTERVAL {
         return Due::Never;
     }
     let engine = sooner(
@@ -80,10 +81,10 @@ pub fn least(a: u64, b: u64) -> u64
 fn processor_tick(kind: u8, until: u64) -> u64
     ensures { λ x. ⌜ ProcessorTick kind until x ⌝ }
 {
-    if kind == 2 {
+    if kind == codes::EXECUTING {
         return until;
     }
-    if kind != 1 {
+    if kind != codes::COPYING_IN {
         return u64::MAX;
     }
     until
@@ -92,7 +93,7 @@ fn processor_tick(kind: u8, until: u64) -> u64
 fn copyout_tick(kind: u8, until: u64) -> u64
     ensures { λ x. ⌜ CopyOutTick kind until x ⌝ }
 {
-    if kind != 1 {
+    if kind != codes::COPYING_OUT {
         return u64::MAX;
     }
     until
@@ -101,7 +102,7 @@ fn copyout_tick(kind: u8, until: u64) -> u64
 fn copyin_tick(kind: u8, until: u64) -> u64
     ensures { λ x. ⌜ CopyInTick kind until x ⌝ }
 {
-    if kind != 2 {
+    if kind != codes::COPYING {
         return u64::MAX;
     }
     until
@@ -111,7 +112,7 @@ fn copyin_tick(kind: u8, until: u64) -> u64
 pub fn due_tick(r: Registers) -> u64
     ensures { λ x. ⌜ Stands x (instant.due (phase-in r)) ⌝ }
 {
-    if r.copyin == 5 {
+    if r.copyin == codes::NO_INTERVAL {
         return u64::MAX;
     }
     let engine = least(

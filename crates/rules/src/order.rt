@@ -1,11 +1,12 @@
 // The order in which jobs go: by priority, where the smaller number is the higher priority.
 use crate::arrays::byte_of;
+use crate::codes::NO_TASK;
 ghost use mathlib.Core.Path.{_≡_};
 ghost use mathlib.Core.Bool.{cond};
 ghost use Prim.Native.Nat.{_+_, _<_, min};
 ghost use Rattle.rules.specs.Instant as instant;
 ghost use Rattle.rules.specs.Order as order;
-ghost use Rattle.rules.specs.Apart.{as-task};
+ghost use Rattle.rules.specs.Registers.{as-task};
 ghost use Rattle.rules.specs.Steps.{Outranks};
 
 // A byte as a wider number.
@@ -15,12 +16,12 @@ fn wide(x: u8) -> u32
     x as u32
 }
 
-// The highest-priority task of a set, 32 if there is none. The loop goes from member to member.
+// The highest-priority task of a set, NO_TASK if there is none. The loop goes from member to member.
 pub fn first(priority: &[u8; 32], set: u32) -> u8
     ensures { λ r. ⌜ as-task r ≡ order.highest (now (priority .entry)) set ⌝ }
 {
     let mut left = set;
-    let mut best: u8 = 32;
+    let mut best: u8 = NO_TASK;
     let mut least: u32 = 256;
     while left != 0 {
         let n = sets::lowest(left);
@@ -38,7 +39,7 @@ pub fn first(priority: &[u8; 32], set: u32) -> u8
 pub fn outranks(priority: &[u8; 32], by: u8, n: u8) -> bool
     ensures { λ x. ⌜ Outranks (now (priority .entry)) by n x ⌝ }
 {
-    if by < 32 {
+    if by < NO_TASK {
         return byte_of(priority, by) < byte_of(priority, n);
     }
     false

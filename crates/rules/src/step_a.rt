@@ -3,30 +3,35 @@ use crate::Done;
 use crate::Registers;
 use crate::Unit;
 use crate::arrays::byte_of;
-use crate::arrays::length_of;
 use crate::arrays::time_of;
+use crate::codes;
 use crate::times::later;
 use entries::JobEntry;
+use table::Columns;
+ghost use Rattle.rules.specs.Registers.{arrays};
 ghost use Rattle.rules.specs.Steps.{ProcessorAt, CopyInAt, Completed, Ended};
 
 // The processor's own copy-in is followed by the execution.
-fn processor_at(p: Unit, t: u64, execution: &[u32; 32]) -> Unit
-    ensures { λ x. ⌜ ProcessorAt (now (execution .entry)) t p x ⌝ }
+fn processor_at(p: Unit, t: u64, columns: &Columns) -> Unit
+    ensures { λ x. ⌜ ProcessorAt (now (columns .entry)) t p x ⌝ }
 {
     if p.until != t {
         return p;
     }
-    if p.kind == 1 {
-        let until = later(t, length_of(execution, p.task));
+    if p.kind == codes::COPYING_IN {
+        let until = later(t, table::execution_length(columns, p.task));
         return Unit {
-            kind: 2,
+            kind: codes::EXECUTING,
             start: t,
             until,
             ..p
         };
     }
-    if p.kind == 2 {
-        return Unit { kind: 3, ..p };
+    if p.kind == codes::EXECUTING {
+        return Unit {
+            kind: codes::FINISHED,
+            ..p
+        };
     }
     p
 }
@@ -34,9 +39,9 @@ fn processor_at(p: Unit, t: u64, execution: &[u32; 32]) -> Unit
 fn copyin_at(kind: u8, until: u64, t: u64) -> u8
     ensures { λ x. ⌜ CopyInAt kind until t x ⌝ }
 {
-    if kind == 2 {
+    if kind == codes::COPYING {
         if until == t {
-            return 3;
+            return codes::LOADED;
         }
     }
     kind
@@ -44,12 +49,12 @@ fn copyin_at(kind: u8, until: u64, t: u64) -> u8
 
 // The job whose copy-out ends now.
 pub fn completed(r: Registers, t: u64, release: &[u64; 32], blocked: &[u8; 32]) -> Done
-    ensures { λ x. ⌜ Completed r t (now (release .entry)) (now (blocked .entry)) x ⌝ }
+    ensures { λ x. ⌜ Completed r t (arrays (now (release .entry)) (now (blocked .entry))) x ⌝ }
 {
-    if r.copyin == 5 {
+    if r.copyin == codes::NO_INTERVAL {
         return Done::NoJob;
     }
-    if r.copyout == 1 {
+    if r.copyout == codes::COPYING_OUT {
         if r.outuntil == t {
             let entry = JobEntry {
                 task: r.outtask,
@@ -65,10 +70,10 @@ pub fn completed(r: Registers, t: u64, release: &[u64; 32], blocked: &[u8; 32]) 
 }
 
 // A job is pending until its copy-out ends.
-pub fn ended(r: Registers, t: u64, execution: &[u32; 32]) -> Registers
-    ensures { λ x. ⌜ Ended r t (now (execution .entry)) x ⌝ }
+pub fn ended(r: Registers, t: u64, columns: &Columns) -> Registers
+    ensures { λ x. ⌜ Ended r t (now (columns .entry)) x ⌝ }
 {
-    if r.copyin == 5 {
+    if r.copyin == codes::NO_INTERVAL {
         return r;
     }
     let p = processor_at(
@@ -79,10 +84,10 @@ pub fn ended(r: Registers, t: u64, execution: &[u32; 32]) -> Registers
             task: r.task,
         },
         t,
-        execution,
+        columns,
     );
     let copyin = copyin_at(r.copyin, r.inuntil, t);
-    if r.copyout == 1 {
+    if r.copyout == codes::COPYING_OUT {
         if r.outuntil == t {
             return Registers {
                 pending: sets::remove(r.pending, r.outtask),
@@ -90,7 +95,7 @@ pub fn ended(r: Registers, t: u64, execution: &[u32; 32]) -> Registers
                 task: p.task,
                 start: p.start,
                 until: p.until,
-                copyout: 2,
+                copyout: codes::COPIED_OUT,
                 copyin,
                 ..r
             };

@@ -1,55 +1,56 @@
 // b and f. If an interval is open, its processor is finished or idle, its copy-in choice has been made and no copy is under way,
 // it ends.
 use crate::Registers;
+use crate::codes;
 use crate::order::count_higher;
 use crate::order::first;
 use entries::IntervalEntry;
 use entries::MaybeTask;
 ghost use mathlib.Core.Path.{_≡_};
 ghost use Rattle.rules.specs.Instant as instant;
-ghost use Rattle.rules.specs.Apart.{as-task, copyin-in, interval-in, phase-in, ends, entry-with};
+ghost use Rattle.rules.specs.Registers.{as-task, copyin-in, interval-in, phase-in};
 ghost use Rattle.rules.specs.Steps.{Resting, Settled, CountsBlocked, Promoted, ProcessorTask, CopyOutTask, CopyInTask, CopyInFate, AwaitingCopyOut, BetweenWith, ClosedTo};
 
 fn resting(kind: u8) -> bool
     ensures { λ x. ⌜ Resting kind x ⌝ }
 {
-    if kind == 1 {
+    if kind == codes::COPYING_IN {
         return false;
     }
-    kind != 2
+    kind != codes::EXECUTING
 }
 
 // The choice has been made, and its copy is not under way.
 fn settled(kind: u8) -> bool
     ensures { λ x. ⌜ Settled kind x ⌝ }
 {
-    if kind == 0 {
+    if kind == codes::UNCHOSEN {
         return false;
     }
-    kind != 2
+    kind != codes::COPYING
 }
 
-// R6: both units are at their ends.
-pub fn over(r: Registers) -> bool
-    ensures { λ x. ⌜ x ≡ ends (phase-in r) ⌝ }
+// R6: an interval is open and both units are at their ends.
+pub fn is_over(r: Registers) -> bool
+    ensures { λ x. ⌜ x ≡ instant.is-over (phase-in r) ⌝ }
 {
-    if r.copyin == 5 {
+    if r.copyin == codes::NO_INTERVAL {
         return false;
     }
     if !resting(r.processor) {
         return false;
     }
-    if r.copyout == 1 {
+    if r.copyout == codes::COPYING_OUT {
         return false;
     }
     settled(r.copyin)
 }
 
 // The jobs released in the interval or before it that a later one executes.
-fn waiting(r: Registers) -> u32
-    ensures { λ x. ⌜ x ≡ instant.waiting (copyin-in r) (r .ready) ⌝ }
+fn awaiting_execution(r: Registers) -> u32
+    ensures { λ x. ⌜ x ≡ instant.awaiting-execution (copyin-in r) (r .ready) ⌝ }
 {
-    if r.copyin == 3 {
+    if r.copyin == codes::LOADED {
         return sets::insert(r.ready, r.intask);
     }
     r.ready
@@ -59,24 +60,24 @@ fn waiting(r: Registers) -> u32
 pub fn count_blocked(r: Registers, priority: &[u8; 32], blocked: &mut [u8; 32])
     ensures { λ _. ⌜ CountsBlocked r (now (priority .entry)) (now (blocked .entry)) (now (blocked .exit)) ⌝ }
 {
-    if r.processor != 0 {
-        count_higher(priority, r.task, waiting(r), blocked);
+    if r.processor != codes::IDLE {
+        count_higher(priority, r.task, awaiting_execution(r), blocked);
     }
 }
 
 // R4: where the copy-in was cancelled or none was chosen, the highest-priority marked job released in the interval and ready is
-// promoted. 32 is none.
+// promoted, or NO_TASK.
 pub fn promoted(r: Registers, priority: &[u8; 32]) -> u8
     ensures { λ x. ⌜ Promoted r (now (priority .entry)) x ⌝ }
 {
-    if r.copyin == 0 {
-        return 32;
+    if r.copyin == codes::UNCHOSEN {
+        return codes::NO_TASK;
     }
-    if r.copyin == 2 {
-        return 32;
+    if r.copyin == codes::COPYING {
+        return codes::NO_TASK;
     }
-    if r.copyin == 3 {
-        return 32;
+    if r.copyin == codes::LOADED {
+        return codes::NO_TASK;
     }
     first(priority, sets::intersection(r.candidates, r.ready))
 }
@@ -84,7 +85,7 @@ pub fn promoted(r: Registers, priority: &[u8; 32]) -> u8
 fn task_of(n: u8) -> MaybeTask
     ensures { λ x. ⌜ x ≡ as-task n ⌝ }
 {
-    if n < 32 {
+    if n < codes::NO_TASK {
         return MaybeTask::Task(n);
     }
     MaybeTask::NoTask
@@ -93,7 +94,7 @@ fn task_of(n: u8) -> MaybeTask
 fn processor_task(kind: u8, n: u8) -> MaybeTask
     ensures { λ x. ⌜ ProcessorTask kind n x ⌝ }
 {
-    if kind == 0 {
+    if kind == codes::IDLE {
         return MaybeTask::NoTask;
     }
     MaybeTask::Task(n)
@@ -102,7 +103,7 @@ fn processor_task(kind: u8, n: u8) -> MaybeTask
 fn copyout_task(kind: u8, n: u8) -> MaybeTask
     ensures { λ x. ⌜ CopyOutTask kind n x ⌝ }
 {
-    if kind == 0 {
+    if kind == codes::NO_COPYOUT {
         return MaybeTask::NoTask;
     }
     MaybeTask::Task(n)
@@ -111,30 +112,35 @@ fn copyout_task(kind: u8, n: u8) -> MaybeTask
 fn copyin_task(kind: u8, n: u8) -> MaybeTask
     ensures { λ x. ⌜ CopyInTask kind n x ⌝ }
 {
-    if kind == 0 {
+    if kind == codes::UNCHOSEN {
         return MaybeTask::NoTask;
     }
-    if kind == 1 {
+    if kind == codes::NONE_CHOSEN {
         return MaybeTask::NoTask;
     }
     MaybeTask::Task(n)
 }
 
-// 0 none, 1 done, 2 cancelled.
 fn copyin_fate(kind: u8) -> u8
     ensures { λ x. ⌜ CopyInFate kind x ⌝ }
 {
-    if kind == 3 {
-        return 1;
+    if kind == codes::LOADED {
+        return codes::FATE_DONE;
     }
-    if kind < 3 {
-        return 0;
+    if kind == codes::UNCHOSEN {
+        return codes::FATE_NONE;
     }
-    2
+    if kind == codes::NONE_CHOSEN {
+        return codes::FATE_NONE;
+    }
+    if kind == codes::COPYING {
+        return codes::FATE_NONE;
+    }
+    codes::FATE_CANCELLED
 }
 
 pub fn interval_entry(r: Registers, t: u64, promoted: u8) -> IntervalEntry
-    ensures { λ x. ⌜ x ≡ entry-with (r .half) t (interval-in r) (as-task promoted) ⌝ }
+    ensures { λ x. ⌜ x ≡ instant.entry-with (r .half) t (interval-in r) (as-task promoted) ⌝ }
 {
     IntervalEntry {
         begin: r.begin,
@@ -153,10 +159,16 @@ pub fn interval_entry(r: Registers, t: u64, promoted: u8) -> IntervalEntry
 fn awaiting_copyout(kind: u8) -> u8
     ensures { λ x. ⌜ AwaitingCopyOut kind x ⌝ }
 {
-    if kind < 3 {
-        return 0;
+    if kind == codes::IDLE {
+        return codes::NO_COPYOUT;
     }
-    1
+    if kind == codes::COPYING_IN {
+        return codes::NO_COPYOUT;
+    }
+    if kind == codes::EXECUTING {
+        return codes::NO_COPYOUT;
+    }
+    codes::COPYING_OUT
 }
 
 // No interval is open any more: with the jobs that are ready, and the work and the task of the next interval.
@@ -170,7 +182,7 @@ fn between(r: Registers, ready: u32, work: u8, task: u8) -> Registers
         copyout: awaiting_copyout(r.processor),
         outtask: r.task,
         outstart: r.start,
-        copyin: 5,
+        copyin: codes::NO_INTERVAL,
         ..r
     }
 }
@@ -180,11 +192,16 @@ fn between(r: Registers, ready: u32, work: u8, task: u8) -> Registers
 pub fn close(r: Registers, promoted: u8) -> Registers
     ensures { λ x. ⌜ ClosedTo r promoted x ⌝ }
 {
-    if promoted < 32 {
-        return between(r, sets::remove(r.ready, promoted), 2, promoted);
+    if promoted < codes::NO_TASK {
+        return between(
+            r,
+            sets::remove(r.ready, promoted),
+            codes::COPY_IN_AND_EXECUTE,
+            promoted,
+        );
     }
-    if r.copyin == 3 {
-        return between(r, r.ready, 1, r.intask);
+    if r.copyin == codes::LOADED {
+        return between(r, r.ready, codes::EXECUTE, r.intask);
     }
-    between(r, r.ready, 0, r.intask)
+    between(r, r.ready, codes::NO_WORK, r.intask)
 }

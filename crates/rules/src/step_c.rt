@@ -1,15 +1,16 @@
 // c. The releases of this instant are taken or skipped. They belong to the open interval, else to the one that step g begins.
 use crate::Registers;
+use crate::codes;
 ghost use mathlib.Core.Path.{_≡_};
 ghost use Rattle.rules.specs.Instant as instant;
-ghost use Rattle.rules.specs.Apart.{phase-in};
+ghost use Rattle.rules.specs.Registers.{phase-in};
 ghost use Rattle.rules.specs.Steps.{Taken};
 
 // The releases that belong to the interval that step g begins.
 pub fn held_over(r: Registers, new: u32) -> u32
     ensures { λ x. ⌜ x ≡ instant.held-over (phase-in r) new ⌝ }
 {
-    if r.copyin == 5 {
+    if r.copyin == codes::NO_INTERVAL {
         return new;
     }
     0

@@ -2,22 +2,24 @@
 // cancelled and its job is ready again (R3).
 use crate::Registers;
 use crate::arrays::stamp;
+use crate::codes;
 use crate::order::first;
 use crate::order::outranks;
 use crate::step_c::taken;
-ghost use Rattle.rules.specs.Steps.{CancelledTo, Releases};
+ghost use Rattle.rules.specs.Registers.{arrays};
+ghost use Rattle.rules.specs.Steps.{CancelledTo, StepsCD};
 
 fn cancelled(r: Registers, new: u32, priority: &[u8; 32]) -> Registers
     ensures { λ x. ⌜ CancelledTo r new (now (priority .entry)) x ⌝ }
 {
-    if r.copyin != 2 {
+    if r.copyin != codes::COPYING {
         return r;
     }
     let by = first(priority, sets::intersection(new, r.marked));
     if outranks(priority, by, r.intask) {
         return Registers {
             ready: sets::insert(r.ready, r.intask),
-            copyin: 4,
+            copyin: codes::CANCELLED,
             ..r
         };
     }
@@ -25,7 +27,7 @@ fn cancelled(r: Registers, new: u32, priority: &[u8; 32]) -> Registers
 }
 
 // Steps c and d, with the tasks whose release is taken. Most instants of a run have no release, and then nothing changes.
-pub fn released(
+pub fn steps_c_d(
     r: Registers,
     t: u64,
     new: u32,
@@ -33,7 +35,7 @@ pub fn released(
     release: &mut [u64; 32],
     blocked: &mut [u8; 32],
 ) -> Registers
-    ensures { λ x. ⌜ Releases r t new (now (priority .entry)) (now (release .entry)) (now (blocked .entry)) x (now (release .exit)) (now (blocked .exit)) ⌝ }
+    ensures { λ x. ⌜ StepsCD r t new (now (priority .entry)) (arrays (now (release .entry)) (now (blocked .entry))) x (arrays (now (release .exit)) (now (blocked .exit))) ⌝ }
 {
     if new == 0 {
         return r;

@@ -1,13 +1,14 @@
 // g. If no interval is open and some job is loaded, promoted, ready or waiting for copy-out, an interval begins.
 use crate::Registers;
 use crate::Unit;
-use crate::arrays::length_of;
+use crate::codes;
 use crate::step_e::chosen;
 use crate::times::later;
+use table::Columns;
 ghost use mathlib.Core.Path.{_≡_};
 ghost use Prim.Native.Nat.{ℕ, _-_};
 ghost use Rattle.rules.specs.Instant as instant;
-ghost use Rattle.rules.specs.Apart.{as-next, as-outgoing};
+ghost use Rattle.rules.specs.Registers.{as-next, as-outgoing};
 ghost use Rattle.rules.specs.Steps.{BeginProcessor, BeginCopyOut, BeginAt, Begun};
 
 // Of an interval that is not open.
@@ -17,59 +18,59 @@ fn wanted(r: Registers) -> bool
     if r.ready != 0 {
         return true;
     }
-    if r.copyout != 0 {
+    if r.copyout != codes::NO_COPYOUT {
         return true;
     }
-    r.work != 0
+    r.work != codes::NO_WORK
 }
 
 // R5: the processor copies in and then executes the promoted job; else it executes the loaded one; else it idles.
-fn begin_processor(work: u8, n: u8, t: u64, copyin: &[u32; 32], execution: &[u32; 32]) -> Unit
-    ensures { λ x. ⌜ BeginProcessor work n t (now (copyin .entry)) (now (execution .entry)) x ⌝ }
+fn begin_processor(work: u8, n: u8, t: u64, columns: &Columns) -> Unit
+    ensures { λ x. ⌜ BeginProcessor work n t (now (columns .entry)) x ⌝ }
 {
-    if work == 0 {
+    if work == codes::NO_WORK {
         return Unit {
             start: t,
             until: t,
-            kind: 0,
+            kind: codes::IDLE,
             task: n,
         };
     }
-    if work == 1 {
-        let until = later(t, length_of(execution, n));
+    if work == codes::EXECUTE {
+        let until = later(t, table::execution_length(columns, n));
         return Unit {
             start: t,
             until,
-            kind: 2,
+            kind: codes::EXECUTING,
             task: n,
         };
     }
-    let until = later(t, length_of(copyin, n));
+    let until = later(t, table::copyin_length(columns, n));
     Unit {
         start: t,
         until,
-        kind: 1,
+        kind: codes::COPYING_IN,
         task: n,
     }
 }
 
 // R2: the engine copies out the job executed in the interval before.
-fn begin_copyout(kind: u8, n: u8, t: u64, copyout: &[u32; 32]) -> Unit
-    ensures { λ x. ⌜ BeginCopyOut kind n t (now (copyout .entry)) x ⌝ }
+fn begin_copyout(kind: u8, n: u8, t: u64, columns: &Columns) -> Unit
+    ensures { λ x. ⌜ BeginCopyOut kind n t (now (columns .entry)) x ⌝ }
 {
-    if kind == 0 {
+    if kind == codes::NO_COPYOUT {
         return Unit {
             start: t,
             until: t,
-            kind: 0,
+            kind: codes::NO_COPYOUT,
             task: n,
         };
     }
-    let until = later(t, length_of(copyout, n));
+    let until = later(t, table::copyout_length(columns, n));
     Unit {
         start: t,
         until,
-        kind: 1,
+        kind: codes::COPYING_OUT,
         task: n,
     }
 }
@@ -78,10 +79,12 @@ fn begin_copyout(kind: u8, n: u8, t: u64, copyout: &[u32; 32]) -> Unit
 fn work_of(work: u8) -> u8
     ensures { λ x. ⌜ ((n : ℕ) → x ≡ instant.work-of (as-next work n)) ⌝ }
 {
-    if work < 2 {
-        return work;
+    if work != codes::NO_WORK {
+        if work != codes::EXECUTE {
+            return codes::COPY_IN_AND_EXECUTE;
+        }
     }
-    2
+    work
 }
 
 // R1: the halves swap.
@@ -92,18 +95,11 @@ fn swapped(half: u8) -> u8
 }
 
 // `new` are the releases that belong to the interval.
-fn begin(
-    r: Registers,
-    t: u64,
-    new: u32,
-    copyin: &[u32; 32],
-    execution: &[u32; 32],
-    copyout: &[u32; 32],
-) -> Registers
-    ensures { λ x. ⌜ BeginAt r t new (now (copyin .entry)) (now (execution .entry)) (now (copyout .entry)) x ⌝ }
+fn begin(r: Registers, t: u64, new: u32, columns: &Columns) -> Registers
+    ensures { λ x. ⌜ BeginAt r t new (now (columns .entry)) x ⌝ }
 {
-    let p = begin_processor(r.work, r.task, t, copyin, execution);
-    let o = begin_copyout(r.copyout, r.outtask, t, copyout);
+    let p = begin_processor(r.work, r.task, t, columns);
+    let o = begin_copyout(r.copyout, r.outtask, t, columns);
     Registers {
         candidates: sets::intersection(new, r.marked),
         begin: t,
@@ -114,29 +110,21 @@ fn begin(
         work: work_of(r.work),
         processor: p.kind,
         copyout: o.kind,
-        copyin: 0,
+        copyin: codes::UNCHOSEN,
         ..r
     }
 }
 
 // Without a copy-out the choice is made now.
-pub fn begun(
-    r: Registers,
-    t: u64,
-    new: u32,
-    priority: &[u8; 32],
-    copyin: &[u32; 32],
-    execution: &[u32; 32],
-    copyout: &[u32; 32],
-) -> Registers
-    ensures { λ x. ⌜ Begun r t new (now (priority .entry)) (now (copyin .entry)) (now (execution .entry)) (now (copyout .entry)) x ⌝ }
+pub fn begun(r: Registers, t: u64, new: u32, priority: &[u8; 32], columns: &Columns) -> Registers
+    ensures { λ x. ⌜ Begun r t new (now (priority .entry)) (now (columns .entry)) x ⌝ }
 {
-    if r.copyin != 5 {
+    if r.copyin != codes::NO_INTERVAL {
         return r;
     }
     if wanted(r) {
-        let open = begin(r, t, new, copyin, execution, copyout);
-        return chosen(open, t, priority, copyin);
+        let open = begin(r, t, new, columns);
+        return chosen(open, t, priority, columns);
     }
     r
 }

@@ -1,13 +1,18 @@
 // Drives a dispatcher from standard input. The input is 4 bytes, lowest first, with the length of the opening bytes; the opening
 // bytes, which are task entries; then call entries until the input ends. The lines of the opening and of each call are printed.
-use calls::Call;
+use call_entries::CallEntry;
 use dispatcher::Dispatcher;
 use libc::STDIN_FILENO;
 use libc::STDOUT_FILENO;
 use lines::Text;
 use table::Refusal;
-ghost use Prim.Native.Nat.{_≤_, _<_};
+ghost use Prim.Native.Nat.{_≤_, _<_, min};
+ghost use mathlib.Core.Path.{_≡_};
 ghost use lib.ListN.{length};
+ghost use Rattle.rules.specs.Cut.{opening-most};
+
+// As many opening bytes as are enough, which is proved: rules/specs/Cut, `OpensFromFront`.
+const OPENING: usize = 33 * entries::TASK_SIZE;
 
 // How many of the opening bytes were read to the front of the input, and whether all of them were there.
 struct Head {
@@ -89,12 +94,12 @@ fn serve(d: Dispatcher, s: &[u8], out: &mut [u8]) -> Served
     let mut state = d;
     let mut at = 0;
     loop {
-        let call = calls::call_at(s, at);
-        let size = calls::call_size(call);
+        let entry = call_entries::call_at(s, at);
+        let size = call_entries::call_size(entry);
         if size == 0 {
             break;
         }
-        let answered = calls::answer(state, call);
+        let answered = call_entries::answer(state, entry);
         let text = answered.text;
         len = gather(out, len, text);
         let next = answered.state;
@@ -130,7 +135,7 @@ fn refill(input: &mut [u8], kept: usize) -> usize
 
 // Whether the bytes are a call's that more of the input may make whole, or none.
 fn unfinished(rest: &[u8]) -> bool {
-    if let Call::CutShort = calls::call_at(rest, 0) {
+    if let CallEntry::CutShort = call_entries::call_at(rest, 0) {
         true
     } else {
         false
@@ -181,11 +186,17 @@ fn run(input: &mut [u8], out: &mut [u8], d: Dispatcher) {
     }
 }
 
-// Reads the opening bytes. Their first 528 are enough: they hold 33 task entries, and there are 32 task numbers, so that one of
-// those entries is refused if nothing before it is. The rest only has to be there.
+// How many of `size` opening bytes are kept: all of them, or as many as are enough.
+fn enough(size: usize) -> usize
+    ensures { λ r. ⌜ (r ≤ size) × (r ≡ min size opening-most) ⌝ }
+{
+    if size < OPENING { size } else { OPENING }
+}
+
+// Reads the opening bytes, and keeps those that are enough. The rest only has to be there.
 fn read_opening(input: &mut [u8], space: &mut [u8]) -> Head
-    requires { ⌜ 528 ≤ length (now input) ⌝ }
-    ensures { λ r. ⌜ r .kept ≤ 528 ⌝ }
+    requires { ⌜ opening-most ≤ length (now input) ⌝ }
+    ensures { λ r. ⌜ r .kept ≤ opening-most ⌝ }
 {
     if read(input, 4) < 4 {
         return Head {
@@ -194,7 +205,7 @@ fn read_opening(input: &mut [u8], space: &mut [u8]) -> Head
         };
     }
     let size = words::get_u32(input, 0) as usize;
-    let kept = least(size, 528);
+    let kept = enough(size);
     if read(input, kept) < kept {
         return Head {
             kept: 0,
@@ -206,7 +217,7 @@ fn read_opening(input: &mut [u8], space: &mut [u8]) -> Head
 }
 
 fn drive(input: &mut [u8], out: &mut [u8])
-    requires { ⌜ 528 ≤ length (now input) ⌝ }
+    requires { ⌜ opening-most ≤ length (now input) ⌝ }
 {
     let head = read_opening(input, out);
     if !head.whole {

@@ -30,6 +30,21 @@ insert n s = collect (λ k. eqb k n || member k s)
 unfoldable pub remove : ℕ → ℕ → ℕ
 remove n s = collect (λ k. not (eqb k n) && member k s)
 
+-- ---- How many members a set has
+
+abbrev pub bit : Bool → ℕ
+bit b = cond b 1 0
+
+-- how many of the tasks below k pass a test
+unfoldable pub count : ℕ → (ℕ → Bool) → ℕ
+count zero p = 0
+count (suc k) p = count k p + bit (p k)
+
+unfoldable pub size : ℕ → ℕ
+size s = count 32 (λ k. member k s)
+
+-- ---- The lowest member
+
 -- the lowest member among the lowest k bits, counted from the lowest bit; k if there is none
 unfoldable pub lowestIn : ℕ → ℕ → ℕ
 lowestIn zero s = 0

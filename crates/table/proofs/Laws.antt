@@ -1,6 +1,7 @@
 -- `tasks-from` by cases, one law for each way that a turn of the reading goes, and the search for a priority given before. Assumes nothing.
 use mathlib.Core.Path.{_≡_, refl, sym, ap, _∙_}
 use mathlib.Core.Bool.{Bool, true, false, _&&_, _||_}
+use mathlib.Core.Logic.{_⊎_, inl, inr, ⊎-elim}
 use mathlib.Core.List.{List}
 use Prim.Native.Nat.{ℕ, zero, suc, _+_, _-_, _^_, _≤_, _<_}
 use native.Mathlib.Nat.{not-suc-le-zero}
@@ -9,11 +10,11 @@ use borrow.Author.Tests.{eqb-true, eq-eqb, ne-eqb, leb-true, le-leb, lt-leb, ltb
 use lib.Dec.{eqb, leb, ltb}
 use lib.ListN.{length, getD}
 use Rattle.sets.specs.Sets.{member, remove}
-use Rattle.sets.specs.Laws.{by-test, clash, none, both, either-left, either-right, remove-in, remove-out, remove-small}
+use Rattle.sets.proofs.Laws.{by-test, clash, none, both, either-left, either-right, remove-in, remove-out, remove-small}
 use Rattle.words.specs.Words.{numberAt}
 use Rattle.entries.specs.Entries.{entry-at, release-at}
-use Rattle.table.specs.Types.{TaskParameters, Release, Malformed, TaskEntry, ReleaseEntry, Table, Tasks}
-use Rattle.table.specs.Tasks.{behind-tasks, given, number-refused, mark-or-length-refusal, task-refusal, with-task, with-marked, refused-at, read-to, tasks-from, tasks-of}
+use Rattle.table.specs.Types.{TaskParameters, Release, Entry, Malformed, TaskEntry, ReleaseEntry, Table, TaskPart}
+use Rattle.table.specs.TaskPart.{no-table, behind-tasks, given, number-refused, mark-or-length-refusal, task-refusal, with-task, with-marked, refused-at, read-to, tasks-from, task-part}
 
 -- ---- a turn of the reading
 
@@ -75,20 +76,20 @@ module _ (s : List ℕ) (at : ℕ) (t : Table) (m : ℕ) where
 pub record Rest (s : List ℕ) (at : ℕ) (t : Table) (m : ℕ) : Type 0 where
   pub fuel : ℕ
   pub enough : length s - at ≤ fuel
-  pub same : tasks-from fuel s at t m ≡ tasks-of s
+  pub same : tasks-from fuel s at t m ≡ task-part s
 
 module _ (s : List ℕ) (at : ℕ) (t : Table) (m : ℕ) (rest : Rest s at t m) (l : at < length s) where
-  pub turn : (x : Tasks) → ((k : ℕ) → tasks-from (suc k) s at t m ≡ x) → x ≡ tasks-of s
+  pub turn : (x : TaskPart) → ((k : ℕ) → tasks-from (suc k) s at t m ≡ x) → x ≡ task-part s
   turn x h = go (rest .fuel) (rest .enough) (rest .same)
     where
-      go : (k : ℕ) → length s - at ≤ k → tasks-from k s at t m ≡ tasks-of s → x ≡ tasks-of s
+      go : (k : ℕ) → length s - at ≤ k → tasks-from k s at t m ≡ task-part s → x ≡ task-part s
       go zero e q = absurd (omega arith)
       go (suc k) e q = sym (h k) ∙ q
 
   pub turn-on : (t′ : Table) (m′ : ℕ) → ((k : ℕ) → tasks-from (suc k) s at t m ≡ tasks-from k s (at + 16) t′ m′) → Rest s (at + 16) t′ m′
   turn-on t′ m′ h = go (rest .fuel) (rest .enough) (rest .same)
     where
-      go : (k : ℕ) → length s - at ≤ k → tasks-from k s at t m ≡ tasks-of s → Rest s (at + 16) t′ m′
+      go : (k : ℕ) → length s - at ≤ k → tasks-from k s at t m ≡ task-part s → Rest s (at + 16) t′ m′
       go zero e q = absurd (omega arith)
       go (suc k) e q = record { fuel = k; enough = omega arith; same = sym (h k) ∙ q }
 
@@ -165,3 +166,54 @@ number-small present n h = omega (arith, ltb-false 31 n (first (ltb 31 n) (membe
     first : (a b : Bool) → (a || b) ≡ false → a ≡ false
     first true b h = h
     first false b h = refl
+
+-- a task that is taken has a new number
+pub number-new : (t : Table) (p : TaskParameters) → task-refusal t p ≡ 0 → (p .number < 32) × (member (p .number) (t .present) ≡ false)
+unfolding number-refused
+number-new t p e =
+    by-test (number-refused (t .present) (p .number))
+    (λ r. absurd (other 3 (sym (number-first t p r) ∙ e)))
+    (λ r. (number-small (t .present) (p .number) r, neither-right (ltb 31 (p .number)) (member (p .number) (t .present)) r))
+  where
+    other : (n : ℕ) → suc n ≡ 0 → ⊥
+    other n h = omega arith
+
+    neither-right : (a b : Bool) → (a || b) ≡ false → b ≡ false
+    neither-right true b h = clash true refl h
+    neither-right false b h = h
+
+-- ---- where the task part ends
+
+-- what holds of a place and the table read up to it, and goes on from a task entry that is taken to the next, holds where reading ends
+module _ (s : List ℕ) (Holds : ℕ → Table → Type 0)
+    (on : (at : ℕ) (t : Table) (p : TaskParameters) → entry-at s at ≡ TaskEntry p → task-refusal t p ≡ 0 → Holds at t → Holds (at + 16) (with-task t p))
+  where
+    abbrev Ends : TaskPart → Type 0
+    Ends x = (x .end ≡ 0) ⊎ Holds (x .end) (x .table)
+
+    pub ends : (k at : ℕ) (t : Table) (m : ℕ) → Holds at t → Ends (tasks-from k s at t m)
+    unfolding tasks-from
+    ends zero at t m h = inr h
+    ends (suc k) at t m h = go-behind (behind-tasks s at) refl (λ p e r. ends k (at + 16) (with-task t p) (with-marked m p) (on at t p e r h))
+      where
+        More : Type 0
+        More = (p : TaskParameters) → entry-at s at ≡ TaskEntry p → task-refusal t p ≡ 0 → Ends (tasks-from k s (at + 16) (with-task t p) (with-marked m p))
+
+        go-refusal : (p : TaskParameters) (n : ℕ) → behind-tasks s at ≡ false → entry-at s at ≡ TaskEntry p → task-refusal t p ≡ n → More → Ends (tasks-from (suc k) s at t m)
+        go-refusal p zero b e r rec = rw (b, tasks-from, e, r) (rec p e r)
+        go-refusal p (suc n) b e r rec = rw (b, tasks-from, e, r) (inl refl)
+
+        go-entry : (x : Entry) → behind-tasks s at ≡ false → entry-at s at ≡ x → More → Ends (tasks-from (suc k) s at t m)
+        go-entry (Malformed n) b e rec = rw (b, tasks-from, e) (inl refl)
+        go-entry (ReleaseEntry r) b e rec = rw (b, tasks-from, e) (inr h)
+        go-entry (TaskEntry p) b e rec = go-refusal p (task-refusal t p) b e refl rec
+
+        go-behind : (b : Bool) → behind-tasks s at ≡ b → More → Ends (tasks-from (suc k) s at t m)
+        go-behind true e rec = rw (e, tasks-from) (inr h)
+        go-behind false e rec = go-entry (entry-at s at) e refl rec
+
+pub part-within : (s : List ℕ) → task-part s .end ≤ length s
+unfolding task-part
+part-within s =
+    ⊎-elim (λ e. omega arith) (λ h. h)
+    (ends s (λ at t. at ≤ length s) (λ at t p e r h. omega (arith, task-whole s at p e)) (length s) 0 no-table 0 (omega arith))

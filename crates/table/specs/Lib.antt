@@ -1,2 +1,4 @@
 pub mod Types
-pub mod Tasks
+pub mod Table
+pub mod TaskPart
+pub mod Refusals

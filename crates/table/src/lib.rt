@@ -2,15 +2,26 @@
 use entries::Entry;
 use entries::TaskParameters;
 ghost use mathlib.Core.Path.{_≡_};
-ghost use Rattle.table.specs.Tasks as tasks;
+ghost use lib.ListN.{getD};
+ghost use Prim.Native.Nat.{_+_, _<_};
+ghost use Rattle.table.specs.Table as table;
+ghost use Rattle.table.specs.Refusals.{refusal-number, refusal-place};
+ghost use Rattle.table.specs.TaskPart as part;
 
-// The tasks by number: which there are, and each one's priority and lengths of copy-in (L), execution (C) and copy-out (U).
+// Where the columns of the lengths of execution (C) and copy-out (U) begin; that of copy-in (L) is the first.
+const EXECUTION: usize = 32;
+
+const COPYOUT: usize = 64;
+
+// What the table has for each task in 32 bits, a column behind the other. They are one array, so that whoever lends them lends one thing,
+// and a further column changes no list of parameters.
+pub type Columns = [u32; 96];
+
+// The tasks by number: which there are, each one's priority, and the columns.
 pub struct Table {
     pub present: u32,
     pub priority: [u8; 32],
-    pub copyin: [u32; 32],
-    pub execution: [u32; 32],
-    pub copyout: [u32; 32],
+    pub columns: Columns,
 }
 
 // Why an input is refused: a number alone, or a number and the place of the entry's kind byte.
@@ -21,29 +32,79 @@ pub enum Refusal {
 }
 
 // The task entries at the start of an input: the table, the set of marked tasks and the place behind them, or the first refusal.
-pub struct Tasks {
+pub struct TaskPart {
     pub table: Table,
     pub marked: u32,
     pub end: usize,
     pub refusal: Refusal,
 }
 
+// 0 where there is none.
+pub fn number_of(refusal: Refusal) -> u8
+    ensures { λ r. ⌜ r ≡ refusal-number refusal ⌝ }
+{
+    match refusal {
+        Refusal::NoRefusal => 0,
+        Refusal::Alone(n) => n,
+        Refusal::AtEntry(n, _) => n,
+    }
+}
+
+// 0 where there is none, and with a number alone.
+pub fn place_of(refusal: Refusal) -> usize
+    ensures { λ r. ⌜ r ≡ refusal-place refusal ⌝ }
+{
+    match refusal {
+        Refusal::NoRefusal => 0,
+        Refusal::Alone(_) => 0,
+        Refusal::AtEntry(_, at) => at,
+    }
+}
+
 // The table with no task.
 pub fn no_table() -> Table
-    ensures { λ r. ⌜ r ≡ tasks.no-table ⌝ }
+    ensures { λ r. ⌜ r ≡ part.no-table ⌝ }
 {
     Table {
         present: 0,
         priority: [0; 32],
-        copyin: [0; 32],
-        execution: [0; 32],
-        copyout: [0; 32],
+        columns: [0; 96],
     }
+}
+
+// The number at a place of the columns, 0 past their end.
+fn entry_of(columns: &[u32], column: usize, n: u8) -> u32
+    requires { ⌜ column < 256 ⌝ }
+    ensures { λ r. ⌜ r ≡ getD (now (columns .entry)) (column + n) 0 ⌝ }
+{
+    let i = column + n as usize;
+    if i < columns.len() { columns[i] } else { 0 }
+}
+
+// L, the length of a task's copy-in.
+pub fn copyin_length(columns: &[u32], n: u8) -> u32
+    ensures { λ r. ⌜ r ≡ table.copyin-length (now (columns .entry)) n ⌝ }
+{
+    entry_of(columns, 0, n)
+}
+
+// C, the length of its execution.
+pub fn execution_length(columns: &[u32], n: u8) -> u32
+    ensures { λ r. ⌜ r ≡ table.execution-length (now (columns .entry)) n ⌝ }
+{
+    entry_of(columns, EXECUTION, n)
+}
+
+// U, the length of its copy-out.
+pub fn copyout_length(columns: &[u32], n: u8) -> u32
+    ensures { λ r. ⌜ r ≡ table.copyout-length (now (columns .entry)) n ⌝ }
+{
+    entry_of(columns, COPYOUT, n)
 }
 
 // Outside 1 to 1,000,000.
 fn outside(x: u32) -> bool
-    ensures { λ r. ⌜ r ≡ tasks.outside x ⌝ }
+    ensures { λ r. ⌜ r ≡ part.outside x ⌝ }
 {
     if x == 0 {
         return true;
@@ -53,7 +114,7 @@ fn outside(x: u32) -> bool
 
 // 6, then 7; 0 is none.
 fn mark_or_length_refusal(p: TaskParameters) -> u8
-    ensures { λ r. ⌜ r ≡ tasks.mark-or-length-refusal p ⌝ }
+    ensures { λ r. ⌜ r ≡ part.mark-or-length-refusal p ⌝ }
 {
     if 1 < p.mark {
         return 6;
@@ -72,7 +133,7 @@ fn mark_or_length_refusal(p: TaskParameters) -> u8
 
 // 4: the number is over 31 or was given before.
 fn number_refused(present: u32, n: u8) -> bool
-    ensures { λ r. ⌜ r ≡ tasks.number-refused present n ⌝ }
+    ensures { λ r. ⌜ r ≡ part.number-refused present n ⌝ }
 {
     if 31 < n {
         return true;
@@ -81,7 +142,7 @@ fn number_refused(present: u32, n: u8) -> bool
 }
 
 fn with_marked(marked: u32, p: TaskParameters) -> u32
-    ensures { λ r. ⌜ r ≡ tasks.with-marked marked p ⌝ }
+    ensures { λ r. ⌜ r ≡ part.with-marked marked p ⌝ }
 {
     if p.mark == 1 {
         return sets::insert(marked, p.number);
@@ -89,10 +150,10 @@ fn with_marked(marked: u32, p: TaskParameters) -> u32
     marked
 }
 
-fn refused_at(n: u8, at: usize) -> Tasks
-    ensures { λ r. ⌜ r ≡ tasks.refused-at n at ⌝ }
+fn refused_at(n: u8, at: usize) -> TaskPart
+    ensures { λ r. ⌜ r ≡ part.refused-at n at ⌝ }
 {
-    Tasks {
+    TaskPart {
         table: no_table(),
         marked: 0,
         end: 0,
@@ -100,10 +161,10 @@ fn refused_at(n: u8, at: usize) -> Tasks
     }
 }
 
-fn read_to(table: Table, marked: u32, at: usize) -> Tasks
-    ensures { λ r. ⌜ r ≡ tasks.read-to table marked at ⌝ }
+fn read_to(table: Table, marked: u32, at: usize) -> TaskPart
+    ensures { λ r. ⌜ r ≡ part.read-to table marked at ⌝ }
 {
-    Tasks {
+    TaskPart {
         table,
         marked,
         end: at,
@@ -112,8 +173,8 @@ fn read_to(table: Table, marked: u32, at: usize) -> Tasks
 }
 
 // The task entries at the start of an input, up to its end or the first release: the table, or the first refusal.
-pub fn read(s: &[u8]) -> Tasks
-    ensures { λ r. ⌜ r ≡ tasks.tasks-of (now (s .entry)) ⌝ }
+pub fn read(s: &[u8]) -> TaskPart
+    ensures { λ r. ⌜ r ≡ part.task-part (now (s .entry)) ⌝ }
 {
     let mut t = no_table();
     let mut marked: u32 = 0;
@@ -153,9 +214,9 @@ pub fn read(s: &[u8]) -> Tasks
                 let i = n as usize;
                 t.present = sets::insert(t.present, n);
                 t.priority[i] = p.priority;
-                t.copyin[i] = p.copyin;
-                t.execution[i] = p.execution;
-                t.copyout[i] = p.copyout;
+                t.columns[i] = p.copyin;
+                t.columns[EXECUTION + i] = p.execution;
+                t.columns[COPYOUT + i] = p.copyout;
                 marked = with_marked(marked, p);
                 at += 16;
             }

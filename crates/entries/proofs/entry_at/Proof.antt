@@ -3,54 +3,38 @@
 use mathlib.Core.Path.{_≡_, sym, ap, _∙_}
 use mathlib.Core.List.{List}
 use Prim.Native.Nat.{ℕ, _-_, _≤_, _<_}
-use native.Mathlib.Nat.{add-zero}
 use native.Mathlib.Omega.{arith}
 use borrow.Author.Tests.{ne-eqb, le-leb, lt-leb}
 use borrow.Author.Needs.{needs}
-use lib.ListN.{length, take, drop}
+use lib.ListN.{length}
 use Rattle.words.specs.Words.{numberAt}
-use Rattle.words.specs.Laws.{past, read-in-rest}
+use Rattle.words.proofs.Laws.{past}
 use Rattle.entries.specs.Types.{TaskParameters, Release, Malformed, TaskEntry, ReleaseEntry}
-use Rattle.entries.specs.Entries.{entry-at, task-at, release-at}
+use Rattle.entries.specs.Entries.{size, entry-at, task-at, release-at}
+use Rattle.entries.proofs.Places.{rest, kind-is, task-is, release-is}
 use Rattle.entries.proofs.entry_at.Statement.{statement}
 use Rattle.entries.proofs.entry_at.Tie as tie
 
--- the entry at a place, by what is read in the rest from there
-module _ (s : List ℕ) (at : ℕ) where
-  abbrev rest : List ℕ
-  rest = take (length s - at) (drop at s)
+module _ (s : List ℕ) (at k : ℕ) (read : k ≡ numberAt 1 (rest s at) 0) where
+  a-task : (p : TaskParameters) → k ≡ 1 → size 1 ≤ length s - at → p ≡ task-at (rest s at) 0 → TaskEntry p ≡ entry-at s at
+  unfolding entry-at
+  a-task p e l f = rw (kind-is s at 1 (sym read ∙ e), le-leb 16 (length s - at) l) (ap TaskEntry (f ∙ task-is s at))
 
-  kind-is : (k : ℕ) → numberAt 1 rest 0 ≡ k → numberAt 1 s at ≡ k
-  kind-is k e = sym (read-in-rest 1 at 0 s ∙ ap (numberAt 1 s) (add-zero at)) ∙ e
+  cut-task : k ≡ 1 → length s - at < size 1 → Malformed 1 ≡ entry-at s at
+  unfolding entry-at
+  cut-task e l = rw (kind-is s at 1 (sym read ∙ e), lt-leb 16 (length s - at) l)
 
-  task-is : task-at rest 0 ≡ task-at s at
-  unfolding task-at
-  task-is = rw (read-in-rest 1 at 1 s, read-in-rest 1 at 2 s, read-in-rest 1 at 3 s, read-in-rest 4 at 4 s, read-in-rest 4 at 8 s, read-in-rest 4 at 12 s)
+  a-release : (r : Release) → k ≡ 2 → size 2 ≤ length s - at → r ≡ release-at (rest s at) 0 → ReleaseEntry r ≡ entry-at s at
+  unfolding entry-at
+  a-release r e l f = rw (kind-is s at 2 (sym read ∙ e), le-leb 10 (length s - at) l) (ap ReleaseEntry (f ∙ release-is s at))
 
-  release-is : release-at rest 0 ≡ release-at s at
-  unfolding release-at
-  release-is = rw (read-in-rest 1 at 1 s, read-in-rest 8 at 2 s)
+  cut-release : k ≡ 2 → length s - at < size 2 → Malformed 1 ≡ entry-at s at
+  unfolding entry-at
+  cut-release e l = rw (kind-is s at 2 (sym read ∙ e), lt-leb 10 (length s - at) l)
 
-  module _ (k : ℕ) (read : k ≡ numberAt 1 rest 0) where
-    a-task : (p : TaskParameters) → k ≡ 1 → 16 ≤ length s - at → p ≡ task-at rest 0 → TaskEntry p ≡ entry-at s at
-    unfolding entry-at
-    a-task p e l f = rw (kind-is 1 (sym read ∙ e), le-leb 16 (length s - at) l) (ap TaskEntry (f ∙ task-is))
-
-    cut-task : k ≡ 1 → length s - at < 16 → Malformed 1 ≡ entry-at s at
-    unfolding entry-at
-    cut-task e l = rw (kind-is 1 (sym read ∙ e), lt-leb 16 (length s - at) l)
-
-    a-release : (r : Release) → k ≡ 2 → 10 ≤ length s - at → r ≡ release-at rest 0 → ReleaseEntry r ≡ entry-at s at
-    unfolding entry-at
-    a-release r e l f = rw (kind-is 2 (sym read ∙ e), le-leb 10 (length s - at) l) (ap ReleaseEntry (f ∙ release-is))
-
-    cut-release : k ≡ 2 → length s - at < 10 → Malformed 1 ≡ entry-at s at
-    unfolding entry-at
-    cut-release e l = rw (kind-is 2 (sym read ∙ e), lt-leb 10 (length s - at) l)
-
-    no-kind : (k ≡ 1 → ⊥) → (k ≡ 2 → ⊥) → Malformed 2 ≡ entry-at s at
-    unfolding entry-at
-    no-kind a b = rw (ne-eqb (numberAt 1 s at) 1 (λ e. a (sym (kind-is k (sym read)) ∙ e)), ne-eqb (numberAt 1 s at) 2 (λ e. b (sym (kind-is k (sym read)) ∙ e)))
+  no-kind : (k ≡ 1 → ⊥) → (k ≡ 2 → ⊥) → Malformed 2 ≡ entry-at s at
+  unfolding entry-at
+  no-kind a b = rw (ne-eqb (numberAt 1 s at) 1 (λ e. a (sym (kind-is s at k (sym read)) ∙ e)), ne-eqb (numberAt 1 s at) 2 (λ e. b (sym (kind-is s at k (sym read)) ∙ e)))
 
 behind-the-end : (s : List ℕ) (at : ℕ) → length s < at → Malformed 2 ≡ entry-at s at
 unfolding entry-at

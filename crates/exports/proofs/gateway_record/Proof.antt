@@ -1,7 +1,7 @@
 -- `exports::gateway_record` meets its contract: what `record::write` answers, as two numbers. Assumes nothing.
 use mathlib.Core.Path.{_∙_, ap}
 use borrow.Author.Needs.{needs}
-use Rattle.record.specs.Run.{outcome-number, outcome-value}
+use Rattle.record.specs.Writing.{outcome-number, outcome-value}
 use Rattle.exports.proofs.gateway_record.Statement.{statement}
 use Rattle.exports.proofs.gateway_record.Tie as tie
 

@@ -1,7 +1,7 @@
 -- `gateway::print_text` is safe and ends. Assumes nothing.
 use native.Mathlib.Omega.{arith}
 use native.Mathlib.Nat.{le-of-eq, le-trans}
-use Rattle.lines.specs.Laws.{room-fits}
+use Rattle.lines.proofs.Laws.{room-fits}
 use borrow.Author.Needs.{needs}
 use Rattle.gateway.proofs.print_text.Statement.{statement}
 use Rattle.gateway.proofs.print_text.Tie as tie

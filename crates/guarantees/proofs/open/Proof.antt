@@ -1,6 +1,7 @@
 -- `guarantees::open` meets its contract: opening, with demand 3. Assumes nothing.
 use mathlib.Core.Path.{sym, ap, _∙_, subst}
 use borrow.Author.Needs.{needs}
+use Rattle.table.specs.Refusals.{refusal-number, refusal-place}
 use Rattle.guarantees.specs.Types.{State, Opening}
 use Rattle.guarantees.specs.Claim.{Claim}
 use Rattle.guarantees.proofs.Demand3.{demand-3}
@@ -18,6 +19,8 @@ returns c =
     let s = c .before .before .args .s .now in
     record {
       opens = e;
+      number = ap (λ (o : Opening). refusal-number (o .refusal)) e;
+      place = ap (λ (o : Opening). refusal-place (o .refusal)) e;
       claim = λ f calls. subst (λ (d : State). Claim d calls) (ap (λ (o : Opening). o .state) (sym e)) (demand-3 s (ap (λ (o : Opening). o .refusal) (sym e) ∙ f) calls);
     }
 

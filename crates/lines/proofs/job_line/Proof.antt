@@ -1,6 +1,6 @@
 -- `lines::job_line` meets its contract. Assumes nothing.
 use native.Mathlib.Omega.{arith}
-use Rattle.lines.specs.Laws.{printed}
+use Rattle.lines.proofs.Laws.{printed}
 use borrow.Author.Needs.{needs}
 use Rattle.lines.proofs.job_line.Statement.{statement}
 use Rattle.lines.proofs.job_line.Tie as tie

@@ -1,5 +1,5 @@
 -- `lines::letter_line` meets its contract. Assumes nothing.
-use Rattle.lines.specs.Laws.{printed, _then_}
+use Rattle.lines.proofs.Laws.{printed, _then_}
 use native.Mathlib.Omega.{arith}
 use borrow.Author.Needs.{needs}
 use Rattle.lines.proofs.letter_line.Statement.{statement}

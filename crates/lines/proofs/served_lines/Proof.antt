@@ -1,7 +1,7 @@
 -- `lines::served_lines` meets its contract: the job done, the interval closed, the answer. Assumes nothing.
 use native.Mathlib.Omega.{arith}
 use Rattle.lines.specs.Lines.{served-lines}
-use Rattle.lines.specs.Laws.{printed, _then_}
+use Rattle.lines.proofs.Laws.{printed, _then_}
 use borrow.Author.Needs.{needs}
 use Rattle.lines.proofs.served_lines.Statement.{statement}
 use Rattle.lines.proofs.served_lines.Tie as tie

@@ -1,7 +1,7 @@
 -- `lines::skipped_line` meets its contract. Assumes nothing.
 use native.Mathlib.Omega.{arith}
 use Rattle.lines.specs.Lines.{skipped-line}
-use Rattle.lines.specs.Laws.{printed, _then_}
+use Rattle.lines.proofs.Laws.{printed, _then_}
 use borrow.Author.Needs.{needs}
 use Rattle.lines.proofs.skipped_line.Statement.{statement}
 use Rattle.lines.proofs.skipped_line.Tie as tie

@@ -1,41 +1,27 @@
--- `recorder::answer` is safe and ends: a record stands within its slice. Assumes nothing.
-use mathlib.Core.Path.{sym}
-use native.Mathlib.Omega.{arith}
-use lib.Seq.{length-take-le}
-use Rattle.intake.proofs.Room.{stands-within}
+-- `recorder::answer` is safe and ends: the releases stand within the input. Assumes nothing.
+use Rattle.run.proofs.Advancing.{releases-within}
 use borrow.Author.Needs.{needs}
 use Rattle.recorder.proofs.answer.Statement.{statement}
 use Rattle.recorder.proofs.answer.Tie as tie
+use Rattle.recorder.proofs.answer.Reads as reads
+use Rattle.recorder.proofs.answer.Lts as lts
+use Rattle.recorder.proofs.write_run.Reads as write-run-reads
+use Rattle.run.proofs.check_file.Reads as check-file-reads
 
-record-input-requires : tie.Need-record-input-requires
-record-input-requires c κs = search needs
+check-file-requires : tie.Need-check-file-requires
+check-file-requires c κs = search needs
 
-enum-known-outcome : tie.Need-enum-known-outcome
-enum-known-outcome c = search needs
+enum-told : tie.Need-enum-told
+enum-told c = search needs
 
-slice-reshare-prefix-write-all : tie.Need-slice-reshare-prefix-write-all
-slice-reshare-prefix-write-all c = let w = stands-within (c .before .before .before .before .before .before .before .record-input .ensures) _ (c .before .outcome .given .1) in omega arith
-
-slice-aggregate-write-all : tie.Need-slice-aggregate-write-all
-slice-aggregate-write-all c = let w = stands-within (c .before .before .before .before .before .before .before .before .record-input .ensures) _ (c .before .before .outcome .given .1) in sym (length-take-le _ _ (omega arith))
-
-write-all-requires : tie.Need-write-all-requires
-write-all-requires c κs = search needs
+write-run-requires : tie.Need-write-run-requires
+write-run-requires c κs = (rw (c .before .before .before .check-file .ensures) (releases-within (c .before .before .before .before .before .before .args .input .now)), c .before .before .before .before .before .before .pre)
 
 same-length : tie.Need-same-length
 same-length c = search needs
 
-same-length-2 : tie.Need-same-length-2
-same-length-2 c = search needs
-
 returns : tie.Need-returns
 returns c = search needs
-
-same-length-3 : tie.Need-same-length-3
-same-length-3 c = search needs
-
-same-length-4 : tie.Need-same-length-4
-same-length-4 c = search needs
 
 returns-2 : tie.Need-returns-2
 returns-2 c = search needs
@@ -43,15 +29,4 @@ returns-2 c = search needs
 pub answer-spec : {M : Type 1} → statement M
 answer-spec =
     tie.close
-    (tie.spec
-    record-input-requires
-    enum-known-outcome
-    slice-reshare-prefix-write-all
-    slice-aggregate-write-all
-    write-all-requires
-    same-length
-    same-length-2
-    returns
-    same-length-3
-    same-length-4
-    returns-2)
+    (tie.spec check-file-requires enum-told write-run-requires same-length returns returns-2)

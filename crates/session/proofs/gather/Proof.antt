@@ -4,7 +4,7 @@ use borrow.Author.Needs.{needs}
 use native.Mathlib.Omega.{arith}
 use native.Mathlib.Nat.{le-of-eq, le-trans}
 use lib.ListN.{length, drop, length-take, length-drop}
-use Rattle.lines.specs.Laws.{room-fits}
+use Rattle.lines.proofs.Laws.{room-fits}
 use Rattle.session.proofs.gather.Statement.{statement}
 use Rattle.session.proofs.gather.Tie as tie
 

@@ -2,7 +2,7 @@
 use borrow.Author.Needs.{needs}
 use native.Mathlib.Omega.{arith}
 use native.Mathlib.Nat.{le-of-eq, le-trans}
-use Rattle.lines.specs.Laws.{room-fits}
+use Rattle.lines.proofs.Laws.{room-fits}
 use Rattle.session.proofs.print_text.Statement.{statement}
 use Rattle.session.proofs.print_text.Tie as tie
 

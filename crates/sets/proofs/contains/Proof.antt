@@ -1,8 +1,8 @@
 -- `sets::contains` meets its contract: `& 1` is the remainder by 2, and a mask has no bit past its 32. Assumes nothing.
 use borrow.Author.Needs.{needs}
 use mathlib.Core.Path.{sym}
-use Rattle.sets.specs.Laws.{none-past}
-use Rattle.sets.specs.Masks.{is-member}
+use Rattle.sets.proofs.Laws.{none-past}
+use Rattle.sets.proofs.Masks.{is-member}
 use Rattle.sets.proofs.contains.Statement.{statement}
 use Rattle.sets.proofs.contains.Tie as tie
 

@@ -1,5 +1,5 @@
 -- `sets::difference` meets its contract: `&` with the complement, task by task. Assumes nothing.
-use Rattle.sets.specs.Masks.{and-difference}
+use Rattle.sets.proofs.Masks.{and-difference}
 use Rattle.sets.proofs.difference.Statement.{statement}
 use Rattle.sets.proofs.difference.Tie as tie
 

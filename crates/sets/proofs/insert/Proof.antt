@@ -1,6 +1,6 @@
 -- `sets::insert` meets its contract: `|` with one bit, and no change past the 32. Assumes nothing.
 use borrow.Author.Needs.{needs}
-use Rattle.sets.specs.Masks.{or-insert, insert-past}
+use Rattle.sets.proofs.Masks.{or-insert, insert-past}
 use Rattle.sets.proofs.insert.Statement.{statement}
 use Rattle.sets.proofs.insert.Tie as tie
 

@@ -1,5 +1,5 @@
 -- `sets::intersection` meets its contract: `&`, task by task. Assumes nothing.
-use Rattle.sets.specs.Masks.{and-intersection}
+use Rattle.sets.proofs.Masks.{and-intersection}
 use Rattle.sets.proofs.intersection.Statement.{statement}
 use Rattle.sets.proofs.intersection.Tie as tie
 

@@ -2,7 +2,7 @@
 use lib.Count.{trailing-le}
 use lib.Dec.{lit<}
 use native.Mathlib.Nat.{lt-of-le-of-lt}
-use Rattle.sets.specs.Masks.{trailing-lowest}
+use Rattle.sets.proofs.Masks.{trailing-lowest}
 use Rattle.sets.proofs.lowest.Statement.{statement}
 use Rattle.sets.proofs.lowest.Tie as tie
 

@@ -1,6 +1,6 @@
 -- `sets::remove` meets its contract: `&` with every bit but one, and no change past the 32. Assumes nothing.
 use borrow.Author.Needs.{needs}
-use Rattle.sets.specs.Masks.{and-remove, remove-past}
+use Rattle.sets.proofs.Masks.{and-remove, remove-past}
 use Rattle.sets.proofs.remove.Statement.{statement}
 use Rattle.sets.proofs.remove.Tie as tie
 

@@ -1,6 +1,6 @@
 -- `sets::rest` meets its contract: a set and one less have in common all members but the lowest. Assumes nothing.
 use borrow.Author.Needs.{needs}
-use Rattle.sets.specs.Masks.{and-rest, rest-none}
+use Rattle.sets.proofs.Masks.{and-rest, rest-none}
 use Rattle.sets.proofs.rest.Statement.{statement}
 use Rattle.sets.proofs.rest.Tie as tie
 

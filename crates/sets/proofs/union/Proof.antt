@@ -1,5 +1,5 @@
 -- `sets::union` meets its contract: `|`, task by task. Assumes nothing.
-use Rattle.sets.specs.Masks.{or-union}
+use Rattle.sets.proofs.Masks.{or-union}
 use Rattle.sets.proofs.union.Statement.{statement}
 use Rattle.sets.proofs.union.Tie as tie
 

@@ -1,6 +1,6 @@
 -- `table::number_refused` meets its contract: by its test. Assumes nothing.
 use borrow.Author.Tests.{lt-ltb, le-ltb}
-use Rattle.table.specs.Tasks.{number-refused}
+use Rattle.table.specs.TaskPart.{number-refused}
 use borrow.Author.Needs.{needs}
 use Rattle.table.proofs.number_refused.Statement.{statement}
 use Rattle.table.proofs.number_refused.Tie as tie

@@ -5,10 +5,11 @@ use mathlib.Core.Path.{_≡_, sym, ap, _∙_}
 use native.Mathlib.Omega.{arith}
 use lib.ListN.{length, length-set}
 use borrow.Author.Needs.{needs}
-use Rattle.sets.specs.Sets.{lowest}
-use Rattle.sets.specs.Laws.{size, size-remove, insert-small, lowest-task, lowest-member}
-use Rattle.table.specs.Types.{Table, Tasks}
-use Rattle.table.specs.Tasks.{tasks-of, tasks-from, with-task, refused-at}
+use Rattle.sets.specs.Sets.{lowest, size}
+use Rattle.sets.proofs.Laws.{size-remove, insert-small, lowest-task, lowest-member}
+use Rattle.table.specs.Types.{Table, TaskPart}
+use Rattle.table.specs.Table.{with-lengths}
+use Rattle.table.specs.TaskPart.{task-part, tasks-from, with-task, refused-at}
 use Rattle.table.proofs.Laws.{Rest, Searched, turn, turn-on, behind-end, behind-release, before-release, task-whole, at-end, malformed, released, refuses, takes, searched-none, searched-more, searched-all, searched-found, number-first, priority-next, others-last, number-small}
 use Rattle.table.proofs.read.Statement.{statement}
 use Rattle.table.proofs.read.Tie as tie
@@ -21,7 +22,7 @@ abbrev μ-loop : tie.MeasureT-loop
 
 abbrev Inv-entries : tie.InvT-entries
 Inv-entries s t₀ marked₀ at₀ t marked at = (at ≤ length s) × (length (t .priority) ≡ 32) × (t .present < 2 ^ 32) × Rest s at t marked
-    × (length (t .copyin) ≡ 32) × (length (t .execution) ≡ 32) × (length (t .copyout) ≡ 32)
+    × (length (t .columns) ≡ 96)
 
 abbrev μ-entries : tie.MeasureT-entries
 μ-entries s t₀ marked₀ at₀ t marked at = length s - at
@@ -30,16 +31,14 @@ no-table-requires : tie.Need-no-table-requires Inv-loop μ-loop Inv-entries μ-e
 no-table-requires c κs = search needs
 
 entries-holds : tie.Need-entries-holds Inv-loop μ-loop Inv-entries μ-entries
-unfolding tasks-of
+unfolding task-part
 entries-holds c =
     let e = c .no-table .ensures in (
       search needs,
       ap (λ (x : Table). length (x .priority)) e,
       rw e (omega arith),
       record { fuel = length (c .before .before .args .s .now); enough = omega arith; same = ap (λ (x : Table). tasks-from (length (c .before .before .args .s .now)) (c .before .before .args .s .now) 0 x 0) e },
-      ap (λ (x : Table). length (x .copyin)) e,
-      ap (λ (x : Table). length (x .execution)) e,
-      ap (λ (x : Table). length (x .copyout)) e,
+      ap (λ (x : Table). length (x .columns)) e,
     )
 
 read-to-requires : tie.Need-read-to-requires Inv-loop μ-loop Inv-entries μ-entries
@@ -125,11 +124,17 @@ mul-t c = let small = number-small _ _ (sym (c .before .before .before .before .
 element-write-t-2 : tie.Need-element-write-t-2 Inv-loop μ-loop Inv-entries μ-entries
 element-write-t-2 c = let small = number-small _ _ (sym (c .before .before .before .before .before .before .number-refused .ensures) ∙ c .before .before .before .before .before .if3 .left) in search needs
 
+add-t : tie.Need-add-t Inv-loop μ-loop Inv-entries μ-entries
+add-t c = let small = number-small _ _ (sym (c .before .before .before .before .before .before .number-refused .ensures) ∙ c .before .before .before .before .before .if3 .left) in search needs
+
 mul-t-2 : tie.Need-mul-t-2 Inv-loop μ-loop Inv-entries μ-entries
 mul-t-2 c = let small = number-small _ _ (sym (c .before .before .before .before .before .before .number-refused .ensures) ∙ c .before .before .before .before .before .if3 .left) in search needs
 
 element-write-t-3 : tie.Need-element-write-t-3 Inv-loop μ-loop Inv-entries μ-entries
 element-write-t-3 c = let small = number-small _ _ (sym (c .before .before .before .before .before .before .number-refused .ensures) ∙ c .before .before .before .before .before .if3 .left) in search needs
+
+add-t-2 : tie.Need-add-t-2 Inv-loop μ-loop Inv-entries μ-entries
+add-t-2 c = let small = number-small _ _ (sym (c .before .before .before .before .before .before .number-refused .ensures) ∙ c .before .before .before .before .before .if3 .left) in search needs
 
 mul-t-3 : tie.Need-mul-t-3 Inv-loop μ-loop Inv-entries μ-entries
 mul-t-3 c = let small = number-small _ _ (sym (c .before .before .before .before .before .before .number-refused .ensures) ∙ c .before .before .before .before .before .if3 .left) in search needs
@@ -147,7 +152,7 @@ entries-less : tie.Need-entries-less Inv-loop μ-loop Inv-entries μ-entries
 entries-less c = search needs
 
 entries-again : tie.Need-entries-again Inv-loop μ-loop Inv-entries μ-entries
-unfolding with-task
+unfolding with-task with-lengths
 entries-again c =
     let v = c .before .before .before .before .before .before .before .before .before .before .before .before .before .before .before .entries in let s = c .before .before .before .before .before .before .before .before .before .before .before .before .before .before .before .before .before .before .args .s .now in
     let w = c .before .before .before .before .before .loop in
@@ -160,8 +165,6 @@ entries-again c =
           (turn-on s (v .at) (v .t) (v .marked) (v .inv .3) (c .before .before .before .before .before .before .before .before .before .before .before .before .before .before .if1 .left) _ _
           (λ k. takes s (v .at) (v .t) (v .marked) k (before-release s (v .at) (c .before .before .before .before .before .before .before .before .before .before .before .before .before .before .if1 .left) (λ x. c .before .before .before .before .before .before .before .before .before .before .before .before .if2 .left (c .before .before .before .before .before .before .before .before .before .before .before .before .before .get-u8 .ensures ∙ x))) _ (sym (c .before .before .before .before .before .before .before .before .before .before .before .entry-at .ensures) ∙ c .before .before .before .before .before .before .before .before .before .entry2 .given .1) ((others-last (v .t) _ (sym (c .before .before .before .before .before .before .before .number-refused .ensures) ∙ c .before .before .before .before .before .before .if3 .left) (searched-all (v .t) _ (w .left) (c .before .before .before .before .loop-test .left) (w .inv))) ∙ sym (c .before .before .before .mark-or-length-refusal .ensures) ∙ c .before .before .if5 .left))),
       simp length-set (v .inv .4),
-      simp length-set (v .inv .5),
-      simp length-set (v .inv .6),
     )
 
 returns : tie.Need-returns Inv-loop μ-loop Inv-entries μ-entries
@@ -235,8 +238,10 @@ read-spec =
     element-write-t
     mul-t
     element-write-t-2
+    add-t
     mul-t-2
     element-write-t-3
+    add-t-2
     mul-t-3
     element-write-t-4
     with-marked-requires

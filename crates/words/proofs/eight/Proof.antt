@@ -1,6 +1,6 @@
 -- `words::eight` meets its contract: a number of eight bytes is its two parts. Assumes nothing.
 use native.Mathlib.Omega.{arith}
-use Rattle.words.specs.Laws.{parts}
+use Rattle.words.proofs.Laws.{parts}
 use borrow.Author.Needs.{needs}
 use Rattle.words.proofs.eight.Statement.{statement}
 use Rattle.words.proofs.eight.Tie as tie

@@ -1,6 +1,6 @@
 -- `words::four` meets its contract: a number of four bytes is its two parts. Assumes nothing.
 use native.Mathlib.Omega.{arith}
-use Rattle.words.specs.Laws.{parts}
+use Rattle.words.proofs.Laws.{parts}
 use borrow.Author.Needs.{needs}
 use Rattle.words.proofs.four.Statement.{statement}
 use Rattle.words.proofs.four.Tie as tie

@@ -1,6 +1,6 @@
 -- `words::get_u8` meets its contract: the byte at a place is the number of one byte there. Assumes nothing.
 use mathlib.Core.Path.{sym}
-use Rattle.words.specs.Laws.{one-byte, past}
+use Rattle.words.proofs.Laws.{one-byte, past}
 use borrow.Author.Needs.{needs}
 use Rattle.words.proofs.get_u8.Statement.{statement}
 use Rattle.words.proofs.get_u8.Tie as tie

@@ -5,7 +5,7 @@ use Prim.Native.Nat.{ℕ, _+_, _-_, _≤_}
 use mathlib.Core.Path.{_≡_, subst}
 use lib.ListN.{length}
 use Rattle.words.specs.Words.{LeftAt}
-use Rattle.words.specs.Laws.{left-none, left-more}
+use Rattle.words.proofs.Laws.{left-none, left-more}
 use Rattle.words.proofs.left.Statement.{statement}
 use Rattle.words.proofs.left.Tie as tie
 

@@ -2,7 +2,7 @@
 use native.Mathlib.Omega.{arith}
 use lib.ListN.{length-set}
 use Rattle.words.specs.Words.{bytesOf}
-use Rattle.words.specs.Laws.{stored, too-short}
+use Rattle.words.proofs.Laws.{stored, too-short}
 use borrow.Author.Needs.{needs}
 use Rattle.words.proofs.put_u64.Statement.{statement}
 use Rattle.words.proofs.put_u64.Tie as tie

@@ -1,7 +1,7 @@
 -- `words::put_u8` meets its contract: the bytes are stored one after the other, or none is. Assumes nothing.
 use native.Mathlib.Nat.{mod-eq-of-lt}
 use Rattle.words.specs.Words.{bytesOf}
-use Rattle.words.specs.Laws.{stored, too-short}
+use Rattle.words.proofs.Laws.{stored, too-short}
 use borrow.Author.Needs.{needs}
 use Rattle.words.proofs.put_u8.Statement.{statement}
 use Rattle.words.proofs.put_u8.Tie as tie

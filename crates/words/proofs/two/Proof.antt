@@ -1,7 +1,7 @@
 -- `words::two` meets its contract: a number of two bytes is its two parts. Assumes nothing.
 use Prim.Native.Nat.{_+_}
 use native.Mathlib.Omega.{arith}
-use Rattle.words.specs.Laws.{parts, one-byte}
+use Rattle.words.proofs.Laws.{parts, one-byte}
 use borrow.Author.Needs.{needs}
 use Rattle.words.proofs.two.Statement.{statement}
 use Rattle.words.proofs.two.Tie as tie

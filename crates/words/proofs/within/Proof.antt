@@ -4,7 +4,7 @@ use Prim.Native.Nat.{_+_}
 use native.Mathlib.Omega.{arith}
 use borrow.Author.Tests.{lt-leb}
 use lib.ListN.{length}
-use Rattle.words.specs.Laws.{after}
+use Rattle.words.proofs.Laws.{after}
 use borrow.Author.Needs.{needs}
 use Rattle.words.proofs.within.Statement.{statement}
 use Rattle.words.proofs.within.Tie as tie

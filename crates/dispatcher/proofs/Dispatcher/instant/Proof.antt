@@ -3,8 +3,9 @@ use mathlib.Core.Path.{refl, sym, _∙_}
 use borrow.Author.Tests.{eq-eqb, ne-eqb}
 use borrow.Author.Needs.{needs}
 use Rattle.rules.specs.Calls.{instant}
-use Rattle.rules.specs.Apart.{whole}
-use Rattle.dispatcher.specs.Reading.{state-of}
+use Rattle.rules.specs.Registers.{state-in}
+use Rattle.dispatcher.specs.Dispatcher.{state-of}
+use Rattle.dispatcher.proofs.Numbered.{answered}
 use Rattle.dispatcher.proofs.Dispatcher.instant.Statement.{statement}
 use Rattle.dispatcher.proofs.Dispatcher.instant.Tie as tie
 
@@ -15,21 +16,18 @@ served-requires : tie.Need-served-requires
 served-requires c κs = search needs
 
 returns : tie.Need-returns
-unfolding instant whole
+unfolding instant state-in
 returns c =
     let s = c .before .before .before .args in
     let n = c .before .before .refusal .ensures (state-of (s .self)) refl refl refl in
-    record {
-      step = simp (← n, eq-eqb _ _ (c .before .if1 .taken), c .served .ensures);
-      untouched = λ f. absurd (f (sym n ∙ c .before .if1 .taken));
-    }
+    answered _ _ _ _ (simp (← n, eq-eqb _ _ (c .before .if1 .taken), c .served .ensures)) (λ f. absurd (f (sym n ∙ c .before .if1 .taken)))
 
 returns-2 : tie.Need-returns-2
-unfolding instant whole
+unfolding instant state-in
 returns-2 c =
     let s = c .before .before .args in
     let n = c .before .refusal .ensures (state-of (s .self)) refl refl refl in
-    record { step = simp (← n, ne-eqb _ _ (c .if1 .left)); untouched = λ f. refl }
+    answered _ _ _ _ (simp (← n, ne-eqb _ _ (c .if1 .left))) (λ f. refl)
 
 pub instant-spec : {M : Type 1} → statement M
 instant-spec = tie.close (tie.spec refusal-requires served-requires returns returns-2)

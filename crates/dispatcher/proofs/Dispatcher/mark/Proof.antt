@@ -3,6 +3,7 @@ use mathlib.Core.Path.{refl, sym, _∙_}
 use borrow.Author.Tests.{eq-eqb, ne-eqb}
 use borrow.Author.Needs.{needs}
 use Rattle.rules.specs.Calls.{mark}
+use Rattle.dispatcher.proofs.Numbered.{mark-answered}
 use Rattle.dispatcher.proofs.Dispatcher.mark.Statement.{statement}
 use Rattle.dispatcher.proofs.Dispatcher.mark.Tie as tie
 
@@ -14,14 +15,13 @@ with-mark-requires c κs = search needs
 
 returns : tie.Need-returns
 unfolding mark
-returns c = record {
-  step = simp (← c .before .before .mark-refusal .ensures, eq-eqb _ _ (c .before .if1 .taken), c .with-mark .ensures);
-  untouched = λ f. absurd (f (sym (c .before .before .mark-refusal .ensures) ∙ c .before .if1 .taken));
-}
+returns c =
+    mark-answered _ _ _ _ (simp (← c .before .before .mark-refusal .ensures, eq-eqb _ _ (c .before .if1 .taken), c .with-mark .ensures))
+    (λ f. absurd (f (sym (c .before .before .mark-refusal .ensures) ∙ c .before .if1 .taken)))
 
 returns-2 : tie.Need-returns-2
 unfolding mark
-returns-2 c = record { step = simp (← c .before .mark-refusal .ensures, ne-eqb _ _ (c .if1 .left)); untouched = λ f. refl }
+returns-2 c = mark-answered _ _ _ _ (simp (← c .before .mark-refusal .ensures, ne-eqb _ _ (c .if1 .left))) (λ f. refl)
 
 pub mark-spec : {M : Type 1} → statement M
 mark-spec = tie.close (tie.spec mark-refusal-requires with-mark-requires returns returns-2)

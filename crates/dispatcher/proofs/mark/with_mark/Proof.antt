@@ -4,7 +4,7 @@ use borrow.Author.Tests.{eq-eqb, ne-eqb}
 use borrow.Author.Needs.{needs}
 use lib.Dec.{eqb}
 use Rattle.sets.specs.Sets.{insert, remove}
-use Rattle.rules.specs.Apart.{interval-in, phase-in, whole}
+use Rattle.rules.specs.Registers.{interval-in, phase-in, state-in}
 use Rattle.dispatcher.proofs.mark.with_mark.Statement.{statement}
 use Rattle.dispatcher.proofs.mark.with_mark.Tie as tie
 
@@ -15,7 +15,7 @@ remove-requires : tie.Need-remove-requires
 remove-requires c κs = search needs
 
 returns : tie.Need-returns
-unfolding whole phase-in interval-in
+unfolding state-in phase-in interval-in
 returns c =
     let w = c .before .before .before in
     let s = w .before .before .args in

@@ -7,7 +7,7 @@ use borrow.Author.Needs.{needs}
 use lib.ListN.{length, length-append}
 use borrow.Fn.Kinds.{In}
 use borrow.Fn.PlainCycle.{Measures, is, falls, and}
-use Rattle.lines.specs.Laws.{one-digit, last-digit, more-digits, _then_}
+use Rattle.lines.proofs.Laws.{one-digit, last-digit, more-digits, _then_}
 use Rattle.lines.proofs.Text.byte.Reads as byte
 use Rattle.lines.proofs.Text.number.Reads as number
 use Rattle.lines.proofs.Text.number.Kinds as number-kinds

@@ -1,6 +1,6 @@
 -- `lines::Text::answer` meets its contract: the fields one after the other. Assumes nothing.
 use Rattle.lines.specs.Lines.{answer-line}
-use Rattle.lines.specs.Laws.{_then_}
+use Rattle.lines.proofs.Laws.{_then_}
 use borrow.Author.Needs.{needs}
 use Rattle.lines.proofs.Text.answer.Statement.{statement}
 use Rattle.lines.proofs.Text.answer.Tie as tie

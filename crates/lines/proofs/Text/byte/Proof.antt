@@ -1,6 +1,6 @@
 -- `lines::Text::byte` meets its contract: the byte is stored behind those that are there. Assumes nothing.
 use borrow.Author.Needs.{needs}
-use Rattle.lines.specs.Laws.{one-byte}
+use Rattle.lines.proofs.Laws.{one-byte}
 use Rattle.lines.proofs.Text.byte.Statement.{statement}
 use Rattle.lines.proofs.Text.byte.Tie as tie
 

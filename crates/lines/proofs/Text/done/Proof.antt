@@ -1,5 +1,5 @@
 -- `lines::Text::done` meets its contract: by cases. Assumes nothing.
-use Rattle.lines.specs.Laws.{nothing}
+use Rattle.lines.proofs.Laws.{nothing}
 use borrow.Author.Needs.{needs}
 use Rattle.lines.proofs.Text.done.Statement.{statement}
 use Rattle.lines.proofs.Text.done.Tie as tie

@@ -1,6 +1,6 @@
 -- `lines::Text::due_field` meets its contract: by cases. Assumes nothing.
 use native.Mathlib.Omega.{arith}
-use Rattle.lines.specs.Laws.{at-most}
+use Rattle.lines.proofs.Laws.{at-most}
 use borrow.Author.Needs.{needs}
 use Rattle.lines.proofs.Text.due_field.Statement.{statement}
 use Rattle.lines.proofs.Text.due_field.Tie as tie

@@ -1,7 +1,7 @@
 -- `lines::Text::interval` meets its contract: the fields one after the other. Assumes nothing.
 use native.Mathlib.Omega.{arith}
 use Rattle.lines.specs.Lines.{interval-line}
-use Rattle.lines.specs.Laws.{_then_}
+use Rattle.lines.proofs.Laws.{_then_}
 use borrow.Author.Needs.{needs}
 use Rattle.lines.proofs.Text.interval.Statement.{statement}
 use Rattle.lines.proofs.Text.interval.Tie as tie

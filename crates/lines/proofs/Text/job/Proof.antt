@@ -1,6 +1,6 @@
 -- `lines::Text::job` meets its contract: the fields one after the other. Assumes nothing.
 use Rattle.lines.specs.Lines.{job-line}
-use Rattle.lines.specs.Laws.{_then_}
+use Rattle.lines.proofs.Laws.{_then_}
 use borrow.Author.Needs.{needs}
 use Rattle.lines.proofs.Text.job.Statement.{statement}
 use Rattle.lines.proofs.Text.job.Tie as tie

@@ -1,5 +1,5 @@
 -- `lines::Text::no_field` meets its contract. Assumes nothing.
-use Rattle.lines.specs.Laws.{_then_}
+use Rattle.lines.proofs.Laws.{_then_}
 use borrow.Author.Needs.{needs}
 use Rattle.lines.proofs.Text.no_field.Statement.{statement}
 use Rattle.lines.proofs.Text.no_field.Tie as tie

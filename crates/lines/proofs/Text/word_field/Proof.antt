@@ -1,6 +1,6 @@
 -- `lines::Text::word_field` meets its contract: the number has at most 10 digits. Assumes nothing.
 use native.Mathlib.Omega.{arith}
-use Rattle.lines.specs.Laws.{short, at-most, _then_}
+use Rattle.lines.proofs.Laws.{short, at-most, _then_}
 use borrow.Author.Needs.{needs}
 use Rattle.lines.proofs.Text.word_field.Statement.{statement}
 use Rattle.lines.proofs.Text.word_field.Tie as tie

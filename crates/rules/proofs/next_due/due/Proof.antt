@@ -1,7 +1,7 @@
 -- `rules::next_due::due` meets its contract: by whether an interval is open. Assumes nothing.
 use borrow.Author.Tests.{eq-eqb, ne-eqb}
 use Rattle.rules.specs.Instant.{due}
-use Rattle.rules.specs.Apart.{interval-in, phase-in}
+use Rattle.rules.specs.Registers.{interval-in, phase-in}
 use borrow.Author.Needs.{needs}
 use Rattle.rules.proofs.next_due.due.Statement.{statement}
 use Rattle.rules.proofs.next_due.due.Tie as tie

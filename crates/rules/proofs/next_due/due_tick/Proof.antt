@@ -3,7 +3,7 @@ use mathlib.Core.Path.{_∙_}
 use native.Mathlib.Nat.{min-comm}
 use borrow.Author.Tests.{eq-eqb, ne-eqb}
 use Rattle.rules.specs.Instant.{due}
-use Rattle.rules.specs.Apart.{interval-in, phase-in}
+use Rattle.rules.specs.Registers.{interval-in, phase-in}
 use Rattle.rules.proofs.Ticks.{never-stands, both}
 use borrow.Author.Needs.{needs}
 use Rattle.rules.proofs.next_due.due_tick.Statement.{statement}

@@ -3,7 +3,7 @@ use Rattle.rules.specs.Types.{cond, ℕ, _+_, _<_, min, _≡_}
 use native.Mathlib.Omega.{arith}
 use borrow.Author.Tests.{ltb-true, ltb-false}
 use lib.Dec.{ltb}
-use Rattle.sets.specs.Laws.{by-test}
+use Rattle.sets.proofs.Laws.{by-test}
 use Rattle.rules.proofs.order.can_rise.Statement.{statement}
 use Rattle.rules.proofs.order.can_rise.Tie as tie
 

@@ -6,7 +6,7 @@ use borrow.Author.Needs.{needs}
 use lib.Dec.{ltb}
 use lib.ListN.{getD}
 use Rattle.sets.specs.Sets.{member, lowest}
-use Rattle.sets.specs.Laws.{by-test, none-past, collect-small, collected}
+use Rattle.sets.proofs.Laws.{by-test, none-past, collect-small, collected}
 use Rattle.rules.specs.Order.{higher-than}
 use Rattle.rules.specs.Instant.{counted}
 use Rattle.rules.proofs.Members.{is-task-left, falls}

@@ -6,9 +6,9 @@ use borrow.Author.Needs.{needs}
 use borrow.Author.Tests.{lt-ltb, le-ltb}
 use lib.ListN.{getD}
 use Rattle.sets.specs.Sets.{member, lowest}
-use Rattle.sets.specs.Laws.{lowest-first, lowest-none}
+use Rattle.sets.proofs.Laws.{lowest-first, lowest-none}
 use Rattle.rules.specs.Order.{better, highest-below, highest}
-use Rattle.rules.specs.Apart.{as-task}
+use Rattle.rules.specs.Registers.{as-task}
 use Rattle.rules.proofs.Members.{Left, Turn, start, turn, is-task-left, falls}
 use Rattle.rules.proofs.order.first.Statement.{statement}
 use Rattle.rules.proofs.order.first.Tie as tie

@@ -1,4 +1,4 @@
--- `rules::step_a::copyin_at` meets its contract: by the kind of the copy-in, and whether it ends now. Assumes nothing.
+-- `rules::step_a::copyin_at` meets its contract: by the kind of the copy-in, and whether it is-over now. Assumes nothing.
 use borrow.Author.Tests.{eq-eqb, ne-eqb}
 use Rattle.rules.specs.Types.{refl}
 use Rattle.rules.proofs.Parts.{copyin-stays}

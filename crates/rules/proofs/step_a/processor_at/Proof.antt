@@ -1,4 +1,4 @@
--- `rules::step_a::processor_at` meets its contract: by the kind of the processor, and whether its phase ends now. Assumes nothing.
+-- `rules::step_a::processor_at` meets its contract: by the kind of the processor, and whether its phase is-over now. Assumes nothing.
 use borrow.Author.Tests.{ne-eqb}
 use Rattle.rules.proofs.Parts.{processor-stays, processor-copied, processor-executed, processor-rests}
 use borrow.Author.Needs.{needs}
@@ -10,8 +10,8 @@ returns c table e =
     let a = c .before .before .args in
     processor-stays table (a .t) (a .p .kind) (a .p .task) (a .p .start) (a .p .until) (c .if1 .taken)
 
-length-of-requires : tie.Need-length-of-requires
-length-of-requires c κs = search needs
+execution-length-requires : tie.Need-execution-length-requires
+execution-length-requires c κs = search needs
 
 later-requires : tie.Need-later-requires
 later-requires c κs = search needs
@@ -19,7 +19,7 @@ later-requires c κs = search needs
 returns-2 : tie.Need-returns-2
 returns-2 c table e =
     let a = c .before .before .before .before .before .before .before .args in
-    processor-copied table (a .execution .now) (a .t) (a .p .kind) (a .p .task) (a .p .start) (a .p .until) _ _ (c .before .before .before .before .before .if1 .left) (c .before .before .before .if2 .taken) (c .before .length-of .ensures) (c .later .ensures) e
+    processor-copied table (a .columns .now) (a .t) (a .p .kind) (a .p .task) (a .p .start) (a .p .until) _ _ (c .before .before .before .before .before .if1 .left) (c .before .before .before .if2 .taken) (c .before .execution-length .ensures) (c .later .ensures) e
 
 returns-3 : tie.Need-returns-3
 returns-3 c table e =
@@ -33,4 +33,4 @@ returns-4 c table e =
 
 pub processor-at-spec : {M : Type 1} → statement M
 processor-at-spec =
-    tie.close (tie.spec returns length-of-requires later-requires returns-2 returns-3 returns-4)
+    tie.close (tie.spec returns execution-length-requires later-requires returns-2 returns-3 returns-4)

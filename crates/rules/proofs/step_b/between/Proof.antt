@@ -8,10 +8,10 @@ awaiting-copyout-requires : tie.Need-awaiting-copyout-requires
 awaiting-copyout-requires c κs = search needs
 
 returns : tie.Need-returns
-returns c table clock release blocked p a b =
+returns c m p a b =
     let s = c .before .args in
     let r = s .r in
-    closed-by table clock release blocked r p (c .awaiting-copyout .result) (s .ready) (s .work) (s .task) (c .awaiting-copyout .ensures (r .task) (r .start) (r .until)) a b
+    closed-by m r p (c .awaiting-copyout .result) (s .ready) (s .work) (s .task) (c .awaiting-copyout .ensures (r .task) (r .start) (r .until)) a b
 
 pub between-spec : {M : Type 1} → statement M
 between-spec = tie.close (tie.spec awaiting-copyout-requires returns)

@@ -1,6 +1,6 @@
 -- `rules::step_c::held_over` meets its contract: by whether an interval is open. Assumes nothing.
 use borrow.Author.Tests.{eq-eqb, ne-eqb}
-use Rattle.rules.specs.Apart.{phase-in}
+use Rattle.rules.specs.Registers.{phase-in}
 use Rattle.rules.proofs.step_c.held_over.Statement.{statement}
 use Rattle.rules.proofs.step_c.held_over.Tie as tie
 

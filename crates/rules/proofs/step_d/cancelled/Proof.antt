@@ -5,10 +5,10 @@ use borrow.Author.Tests.{ne-eqb}
 use borrow.Author.Needs.{needs}
 use lib.Dec.{eqb}
 use Rattle.sets.specs.Sets.{intersection}
-use Rattle.sets.specs.Laws.{by-test}
+use Rattle.sets.proofs.Laws.{by-test}
 use Rattle.rules.specs.Order.{highest, outranks}
 use Rattle.rules.specs.Instant.{cancel, cancel-by, step-d}
-use Rattle.rules.specs.Apart.{interval-in, phase-in, whole}
+use Rattle.rules.specs.Registers.{interval-in, phase-in, state-in}
 use Rattle.rules.proofs.step_d.cancelled.Statement.{statement}
 use Rattle.rules.proofs.step_d.cancelled.Tie as tie
 
@@ -21,7 +21,7 @@ cancels d new r e h q = rw (e, q, h)
 
 returns : tie.Need-returns
 unfolding cancel-by step-d interval-in phase-in
-returns c table clock release blocked p =
+returns c m p =
     let k = c .before .before .args .r .copyin in
     let n = ne-eqb k 2 (c .if1 .taken) in
     by-test (eqb k 5)
@@ -50,11 +50,11 @@ insert-requires : tie.Need-insert-requires
 insert-requires c κs = search needs
 
 returns-2 : tie.Need-returns-2
-unfolding cancel interval-in phase-in whole
-returns-2 c table clock release blocked p =
+unfolding cancel interval-in phase-in state-in
+returns-2 c m p =
     let w = c .before .before .before in
     let r = w .before .before .before .before .args .r in
-    let d = whole table clock release blocked r in
+    let d = state-in m r in
     simp (
       cancels d (w .before .before .before .before .args .new) r
           (w .before .before .if1 .left)
@@ -64,11 +64,11 @@ returns-2 c table clock release blocked p =
     )
 
 returns-3 : tie.Need-returns-3
-unfolding cancel whole
-returns-3 c table clock release blocked p =
+unfolding cancel state-in
+returns-3 c m p =
     let w = c .before .before in
     let r = w .before .before .before .before .args .r in
-    let d = whole table clock release blocked r in
+    let d = state-in m r in
     sym
     (cancels d (w .before .before .before .before .args .new) r
     (w .before .before .if1 .left)

@@ -2,16 +2,16 @@
 use borrow.Author.Tests.{ne-eqb, lt-ltb, le-ltb}
 use borrow.Author.Needs.{needs}
 use lib.Dec.{eqb}
-use Rattle.sets.specs.Laws.{by-test}
+use Rattle.sets.proofs.Laws.{by-test}
 use Rattle.rules.specs.Instant.{choose, choose-if, step-e}
-use Rattle.rules.specs.Apart.{interval-in, phase-in, whole}
+use Rattle.rules.specs.Registers.{interval-in, phase-in, state-in}
 use Rattle.rules.proofs.Parts.{not-copying-out}
 use Rattle.rules.proofs.step_e.chosen.Statement.{statement}
 use Rattle.rules.proofs.step_e.chosen.Tie as tie
 
 returns : tie.Need-returns
 unfolding choose-if step-e interval-in phase-in
-returns c table clock release blocked p q =
+returns c m p q =
     let k = c .before .before .args .r .copyin in
     let n = ne-eqb k 0 (c .if1 .taken) in
     by-test (eqb k 5)
@@ -29,13 +29,13 @@ returns c table clock release blocked p q =
 
 returns-2 : tie.Need-returns-2
 unfolding choose-if step-e interval-in phase-in
-returns-2 c table clock release blocked p q = simp (c .before .before .if1 .left, c .if2 .taken)
+returns-2 c m p q = simp (c .before .before .if1 .left, c .if2 .taken)
 
 first-requires : tie.Need-first-requires
 first-requires c κs = search needs
 
-length-of-requires : tie.Need-length-of-requires
-length-of-requires c κs = search needs
+copyin-length-requires : tie.Need-copyin-length-requires
+copyin-length-requires c κs = search needs
 
 later-requires : tie.Need-later-requires
 later-requires c κs = search needs
@@ -44,8 +44,8 @@ remove-requires : tie.Need-remove-requires
 remove-requires c κs = search needs
 
 returns-3 : tie.Need-returns-3
-unfolding choose choose-if step-e interval-in phase-in whole
-returns-3 c table clock release blocked p q =
+unfolding choose choose-if step-e interval-in phase-in state-in
+returns-3 c m p q =
     let w = c .before .before .before .before .before in
     let r = w .before .before .before .before .before .args .r in
     simp (
@@ -57,12 +57,12 @@ returns-3 c table clock release blocked p q =
       lt-ltb _ _ (c .before .before .before .before .if3 .taken),
       c .remove .ensures,
       c .before .later .ensures,
-      c .before .before .length-of .ensures,
+      c .before .before .copyin-length .ensures,
     )
 
 returns-4 : tie.Need-returns-4
-unfolding choose choose-if step-e interval-in phase-in whole
-returns-4 c table clock release blocked p q =
+unfolding choose choose-if step-e interval-in phase-in state-in
+returns-4 c m p q =
     let w = c .before in
     let r = w .before .before .before .before .before .args .r in
     simp (
@@ -80,7 +80,7 @@ chosen-spec =
     returns
     returns-2
     first-requires
-    length-of-requires
+    copyin-length-requires
     later-requires
     remove-requires
     returns-3

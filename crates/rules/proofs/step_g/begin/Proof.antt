@@ -20,14 +20,14 @@ work-of-requires : tie.Need-work-of-requires
 work-of-requires c κs = search needs
 
 returns : tie.Need-returns
-returns c table clock release blocked i e o =
+returns c m e =
     let a = c .before .before .before .before .before .args in
     let r = a .r in
     let x = c .before .before .before .before .begin-processor .result in
     let y = c .before .before .before .begin-copyout .result in
-    begun-with table clock release blocked r (a .t) (a .new) (x .kind) (x .until) (y .kind) (y .until) (c .before .swapped .result) (c .work-of .result) (c .before .before .intersection .result)
-    (c .before .before .before .before .begin-processor .ensures table i e)
-    (c .before .before .before .begin-copyout .ensures table (r .outstart) o)
+    begun-with m r (a .t) (a .new) (x .kind) (x .until) (y .kind) (y .until) (c .before .swapped .result) (c .work-of .result) (c .before .before .intersection .result)
+    (c .before .before .before .before .begin-processor .ensures (m .table) e)
+    (c .before .before .before .begin-copyout .ensures (m .table) (r .outstart) e)
     (c .before .swapped .ensures)
     (c .work-of .ensures (r .task))
     (c .before .before .intersection .ensures)

@@ -8,8 +8,8 @@ use Rattle.rules.proofs.step_g.begin_copyout.Tie as tie
 returns : tie.Need-returns
 returns c table start e = simp (c .if1 .taken)
 
-length-of-requires : tie.Need-length-of-requires
-length-of-requires c κs = search needs
+copyout-length-requires : tie.Need-copyout-length-requires
+copyout-length-requires c κs = search needs
 
 later-requires : tie.Need-later-requires
 later-requires c κs = search needs
@@ -17,7 +17,7 @@ later-requires c κs = search needs
 returns-2 : tie.Need-returns-2
 returns-2 c table start e =
     let a = c .before .before .before .before .args in
-    copyout-begins table (a .copyout .now) (a .t) (a .kind) (a .n) start (c .before .length-of .result) (c .later .result) (ne-eqb _ _ (c .before .before .before .if1 .left)) (c .before .length-of .ensures) (c .later .ensures) e
+    copyout-begins table (a .columns .now) (a .t) (a .kind) (a .n) start (c .before .copyout-length .result) (c .later .result) (ne-eqb _ _ (c .before .before .before .if1 .left)) (c .before .copyout-length .ensures) (c .later .ensures) e
 
 pub begin-copyout-spec : {M : Type 1} → statement M
-begin-copyout-spec = tie.close (tie.spec returns length-of-requires later-requires returns-2)
+begin-copyout-spec = tie.close (tie.spec returns copyout-length-requires later-requires returns-2)

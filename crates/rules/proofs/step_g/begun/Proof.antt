@@ -3,7 +3,7 @@ use Rattle.rules.specs.Types.{true, false, ℕ, Next, Outgoing, Between,
 use borrow.Author.Tests.{ne-eqb}
 use borrow.Author.Needs.{needs}
 use Rattle.rules.specs.Instant.{wanted, begin, step-e, step-g}
-use Rattle.rules.specs.Apart.{as-next, as-outgoing, phase-in, whole}
+use Rattle.rules.specs.Registers.{as-next, as-outgoing, phase-in, state-in}
 use Rattle.rules.proofs.step_g.begun.Statement.{statement}
 use Rattle.rules.proofs.step_g.begun.Tie as tie
 
@@ -22,7 +22,7 @@ waits d t new next outgoing e = rw (sym e)
 
 returns : tie.Need-returns
 unfolding phase-in step-g
-returns c table clock release blocked p q e o = simp (ne-eqb _ _ (c .if1 .taken))
+returns c m p q = simp (ne-eqb _ _ (c .if1 .taken))
 
 wanted-requires : tie.Need-wanted-requires
 wanted-requires c κs = search needs
@@ -34,24 +34,24 @@ chosen-requires : tie.Need-chosen-requires
 chosen-requires c κs = search needs
 
 returns-2 : tie.Need-returns-2
-unfolding whole
-returns-2 c table clock release blocked p q e o =
+unfolding state-in
+returns-2 c m p q =
     let w = c .before .before .before in
     let s = w .before .before .before .args in
     let r = s .r in
-    let d = whole table clock release blocked r in
+    let d = state-in m r in
     begins d (s .t) (s .new) (as-next (r .work) (r .task)) (as-outgoing (r .copyout) (r .outtask) (r .outstart))
     (sym (c .before .before .if2 .taken) ∙ w .wanted .ensures)
-    (c .before .begin .ensures table clock release blocked q e o)
-    (c .chosen .ensures table clock release blocked p q)
+    (c .before .begin .ensures m q)
+    (c .chosen .ensures m p q)
     ∙ ap (step-g d (s .t) (s .new)) (sym (none-open r (w .before .if1 .left)))
 
 returns-3 : tie.Need-returns-3
-unfolding whole
-returns-3 c table clock release blocked p q e o =
+unfolding state-in
+returns-3 c m p q =
     let s = c .before .before .before .before .args in
     let r = s .r in
-    let d = whole table clock release blocked r in
+    let d = state-in m r in
     waits d (s .t) (s .new) (as-next (r .work) (r .task)) (as-outgoing (r .copyout) (r .outtask) (r .outstart))
     (sym (c .if2 .left) ∙ c .before .wanted .ensures)
     ∙ ap (step-g d (s .t) (s .new)) (sym (none-open r (c .before .before .if1 .left)))

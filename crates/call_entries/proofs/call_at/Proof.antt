@@ -1,0 +1,44 @@
+-- `call_entries::call_at` meets its contract: by the kind. Assumes nothing.
+use borrow.Author.Tests.{le-leb, lt-leb, eq-eqb, ne-eqb}
+use Rattle.words.proofs.Laws.{one-byte}
+use Rattle.call_entries.specs.Calls.{call-at}
+use borrow.Author.Needs.{needs}
+use Rattle.call_entries.proofs.call_at.Statement.{statement}
+use Rattle.call_entries.proofs.call_at.Tie as tie
+
+returns : tie.Need-returns
+unfolding call-at
+returns c = simp (le-leb _ _ (c .if1 .taken))
+
+shared-slice-read-kind : tie.Need-shared-slice-read-kind
+shared-slice-read-kind c = search needs
+
+instant-at-requires : tie.Need-instant-at-requires
+instant-at-requires c κs = search needs
+
+returns-2 : tie.Need-returns-2
+unfolding call-at
+returns-2 c = simp (lt-leb _ _ (c .before .before .before .if1 .left), one-byte, eq-eqb _ _ (c .before .if2 .taken), c .instant-at .ensures)
+
+mark-at-requires : tie.Need-mark-at-requires
+mark-at-requires c κs = search needs
+
+returns-3 : tie.Need-returns-3
+unfolding call-at
+returns-3 c = simp (lt-leb _ _ (c .before .before .before .before .if1 .left), one-byte, ne-eqb _ _ (c .before .before .if2 .left), eq-eqb _ _ (c .before .if3 .taken), c .mark-at .ensures)
+
+returns-4 : tie.Need-returns-4
+unfolding call-at
+returns-4 c = simp (lt-leb _ _ (c .before .before .before .if1 .left), one-byte, ne-eqb _ _ (c .before .if2 .left), ne-eqb _ _ (c .if3 .left))
+
+pub call-at-spec : {M : Type 1} → statement M
+call-at-spec =
+    tie.close
+    (tie.spec
+    returns
+    shared-slice-read-kind
+    instant-at-requires
+    returns-2
+    mark-at-requires
+    returns-3
+    returns-4)

@@ -1,3 +1,0 @@
-pub mod Types
-pub mod Calls
-pub mod Laws

@@ -1,0 +1,89 @@
+-- `dispatcher::instant::steps_a_to_g` meets its contract: the steps, one behind the other. Assumes nothing.
+use Rattle.dispatcher.specs.Types.{sym, _∙_}
+use borrow.Author.Needs.{needs}
+use Rattle.rules.specs.Instant.{taken, at-a, at-b}
+use Rattle.rules.specs.Registers.{arrays, with-arrays, with-counts, at-tick, state-in}
+use Rattle.rules.proofs.BySteps.{Steps, keeps-done, is-g, is-occurred}
+use Rattle.dispatcher.proofs.instant.steps_a_to_g.Statement.{statement}
+use Rattle.dispatcher.proofs.instant.steps_a_to_g.Tie as tie
+
+completed-requires : tie.Need-completed-requires
+completed-requires c κs = search needs
+
+steps-a-b-requires : tie.Need-steps-a-b-requires
+steps-a-b-requires c κs = search needs
+
+difference-requires : tie.Need-difference-requires
+difference-requires c κs = search needs
+
+intersection-requires : tie.Need-intersection-requires
+intersection-requires c κs = search needs
+
+steps-c-to-f-requires : tie.Need-steps-c-to-f-requires
+steps-c-to-f-requires c κs = search needs
+
+held-over-requires : tie.Need-held-over-requires
+held-over-requires c κs = search needs
+
+begun-requires : tie.Need-begun-requires
+begun-requires c κs = search needs
+
+closing-requires : tie.Need-closing-requires
+closing-requires c κs = search needs
+
+due-requires : tie.Need-due-requires
+due-requires c κs = search needs
+
+returns : tie.Need-returns
+unfolding state-in taken at-a at-b
+returns c m p e =
+    let begun = c .before .before in
+    let second = begun .before .before .before .steps-c-to-f in
+    let skips = begun .before .before .before .before .before .before in
+    let new = skips .before .difference in
+    let first = skips .before .before .before in
+    let completes = first .before .before in
+    let s = completes .before .before .before .args in
+    let t = s .t in
+    let at = with-arrays m (arrays (s .release .now) (s .blocked .now)) in
+    let d = state-in at (s .r) in
+    let a = at-a d t in
+    let b-memory = with-counts (at-tick at t) (first .steps-a-b .last .1 .1 .1 .1 .0) in
+    let b = first .steps-a-b .ensures at p e in
+    let f = second .ensures b-memory p e in
+    let f-memory = with-arrays (at-tick m t) (arrays (second .last .1 .1 .1 .1 .1 .0) (second .last .1 .1 .1 .1 .1 .1 .0)) in
+    let steps : Steps d t (s .set) (new .result) (begun .before .held-over .result)
+    (state-in b-memory (first .steps-a-b .result .registers))
+    (state-in f-memory (second .result .registers))
+    (state-in f-memory (begun .begun .result)) = record {
+      b-is = b .state;
+      new-is = new .ensures;
+      f-is = f .state;
+      held-is = begun .before .held-over .ensures;
+      g-is = begun .begun .ensures f-memory p e;
+    } in
+    record {
+      state = is-g d t (s .set) steps;
+      occurs = is-occurred d t (s .set) steps
+          (completes .completed .ensures (at-tick m t) ∙ sym (keeps-done a t (a .state .phase)))
+          (b .interval)
+          (f .interval)
+          (c .before .closing .ensures)
+          (skips .intersection .ensures)
+          (c .due .ensures);
+    }
+
+pub steps-a-to-g-spec : {M : Type 1} → statement M
+steps-a-to-g-spec =
+    tie.close
+    (tie.spec
+    completed-requires
+    steps-a-b-requires
+    difference-requires
+    intersection-requires
+    steps-c-to-f-requires
+    held-over-requires
+    begun-requires
+    closing-requires
+    due-requires
+    returns)

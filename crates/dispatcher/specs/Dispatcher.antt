@@ -1,0 +1,39 @@
+-- The dispatcher read as the state of the rules: what its functions promise is said of this reading.
+use Rattle.dispatcher.specs.Types.{ℕ, _≡_, State, Dispatcher, Answer, Step, MarkStep, Opening}
+use Rattle.rules.specs.Calls as rules
+use Rattle.rules.specs.Answers.{answer-number, answer-values, mark-number}
+use Rattle.rules.specs.Registers.{arrays, Memory, state-in}
+
+abbrev pub memory-of : Dispatcher → Memory
+memory-of d = record { table = d .table; clock = d .clock; arrays = arrays (d .release) (d .blocked) }
+
+abbrev pub state-of : Dispatcher → State
+state-of d = state-in (memory-of d) (d .registers)
+
+-- what a call hands back
+abbrev pub step-of : Step → rules.Step
+step-of s = record { state = state-of (s .state); answer = s .answer }
+
+abbrev pub mark-step-of : MarkStep → rules.MarkStep
+mark-step-of s = record { state = state-of (s .state); answer = s .answer }
+
+abbrev pub opening-of : Opening → rules.Opening
+opening-of o = record { state = state-of (o .state); refusal = o .refusal }
+
+-- ---- What a call promises: its outcome is the rules', in document 01's numbers too, and one that is refused hands back the very state that it
+-- was handed
+
+pub record Answers (d : Dispatcher) (t set : ℕ) (r : Step) : Type 0 where
+  pub step : step-of r ≡ rules.instant (state-of d) t set
+  pub number : answer-number (r .answer) ≡ rules.refusal (state-of d) t set
+  pub values : answer-values (r .answer) ≡ answer-values (rules.instant (state-of d) t set .answer)
+  pub untouched : (rules.refusal (state-of d) t set ≡ 0 → ⊥) → r .state ≡ d
+
+pub record MarkAnswers (d : Dispatcher) (n m : ℕ) (r : MarkStep) : Type 0 where
+  pub step : mark-step-of r ≡ rules.mark (state-of d) n m
+  pub number : mark-number (r .answer) ≡ rules.mark-refusal (state-of d) n m
+  pub untouched : (rules.mark-refusal (state-of d) n m ≡ 0 → ⊥) → r .state ≡ d
+
+-- an instant of a dispatcher where it is kept promises the same of what stands there afterwards
+abbrev pub Advances : Dispatcher → ℕ → ℕ → Answer → Dispatcher → Type 0
+Advances d t set answer after = Answers d t set (record { state = after; answer = answer })

@@ -1,0 +1,95 @@
+-- An entry of the record that was written is taken apart again as the same entry. Assumes nothing.
+use mathlib.Core.Path.{_≡_, refl, sym, ap, _∙_}
+use mathlib.Core.List.{List, [], _∷_, _++_}
+use Prim.Native.Nat.{ℕ, _-_, _^_, _<_}
+use native.Mathlib.Nat.{add-zero}
+use native.Mathlib.Omega.{arith}
+use borrow.Author.Tests.{le-leb, ne-eqb}
+use lib.ListN.{length}
+use Rattle.words.specs.Words.{bytesOf, numberAt}
+use Rattle.words.proofs.Laws.{one-byte, round-trip-at}
+use Rattle.entries.specs.Types.{MaybeTask, NoTask, Task, Release, JobEntry, IntervalEntry, RecordEntry, JobDone, IntervalEnded, ReleaseSkipped}
+use Rattle.entries.specs.Entries.{release-at, task-byte, job-bytes, choice-bytes, interval-bytes, skipped-bytes, task-of, job-at, interval-at, record-entry-at}
+use Rattle.entries.specs.RoundTrip.{TaskFits, JobFits, IntervalFits, ReadAs, RoundTrip}
+use Rattle.entries.proofs.Places.{entry-behind}
+
+named : (t : MaybeTask) → TaskFits t → task-of (task-byte t) ≡ t
+unfolding task-of TaskFits
+named NoTask h = refl
+named (Task n) h = rw (ne-eqb n 255 h)
+
+module _ (e : JobEntry) (rest : List ℕ) (fits : JobFits e) where
+  job-there : job-at (job-bytes e ++ rest) 0 ≡ e
+  unfolding job-at job-bytes bytesOf
+  job-there =
+      let s : List ℕ = job-bytes e ++ rest in
+      let a : numberAt 1 s 1 ≡ e .task = one-byte s 1 in
+      let b : numberAt 8 s 2 ≡ e .release =
+      round-trip-at 8 (e .release) (16 ∷ e .task ∷ []) (bytesOf 8 (e .start) ++ (bytesOf 8 (e .completion) ++ (e .blocked ∷ rest))) (fits .release-fits) in
+      let c : numberAt 8 s 10 ≡ e .start =
+      round-trip-at 8 (e .start) (16 ∷ e .task ∷ bytesOf 8 (e .release)) (bytesOf 8 (e .completion) ++ (e .blocked ∷ rest)) (fits .start-fits) in
+      let d : numberAt 8 s 18 ≡ e .completion =
+      round-trip-at 8 (e .completion) (16 ∷ e .task ∷ (bytesOf 8 (e .release) ++ bytesOf 8 (e .start))) (e .blocked ∷ rest) (fits .completion-fits) in
+      let f : numberAt 1 s 26 ≡ e .blocked = one-byte s 26 in
+      rw (a, b, c, d, f)
+
+  job-read : record-entry-at (job-bytes e ++ rest) 0 ≡ JobDone e
+  unfolding record-entry-at job-bytes bytesOf
+  job-read =
+      let s : List ℕ = job-bytes e ++ rest in
+      let kind : numberAt 1 s 0 ≡ 16 = one-byte s 0 in
+      rw (kind, le-leb 27 (length s - 0) (omega arith), job-there)
+
+module _ (e : IntervalEntry) (rest : List ℕ) (fits : IntervalFits e) where
+  interval-there : interval-at (interval-bytes e ++ rest) 0 ≡ e
+  unfolding interval-at interval-bytes choice-bytes bytesOf
+  interval-there =
+      let s : List ℕ = interval-bytes e ++ rest in
+      let begin : numberAt 8 s 1 ≡ e .begin = round-trip-at 8 (e .begin) (17 ∷ []) (bytesOf 8 (e .end) ++ (choice-bytes e ++ rest)) (fits .begin-fits) in
+      let end : numberAt 8 s 9 ≡ e .end = round-trip-at 8 (e .end) (17 ∷ bytesOf 8 (e .begin)) (choice-bytes e ++ rest) (fits .end-fits) in
+      let half : numberAt 1 s 17 ≡ e .half = one-byte s 17 in
+      let task : task-of (numberAt 1 s 18) ≡ e .task = ap task-of (one-byte s 18) ∙ named (e .task) (fits .task-fits) in
+      let work : numberAt 1 s 19 ≡ e .work = one-byte s 19 in
+      let copiedout : task-of (numberAt 1 s 20) ≡ e .copiedout = ap task-of (one-byte s 20) ∙ named (e .copiedout) (fits .copiedout-fits) in
+      let chosen : task-of (numberAt 1 s 21) ≡ e .chosen = ap task-of (one-byte s 21) ∙ named (e .chosen) (fits .chosen-fits) in
+      let fate : numberAt 1 s 22 ≡ e .fate = one-byte s 22 in
+      let promoted : task-of (numberAt 1 s 23) ≡ e .promoted = ap task-of (one-byte s 23) ∙ named (e .promoted) (fits .promoted-fits) in
+      rw (begin, end, half, task, work, copiedout, chosen, fate, promoted)
+
+  interval-read : record-entry-at (interval-bytes e ++ rest) 0 ≡ IntervalEnded e
+  unfolding record-entry-at interval-bytes choice-bytes bytesOf
+  interval-read =
+      let s : List ℕ = interval-bytes e ++ rest in
+      let kind : numberAt 1 s 0 ≡ 17 = one-byte s 0 in
+      rw (kind, le-leb 24 (length s - 0) (omega arith), interval-there)
+
+module _ (n t : ℕ) (rest : List ℕ) (fits : t < 256 ^ 8) where
+  abbrev skip : Release
+  skip = record { task = n; time = t }
+
+  skipped-there : release-at (skipped-bytes n t ++ rest) 0 ≡ skip
+  unfolding release-at skipped-bytes bytesOf
+  skipped-there =
+      let s : List ℕ = skipped-bytes n t ++ rest in
+      let a : numberAt 1 s 1 ≡ n = one-byte s 1 in
+      let b : numberAt 8 s 2 ≡ t = round-trip-at 8 t (18 ∷ n ∷ []) rest fits in
+      rw (a, b)
+
+  skipped-read : record-entry-at (skipped-bytes n t ++ rest) 0 ≡ ReleaseSkipped skip
+  unfolding record-entry-at skipped-bytes bytesOf
+  skipped-read =
+      let s : List ℕ = skipped-bytes n t ++ rest in
+      let kind : numberAt 1 s 0 ≡ 18 = one-byte s 0 in
+      rw (kind, le-leb 10 (length s - 0) (omega arith), skipped-there)
+
+-- and so it is at every place
+anywhere : (bytes : List ℕ) (e : RecordEntry) → ((rest : List ℕ) → record-entry-at (bytes ++ rest) 0 ≡ e) → ReadAs bytes e
+anywhere bytes e h front rest =
+    ap (record-entry-at (front ++ (bytes ++ rest))) (sym (add-zero (length front))) ∙ entry-behind front (bytes ++ rest) 0 ∙ h rest
+
+pub round-trip : RoundTrip
+round-trip = record {
+  job = λ e h. anywhere (job-bytes e) (JobDone e) (λ rest. job-read e rest h);
+  interval = λ e h. anywhere (interval-bytes e) (IntervalEnded e) (λ rest. interval-read e rest h);
+  skipped = λ n t h. anywhere (skipped-bytes n t) _ (λ rest. skipped-read n t rest h);
+}

@@ -1,0 +1,37 @@
+-- An entry of the record that was written is taken apart again as the same entry.
+use mathlib.Core.Path.{_≡_}
+use mathlib.Core.List.{List, _++_}
+use Prim.Native.Nat.{ℕ, _^_, _<_}
+use lib.ListN.{length}
+use Rattle.entries.specs.Types.{MaybeTask, NoTask, Task, JobEntry, IntervalEntry, RecordEntry, JobDone, IntervalEnded, ReleaseSkipped}
+use Rattle.entries.specs.Entries.{job-bytes, interval-bytes, skipped-bytes, record-entry-at}
+
+-- ---- Numbers that fit their fields: a time has 8 bytes, and no task has the number that stands for none
+
+unfoldable pub TaskFits : MaybeTask → Type 0
+TaskFits NoTask = Unit {0}
+TaskFits (Task n) = n ≡ 255 → ⊥
+
+pub record JobFits (e : JobEntry) : Type 0 where
+  pub release-fits : e .release < 256 ^ 8
+  pub start-fits : e .start < 256 ^ 8
+  pub completion-fits : e .completion < 256 ^ 8
+
+pub record IntervalFits (e : IntervalEntry) : Type 0 where
+  pub begin-fits : e .begin < 256 ^ 8
+  pub end-fits : e .end < 256 ^ 8
+  pub task-fits : TaskFits (e .task)
+  pub copiedout-fits : TaskFits (e .copiedout)
+  pub chosen-fits : TaskFits (e .chosen)
+  pub promoted-fits : TaskFits (e .promoted)
+
+-- ---- The claim
+
+-- bytes at any place, with any bytes before and behind them, are an entry
+abbrev pub ReadAs : List ℕ → RecordEntry → Type 0
+ReadAs bytes e = (front rest : List ℕ) → record-entry-at (front ++ (bytes ++ rest)) (length front) ≡ e
+
+pub record RoundTrip : Type 0 where
+  pub job : (e : JobEntry) → JobFits e → ReadAs (job-bytes e) (JobDone e)
+  pub interval : (e : IntervalEntry) → IntervalFits e → ReadAs (interval-bytes e) (IntervalEnded e)
+  pub skipped : (n t : ℕ) → t < 256 ^ 8 → ReadAs (skipped-bytes n t) (ReleaseSkipped (record { task = n; time = t }))

@@ -1,0 +1,159 @@
+-- The walk of Tally over the events of each step, and the arrays by task number.
+use Rattle.guarantees.specs.Types.{_≡_, refl, sym, ap, _∙_, subst, Bool, true, false, cond, _||_, List, [], _∷_, _++_, ℕ, zero, suc, _+_, _<_, min, Table, MaybeTask, NoTask, Task, Processor, Idle, CopyingIn, Executing, Finished, CopyIn, Unchosen, NoneChosen, Copying, Loaded, Cancelled, Next, NoneNext, LoadedNext, PromotedNext, Outgoing, Phase, Between, Within, Done, NoJob, Job, Due, Tick}
+use native.Mathlib.Omega.{arith}
+use native.Mathlib.Nat.{add-zero, not-suc-le-zero, le-of-suc-le-suc}
+use borrow.Author.Tests.{eqb-true, eqb-false, ne-eqb}
+use lib.Dec.{eqb}
+use lib.ListN.{getD, length}
+use Rattle.sets.specs.Sets.{member}
+use Rattle.sets.proofs.Laws.{by-test}
+use Rattle.rules.specs.Instant.{counted, stamped, begin-processor, processor-task, copyout-task, taken}
+use Rattle.guarantees.specs.History.{Starts, Stops, Finishes, Takes, Begins, processor-events, finish-events, completion-events, take-events, begin-events, start-events, execution-events}
+use Rattle.guarantees.specs.Queries.{is-task, Situation, Open, with-finished}
+use Rattle.guarantees.proofs.Steps.{Opened}
+use Rattle.guarantees.proofs.Waiting.{next-task}
+use Rattle.guarantees.proofs.Blocking.{shift}
+use Rattle.guarantees.proofs.Tally.{Tally, or-else, grown, tally-by, tally, tally-append}
+
+-- ---- the arrays by task number
+
+pub counted-length : (s k : ℕ) (xs : List ℕ) → length (counted s k xs) ≡ length xs
+unfolding counted
+counted-length s k [] = refl
+counted-length s k (x ∷ xs) = ap suc (counted-length s (suc k) xs)
+
+pub counted-exact : (s k : ℕ) (xs : List ℕ) (n : ℕ) → n < length xs → getD (counted s k xs) n 0 ≡ cond (member (k + n) s) (min (getD xs n 0 + 1) 255) (getD xs n 0)
+unfolding counted
+counted-exact s k [] n l = absurd (not-suc-le-zero l)
+counted-exact s k (x ∷ xs) zero l = rw (add-zero k)
+counted-exact s k (x ∷ xs) (suc n) l =
+    counted-exact s (suc k) xs n (le-of-suc-le-suc l) ∙ ap (λ (j : ℕ). cond (member j s) (min (getD xs n 0 + 1) 255) (getD xs n 0)) (shift k n)
+
+pub stamped-length : (s v k : ℕ) (xs : List ℕ) → length (stamped s v k xs) ≡ length xs
+unfolding stamped
+stamped-length s v k [] = refl
+stamped-length s v k (x ∷ xs) = ap suc (stamped-length s v (suc k) xs)
+
+pub stamped-exact : (s v k : ℕ) (xs : List ℕ) (n : ℕ) → n < length xs → getD (stamped s v k xs) n 0 ≡ cond (member (k + n) s) v (getD xs n 0)
+unfolding stamped
+stamped-exact s v k [] n l = absurd (not-suc-le-zero l)
+stamped-exact s v k (x ∷ xs) zero l = rw (add-zero k)
+stamped-exact s v k (x ∷ xs) (suc n) l = stamped-exact s v (suc k) xs n (le-of-suc-le-suc l) ∙ ap (λ (j : ℕ). cond (member j s) v (getD xs n 0)) (shift k n)
+
+-- ---- the walk of Tally over the events of each step
+
+module _ (n : ℕ) where
+  abbrev pub with-started : Tally → Due → Tally
+  with-started x s = record { at = x .at; taken = x .taken; waits = x .waits; executed = x .executed; started = s }
+
+  abbrev pub with-at : Tally → Situation → Tally
+  with-at x s = record { at = s; taken = x .taken; waits = x .waits; executed = x .executed; started = x .started }
+
+  -- a
+  abbrev pub started-after : ℕ → Processor → Due → Due
+  started-after t Idle s = s
+  started-after t (CopyingIn m until) s = cond (eqb until t) (cond (eqb n m) (or-else s (Tick t)) s) s
+  started-after t (Executing m start until) s = s
+  started-after t (Finished m start) s = s
+
+  pub processor-tally : (t : ℕ) (q : Processor) (x : Tally) → tally n x (processor-events t q) ≡ with-started x (started-after t q (x .started))
+  unfolding tally processor-events
+  processor-tally t Idle x = refl
+  processor-tally t (CopyingIn m until) x = go (eqb until t)
+    where
+      go : (b : Bool) → tally n x (cond b (Starts m t ∷ []) []) ≡ with-started x (cond b (cond (eqb n m) (or-else (x .started) (Tick t)) (x .started)) (x .started))
+      go true = refl
+      go false = refl
+  processor-tally t (Executing m start until) x = go (eqb until t)
+    where
+      go : (b : Bool) → tally n x (cond b (Stops m t ∷ []) []) ≡ with-started x (x .started)
+      go true = refl
+      go false = refl
+  processor-tally t (Finished m start) x = refl
+
+  abbrev pub finish-at : ℕ → CopyIn → Situation → Situation
+  finish-at t Unchosen s = s
+  finish-at t NoneChosen s = s
+  finish-at t (Copying m until) s = cond (eqb until t) (with-finished (Task m) s) s
+  finish-at t (Loaded m) s = s
+  finish-at t (Cancelled m) s = s
+
+  pub finish-tally : (t : ℕ) (c : CopyIn) (x : Tally) → tally n x (finish-events t c) ≡ with-at x (finish-at t c (x .at))
+  unfolding tally finish-events
+  finish-tally t Unchosen x = refl
+  finish-tally t NoneChosen x = refl
+  finish-tally t (Copying m until) x = go (eqb until t)
+    where
+      go : (b : Bool) → tally n x (cond b (Finishes m ∷ []) []) ≡ with-at x (cond b (with-finished (Task m) (x .at)) (x .at))
+      go true = refl
+      go false = refl
+  finish-tally t (Loaded m) x = refl
+  finish-tally t (Cancelled m) x = refl
+
+  pub completion-tally : (o : Done) (x : Tally) → tally n x (completion-events o) ≡ x
+  unfolding tally completion-events
+  completion-tally NoJob x = refl
+  completion-tally (Job e) x = refl
+
+  -- c
+  take-other : (k t : ℕ) (m b : Bool) (x : Tally) → eqb n k ≡ false → tally n x (cond b (Takes k t m ∷ []) []) ≡ x
+  unfolding tally
+  take-other k t m true x e = rw e
+  take-other k t m false x e = refl
+
+  pub takes-others : (k new marks t : ℕ) (x : Tally) → ((j : ℕ) → j < k → member j new ≡ true → eqb n j ≡ false) → tally n x (take-events k new marks t) ≡ x
+  unfolding take-events
+  takes-others zero new marks t x h = unfold tally in refl
+  takes-others (suc k) new marks t x h =
+      tally-append n (take-events k new marks t) (cond (member k new) (Takes k t (member k marks) ∷ []) []) x
+      ∙ ap (λ (y : Tally). tally n y (cond (member k new) (Takes k t (member k marks) ∷ []) [])) (takes-others k new marks t x (λ j l. h j (omega arith)))
+      ∙ go (member k new) refl
+    where
+      go : (b : Bool) → member k new ≡ b → tally n x (cond b (Takes k t (member k marks) ∷ []) []) ≡ x
+      go true e = take-other k t (member k marks) true x (h k (omega arith) e)
+      go false e = unfold tally in refl
+
+  pub takes-this : (k new marks t : ℕ) (x : Tally) → n < k → member n new ≡ true → tally n x (take-events k new marks t) ≡ tally-by n x (Takes n t (member n marks))
+  unfolding take-events
+  takes-this zero new marks t x l m = absurd (not-suc-le-zero l)
+  takes-this (suc k) new marks t x l m =
+      tally-append n (take-events k new marks t) (cond (member k new) (Takes k t (member k marks) ∷ []) []) x
+      ∙ by-test (eqb n k)
+      (λ e.
+      let z : n ≡ k = eqb-true n k e in
+      ap (λ (y : Tally). tally n y (cond (member k new) (Takes k t (member k marks) ∷ []) [])) (takes-others k new marks t x (λ j l m. ne-eqb n j (omega arith)))
+      ∙ subst (λ (j : ℕ). tally n x (cond (member j new) (Takes j t (member j marks) ∷ []) []) ≡ tally-by n x (Takes n t (member n marks))) z
+      (rw m (unfold tally in refl)))
+      (λ e.
+      ap (λ (y : Tally). tally n y (cond (member k new) (Takes k t (member k marks) ∷ []) [])) (takes-this k new marks t x (omega (arith, eqb-false n k e)) m)
+      ∙ take-other k t (member k marks) (member k new) (tally-by n x (Takes n t (member n marks))) e)
+
+  -- g
+  abbrev pub started-next : ℕ → Next → Due → Due
+  started-next t NoneNext s = s
+  started-next t (LoadedNext m) s = cond (eqb n m) (or-else s (Tick t)) s
+  started-next t (PromotedNext m) s = s
+
+  abbrev pub begun : ℕ → Next → Tally → Tally
+  begun t next x = record {
+    at = Open (next-task next) NoTask;
+    taken = x .taken;
+    waits = grown (x .executed) (is-task n (next-task next)) (x .waits) (next-task next);
+    executed = x .executed || is-task n (next-task next);
+    started = started-next t next (x .started);
+  }
+
+  begin-tally : (table : Table) (t : ℕ) (next : Next) (o : MaybeTask) (x : Tally)
+      → tally n x (Begins t (processor-task (begin-processor table t next)) o ∷ execution-events t (begin-processor table t next)) ≡ begun t next x
+  unfolding tally execution-events
+  begin-tally table t NoneNext o x = refl
+  begin-tally table t (LoadedNext m) o x = refl
+  begin-tally table t (PromotedNext m) o x = refl
+
+  pub opened-tally : (table : Table) (t : ℕ) (next : Next) (outgoing : Outgoing) (q : Phase) (x : Tally) → Opened (begin-processor table t next) q
+      → tally n x (begin-events t (Between next outgoing) q ++ start-events t (Between next outgoing) q) ≡ begun t next x
+  unfolding begin-events start-events
+  opened-tally table t next outgoing (Between a b) x h = absurd h
+  opened-tally table t next outgoing (Within j) x h =
+      subst (λ (q : Processor). tally n x (Begins t (processor-task q) (copyout-task (j .copyout)) ∷ execution-events t q) ≡ begun t next x) (sym h)
+      (begin-tally table t next (copyout-task (j .copyout)) x)

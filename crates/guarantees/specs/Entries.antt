@@ -1,0 +1,108 @@
+-- That the entries tell the truth: of each job done (kind 16) and of each interval closed (kind 17) that the calls answer with, what it says is
+-- what the history has of it. What stands between quotation marks is document 01; below each quotation stands what it says of a history.
+use Rattle.guarantees.specs.Types.{_≡_, Bool, false, cond, List, [], _∷_, _++_, ℕ, _+_, MaybeTask, NoTask, Task, State, Due, Never, Tick, Call, Instant, Mark, Answer, Refused, Served, Occurred, Done, NoJob, Job, Closing, Unclosed, BeforeReleases, AfterReleases, JobEntry, IntervalEntry}
+use lib.Dec.{ltb}
+use lib.ListN.{getD}
+use Rattle.rules.specs.Calls.{instant, after-call}
+use Rattle.guarantees.specs.History.{Event, Takes, history, after-calls}
+use Rattle.guarantees.specs.Queries.{details, completes, ends, each, NoneOpen, situation, Latest, none-yet, latest-by, intervals, taking, start, waited}
+
+-- ---- What calls answer
+
+-- what occurred, of an instant that is served
+abbrev pub told : Answer → List Occurred
+told (Refused r) = []
+told (Served o) = o ∷ []
+
+unfoldable pub answer-of : State → Call → List Occurred
+answer-of d (Instant t set) = told (instant d t set .answer)
+answer-of d (Mark n m) = []
+
+unfoldable pub answers : State → List Call → List Occurred
+answers d [] = []
+answers d (c ∷ cs) = answer-of d c ++ answers (after-call d c) cs
+
+-- ---- A job done
+
+module _ (priority : List ℕ) (n : ℕ) where
+  -- a job of lower priority than task n's
+  abbrev pub is-lower : MaybeTask → Bool
+  is-lower NoTask = false
+  is-lower (Task k) = ltb (getD priority n 0) (getD priority k 0)
+
+  -- of some intervals, in how many the processor executes one
+  unfoldable pub lower-in : List MaybeTask → ℕ
+  lower-in [] = 0
+  lower-in (r ∷ rs) = cond (is-lower r) 1 0 + lower-in rs
+
+-- an entry of the instant at t, by what has occurred before it: "task (1), release, execution start, completion (8 each), blocked intervals (1)"
+pub record TellsJob (priority : List ℕ) (history : List Event) (t : ℕ) (e : JobEntry) : Type 0 where
+  -- the job is the last that was taken of its task, "one release that was taken", and its release is the tick of that;
+  pub before : List Event
+  pub after : List Event
+  pub marked : Bool
+  pub release : history ≡ before ++ (Takes (e .task) (e .release) marked ∷ after)
+  pub last-taken : taking (e .task) after ≡ Never
+  -- its execution start is the tick on which it started to execute;
+  pub execution-start : start (e .task) after ≡ Tick (e .start)
+  -- its completion is this instant, since "a copy-out's end completes its job";
+  pub completion : e .completion ≡ t
+  -- "A job is blocked in an interval if that interval holds its release or comes later, comes before the one that executes it, and the
+  -- processor executes a lower-priority job in it."
+  pub blocked : e .blocked ≡ lower-in priority (e .task) (waited (e .task) (situation NoneOpen before) (intervals after))
+
+-- a job that completes: its task and the tick
+pub record Completion : Type 0 where
+  pub task : MaybeTask
+  pub tick : ℕ
+
+-- what the answers say of the jobs done
+abbrev pub completed-in : Done → List Completion
+completed-in NoJob = []
+completed-in (Job e) = record { task = Task (e .task); tick = e .completion } ∷ []
+
+unfoldable pub done : List Occurred → List Completion
+done [] = []
+done (o ∷ os) = completed-in (o .done) ++ done os
+
+-- and what the history has
+abbrev pub completions : List Event → List Completion
+completions = each (λ e. cond (completes e) (record { task = details e .task; tick = details e .tick } ∷ []) [])
+
+-- ---- An interval closed
+
+-- begin, end, the processor's task and the task copied out
+pub record Ended : Type 0 where
+  pub begin : Due
+  pub end : ℕ
+  pub task : MaybeTask
+  pub out : MaybeTask
+
+abbrev pub of-entry : IntervalEntry → Ended
+of-entry e = record { begin = Tick (e .begin); end = e .end; task = e .task; out = e .copiedout }
+
+-- what the answers say of the intervals that closed
+abbrev pub closed-in : Closing → List Ended
+closed-in Unclosed = []
+closed-in (BeforeReleases e) = of-entry e ∷ []
+closed-in (AfterReleases e) = of-entry e ∷ []
+
+unfoldable pub closed : List Occurred → List Ended
+closed [] = []
+closed (o ∷ os) = closed-in (o .closed) ++ closed os
+
+-- and what the history has: the intervals that ended, where x is the last that has begun
+unfoldable pub ended : Latest → List Event → List Ended
+ended x [] = []
+ended x (e ∷ es) = cond (ends e) (record { begin = x .begun; end = details e .tick; task = x .executed; out = x .out } ∷ []) [] ++ ended (latest-by x e) es
+
+-- ---- The claim
+
+-- of a list of calls that starts from a state that opening returned
+pub record EntriesTell (d : State) (calls : List Call) : Type 0 where
+  pub each-job : (before after : List Call) (t set : ℕ) (o : Occurred) (e : JobEntry) → calls ≡ before ++ (Instant t set ∷ after)
+      → instant (after-calls d before) t set .answer ≡ Served o → o .done ≡ Job e → TellsJob (d .table .priority) (history d before) t e
+  -- "The record has kind 16 at step a": one entry for each job that completes, in their order
+  pub each-done : done (answers d calls) ≡ completions (history d calls)
+  -- "kind 17 at the interval's end": one for each interval that ended, in their order
+  pub each-interval : closed (answers d calls) ≡ ended none-yet (history d calls)

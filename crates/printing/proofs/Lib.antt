@@ -1,4 +1,0 @@
-pub mod Filling
-pub mod RoundTrip
-pub mod Fitting
-pub mod FileLines

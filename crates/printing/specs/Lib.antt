@@ -1,4 +1,0 @@
-pub mod Types
-pub mod Lines
-pub mod Laws
-pub mod RecordLines

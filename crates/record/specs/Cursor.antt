@@ -1,0 +1,78 @@
+-- How far a file's run has come, and what is known of the run of a file that was checked.
+use mathlib.Core.Path.{_≡_}
+use lib.ListN.{length}
+use Rattle.entries.specs.Entries.{laid}
+use Prim.Native.Nat.{_-_, _*_, _/_, _≤_}
+use Rattle.table.specs.TaskPart.{task-part}
+use Rattle.rules.specs.Calls.{opened}
+use Rattle.rules.specs.declared.Call.{Call}
+use Rattle.rules.specs.declared.Call.the-variants.{Instant, Mark}
+use Rattle.record.specs.Types.{Bool, true, false, List, [], _∷_, ℕ, _+_, TaskPart, NoRefusal, State, Occurred}
+use Rattle.run.specs.Listed.{releases-at}
+use Rattle.run.specs.Run.{record-bytes, moment-bytes, run, budget}
+use Rattle.record.specs.FileClaim.{Feeds, AllServed}
+
+-- how far a run has come: the state, and the place of the next release
+pub record Cursor : Type 0 where
+  pub state : State
+  pub at : ℕ
+
+-- ---- a whole run
+
+-- what an instant leaves
+unfoldable pub served-bytes : ℕ → Occurred → List ℕ
+served-bytes t o = moment-bytes (record { time = t; occurred = o })
+
+abbrev pub run-bytes : List ℕ → Cursor → ℕ → List ℕ
+run-bytes s c budget = record-bytes (run budget (c .state) (releases-at s (c .at)))
+
+-- the most bytes that one instant leaves: a job done, an interval ended, 32 releases skipped
+abbrev pub most : ℕ
+most = 371
+
+-- where a file's run begins, its task entries read
+abbrev pub start : TaskPart → Cursor
+start k = record { state = opened (k .table) (k .marked); at = k .end }
+
+-- no instant is past 2,000,000,000: none is at the last tick that a clock has
+unfoldable pub AllEarly : List Call → Type 0
+AllEarly [] = Unit {0}
+AllEarly (Instant t set ∷ cs) = (t ≤ 2000000000) × AllEarly cs
+AllEarly (Mark n m ∷ cs) = AllEarly cs
+
+-- no instant of a run is refused, and none is late
+pub record Served (s : List ℕ) (c : Cursor) : Type 0 where
+  pub within : c .at ≤ length s
+  pub calls : List Call
+  pub feeds : Feeds (c .state) (releases-at s (c .at)) calls
+  pub all-served : AllServed (c .state) calls
+  pub early : AllEarly calls
+
+-- there is room for the record, where it is kept
+pub record Room (s : List ℕ) (c : Cursor) (budget : ℕ) (out : List ℕ) (keep : Bool) : Type 0 where
+  pub kept : keep ≡ true → length (run-bytes s c budget) ≤ length out
+  pub few : budget ≤ 131104
+  pub served : Served s c
+
+-- the record's length; the slice holds the record, or is as it was where only the length counts
+pub record Ran (s : List ℕ) (c : Cursor) (budget : ℕ) (before : List ℕ) (keep : Bool) (size : ℕ) (after : List ℕ) : Type 0 where
+  pub size-is : size ≡ length (run-bytes s c budget)
+  pub holds : keep ≡ true → after ≡ laid 0 (run-bytes s c budget) before
+  pub unchanged : keep ≡ false → after ≡ before
+
+-- as many instants as no run of the releases from a cursor on needs
+abbrev pub budget-at : List ℕ → Cursor → ℕ
+budget-at s c = budget ((length s - c .at) / 10)
+
+-- a file that was checked runs from a cursor on: its releases are not more than 4,096, and its record is not longer than 99 bytes for
+-- each of them
+pub record Runs (s : List ℕ) (c : Cursor) : Type 0 where
+  pub few : (length s - c .at) / 10 ≤ 4096
+  pub short : length (run-bytes s c (budget-at s c)) ≤ 99 * ((length s - c .at) / 10)
+  pub served : Served s c
+
+-- an input's task entries were read and none was refused
+pub record ReadWhole (s : List ℕ) (k : TaskPart) : Type 0 where
+  pub some : length s ≡ 0 → ⊥
+  pub tasks : k ≡ task-part s
+  pub none-refused : k .refusal ≡ NoRefusal

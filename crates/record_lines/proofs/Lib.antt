@@ -1,0 +1,5 @@
+pub mod Laws
+pub mod Filling
+pub mod EntryLines
+pub mod Fitting
+pub mod FileLines

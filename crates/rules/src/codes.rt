@@ -1,0 +1,47 @@
+// The numbers that stand for what a unit does, as specs/Registers reads them.
+
+// The processor.
+pub const IDLE: u8 = 0;
+
+pub const COPYING_IN: u8 = 1;
+
+pub const EXECUTING: u8 = 2;
+
+pub const FINISHED: u8 = 3;
+
+// The engine's copy-out. Where no interval is open, the job of `outtask` awaits it, or there is none.
+pub const NO_COPYOUT: u8 = 0;
+
+pub const COPYING_OUT: u8 = 1;
+
+pub const COPIED_OUT: u8 = 2;
+
+// The engine's copy-in.
+pub const UNCHOSEN: u8 = 0;
+
+pub const NONE_CHOSEN: u8 = 1;
+
+pub const COPYING: u8 = 2;
+
+pub const LOADED: u8 = 3;
+
+pub const CANCELLED: u8 = 4;
+
+pub const NO_INTERVAL: u8 = 5;
+
+// The processor's work in the open interval, or, where none is open, in the next one.
+pub const NO_WORK: u8 = 0;
+
+pub const EXECUTE: u8 = 1;
+
+pub const COPY_IN_AND_EXECUTE: u8 = 2;
+
+// The fate of a copy-in, as an entry has it.
+pub const FATE_NONE: u8 = 0;
+
+pub const FATE_DONE: u8 = 1;
+
+pub const FATE_CANCELLED: u8 = 2;
+
+// No task: there are 32.
+pub const NO_TASK: u8 = 32;

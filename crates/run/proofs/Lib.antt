@@ -1,0 +1,7 @@
+pub mod Slices
+pub mod Listing
+pub mod Checking
+pub mod InOrder
+pub mod Stages
+pub mod Advancing
+pub mod Cut

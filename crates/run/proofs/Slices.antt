@@ -1,0 +1,179 @@
+-- Entries put into a slice one behind the other. Assumes nothing.
+use mathlib.Core.Path.{_≡_, refl, sym, ap, ap₂, _∙_, subst}
+use mathlib.Core.Bool.{Bool, true, false, cond}
+use mathlib.Core.List.{List, [], _∷_, _++_, append-assoc, append-nil}
+use Prim.Native.Nat.{ℕ, zero, suc, _+_, _-_, _*_, _≤_, _<_}
+use native.Mathlib.Nat.{add-zero, add-assoc}
+use native.Mathlib.Omega.{arith}
+use borrow.Author.Tests.{le-leb, lt-leb, leb-true, leb-false}
+use lib.Dec.{leb}
+use lib.ListN.{length, take, drop, length-append, length-drop, take-append-drop}
+use lib.Seq.{length-take-le, drop-drop}
+use Rattle.sets.specs.Sets.{member, lowest}
+use Rattle.sets.proofs.Laws.{by-test, lowest-first, lowest-most}
+use Rattle.rules.proofs.Members.{Turn}
+use Rattle.words.specs.Words.{bytesOf}
+use Rattle.words.proofs.Laws.{lent, rest-whole}
+use Rattle.entries.specs.Entries.{laid, Put, job-bytes, interval-bytes, choice-bytes, skipped-bytes}
+use Rattle.entries.proofs.Laws.{Front, next, up-to, behind}
+use Rattle.run.specs.Types.{JobEntry, IntervalEntry}
+use Rattle.run.specs.Putting.{skips-entries, joined, put-at, put-all, Puts}
+
+-- ---- the lengths of the entries
+
+pub job-size : (e : JobEntry) → length (job-bytes e) ≡ 27
+unfolding job-bytes bytesOf
+job-size e = refl
+
+pub interval-size : (e : IntervalEntry) → length (interval-bytes e) ≡ 24
+unfolding interval-bytes choice-bytes bytesOf
+interval-size e = refl
+
+pub skipped-size : (n t : ℕ) → length (skipped-bytes n t) ≡ 10
+unfolding skipped-bytes bytesOf
+skipped-size n t = refl
+
+-- ---- one after the other
+
+pub joined-both : (xs ys : List (List ℕ)) → joined (xs ++ ys) ≡ joined xs ++ joined ys
+unfolding joined
+joined-both [] ys = refl
+joined-both (a ∷ xs) ys = ap (λ (x : List ℕ). a ++ x) (joined-both xs ys) ∙ sym (append-assoc a (joined xs) (joined ys))
+
+put-both : (at : ℕ) (xs ys : List (List ℕ)) (s : List ℕ) → put-all at (xs ++ ys) s ≡ put-all (at + length (joined xs)) ys (put-all at xs s)
+unfolding put-all joined
+put-both at [] ys s = ap (λ (n : ℕ). put-all n ys s) (sym (add-zero at))
+put-both at (a ∷ xs) ys s =
+    put-both (at + length a) xs ys (put-at at a s)
+    ∙ ap (λ (n : ℕ). put-all n ys (put-all (at + length a) xs (put-at at a s)))
+    (add-assoc at (length a) (length (joined xs)) ∙ ap (λ (n : ℕ). at + n) (sym (length-append a (joined xs))))
+
+pub none : (at : ℕ) (s : List ℕ) → Puts at [] s at s
+unfolding put-all joined
+none at s = record { place-is = sym (add-zero at); holds = refl }
+
+pub one : (at : ℕ) (e s : List ℕ) {n : ℕ} {t : List ℕ} → length e ≡ n → t ≡ put-at at e s → Puts at (e ∷ []) s (at + n) t
+unfolding put-all joined
+one at e s {n} {t} size h = record { place-is = ap (λ (k : ℕ). at + k) (sym size ∙ ap length (sym (append-nil e))); holds = h }
+
+module _ (at : ℕ) (xs ys : List (List ℕ)) (s : List ℕ) (p : ℕ) (s′ : List ℕ) (q : ℕ) (s″ : List ℕ) where
+  pub both : Puts at xs s p s′ → Puts p ys s′ q s″ → Puts at (xs ++ ys) s q s″
+  both x y = record {
+    place-is = y .place-is ∙ ap (λ (k : ℕ). k + length (joined ys)) (x .place-is) ∙ omega (arith, ap length (joined-both xs ys), length-append (joined xs) (joined ys));
+    holds = y .holds ∙ ap₂ (λ (k : ℕ) (z : List ℕ). put-all k ys z) (x .place-is) (x .holds) ∙ sym (put-both at xs ys s);
+  }
+
+-- ---- what a writer of an entry makes of the rest from a place on
+
+put-front : (e s : List ℕ) (size : ℕ) (t : List ℕ) → Put e s size t → t ≡ cond (leb (length e) (length s)) (e ++ drop (length e) s) s
+put-front e s size t p = p .holds
+
+pub put-rest : (e : List ℕ) (at : ℕ) (s : List ℕ) (size : ℕ) (t : List ℕ) → at ≤ length s
+    → Put e (take (length s - at) (drop at s)) size t → take at s ++ (t ++ drop (length s - at) (drop at s)) ≡ put-at at e s
+put-rest e at s size t l p =
+    by-test (leb (at + length e) (length s))
+    (λ fits.
+    let room : length e ≤ length (drop at s) = omega (arith, length-drop at s, leb-true (at + length e) (length s) fits) in
+    rw fits
+    (lent (λ x. e ++ drop (length e) x) at s t (rw w (rw (w, le-leb (length e) (length (drop at s)) room) at (p .holds)))
+    ∙ ap (λ (x : List ℕ). take at s ++ (e ++ x)) (drop-drop (length e) at s)))
+    (λ short.
+    let tight : length (drop at s) < length e = omega (arith, length-drop at s, leb-false (at + length e) (length s) short) in
+    rw short
+    (lent (λ x. x) at s t (rw w (rw (w, lt-leb (length e) (length (drop at s)) tight) at (p .holds))) ∙ take-append-drop at s))
+  where
+    w : take (length s - at) (drop at s) ≡ drop at s
+    w = rest-whole at s
+
+-- past the end nothing is put
+pub put-past : (e : List ℕ) (at : ℕ) (s : List ℕ) → length s < at → s ≡ put-at at e s
+put-past e at s l = rw (lt-leb (at + length e) (length s) (omega arith))
+
+-- ---- where all fit, and where none does
+
+pub laid-none : (at : ℕ) (s : List ℕ) → laid at [] s ≡ s
+laid-none at s = ap (λ (n : ℕ). take at s ++ drop n s) (add-zero at) ∙ take-append-drop at s
+
+pub laid-both : (at : ℕ) (a b s : List ℕ) → at ≤ length s → laid (at + length a) b (laid at a s) ≡ laid at (a ++ b) s
+laid-both at a b s l =
+    let size : length (take at s) ≡ at = length-take-le at s l in
+    let one : Front (take at s ++ a) s (laid at a s) = next (take at s) s s a at (sym size) (laid at a s) refl (up-to at s l) in
+    let n : at + length a ≡ length (take at s ++ a) = sym (length-append (take at s) a ∙ ap (λ (k : ℕ). k + length a) size) in
+    let two : Front ((take at s ++ a) ++ b) s (laid (at + length a) b (laid at a s)) =
+    next (take at s ++ a) s (laid at a s) b (at + length a) n (laid (at + length a) b (laid at a s)) refl one in
+    behind at (a ++ b) s (laid (at + length a) b (laid at a s)) l (rw (append-assoc (take at s) a b) at two)
+
+laid-length : (at : ℕ) (e s : List ℕ) → at + length e ≤ length s → length (laid at e s) ≡ length s
+laid-length at e s l =
+    omega (
+      arith,
+      length-append (take at s) (e ++ drop (at + length e) s),
+      length-append e (drop (at + length e) s),
+      length-take-le at s (omega arith),
+      length-drop (at + length e) s,
+    )
+
+pub put-length : (at : ℕ) (e s : List ℕ) → length (put-at at e s) ≡ length s
+put-length at e s = by-test (leb (at + length e) (length s)) (λ b. rw b (laid-length at e s (leb-true (at + length e) (length s) b))) (λ b. rw b)
+
+pub put-all-length : (at : ℕ) (es : List (List ℕ)) (s : List ℕ) → length (put-all at es s) ≡ length s
+unfolding put-all
+put-all-length at [] s = refl
+put-all-length at (e ∷ es) s = put-all-length (at + length e) es (put-at at e s) ∙ put-length at e s
+
+pub put-all-laid : (at : ℕ) (es : List (List ℕ)) (s : List ℕ) → at + length (joined es) ≤ length s → put-all at es s ≡ laid at (joined es) s
+unfolding put-all joined
+put-all-laid at [] s l = sym (laid-none at s)
+put-all-laid at (e ∷ es) s l =
+    let n : length (e ++ joined es) ≡ length e + length (joined es) = length-append e (joined es) in
+    let first : at + length e ≤ length s = omega arith in
+    ap (put-all (at + length e) es) (rw (le-leb (at + length e) (length s) first))
+    ∙ put-all-laid (at + length e) es (laid at e s) (omega (arith, laid-length at e s first))
+    ∙ laid-both at e (joined es) s (omega arith)
+
+-- ---- the rest of a slice, lent and handed back
+
+pub rest-length : (place : ℕ) (out t : List ℕ) → length t ≡ length (take (length out - place) (drop place out)) → length (take place out ++ (t ++ drop (length out - place) (drop place out))) ≡ length out
+rest-length place out t e =
+    length-append (take place out) (t ++ drop (length out - place) (drop place out))
+    ∙ ap (λ (n : ℕ). length (take place out) + n)
+    (length-append t (drop (length out - place) (drop place out)) ∙ ap (λ (n : ℕ). n + length (drop (length out - place) (drop place out))) e
+    ∙ sym (length-append (take (length out - place) (drop place out)) (drop (length out - place) (drop place out)))
+    ∙ ap length (take-append-drop (length out - place) (drop place out)))
+    ∙ sym (length-append (take place out) (drop place out))
+    ∙ ap length (take-append-drop place out)
+
+-- ---- the skipped releases, from task to task
+
+-- no member from task i to task j: nothing is added
+skips-same : (i j set t : ℕ) → i ≤ j → ((k : ℕ) → i ≤ k → k < j → member k set ≡ false) → skips-entries j set t ≡ skips-entries i set t
+unfolding skips-entries
+skips-same i zero set t l h = let e : i ≡ 0 = omega arith in rw e
+skips-same i (suc j) set t l h =
+    by-test (leb i j)
+    (λ e. rw (h j (leb-true i j e) (omega arith)) (append-nil (skips-entries j set t) ∙ skips-same i j set t (leb-true i j e) (λ k a b. h k a (omega arith))))
+    (λ e. let x : i ≡ suc j = omega (arith, leb-false i j e) in rw x)
+
+pub skips-none : (set t : ℕ) → skips-entries (lowest set) set t ≡ []
+unfolding skips-entries
+skips-none set t = skips-same 0 (lowest set) set t (omega arith) (λ k a b. lowest-first set k b)
+
+skips-one : (n set t : ℕ) → member n set ≡ true → skips-entries (suc n) set t ≡ skips-entries n set t ++ (skipped-bytes n t ∷ [])
+unfolding skips-entries
+skips-one n set t e = rw e
+
+pub skips-turn : (set left n after t : ℕ) → Turn set left n after → skips-entries (lowest after) set t ≡ skips-entries (lowest left) set t ++ (skipped-bytes n t ∷ [])
+skips-turn set left n after t turn =
+    skips-same (suc n) (lowest after) set t (omega (arith, turn .rises)) (λ k a b. turn .between k a b)
+    ∙ rw (turn .lowest-left) (skips-one n set t (turn .there))
+
+pub skips-most : (k set t : ℕ) → length (joined (skips-entries k set t)) ≤ 10 * k
+unfolding skips-entries joined
+skips-most zero set t = omega arith
+skips-most (suc k) set t =
+    by-test (member k set)
+    (λ e. rw e (omega (arith, skips-most k set t, ap length (joined-both (skips-entries k set t) (skipped-bytes k t ∷ [])), length-append (joined (skips-entries k set t)) (joined (skipped-bytes k t ∷ [])), skipped-more k)))
+    (λ e. rw e (omega (arith, skips-most k set t, ap length (ap joined (append-nil (skips-entries k set t))))))
+  where
+    skipped-more : (n : ℕ) → length (joined (skipped-bytes n t ∷ [])) ≡ 10
+    skipped-more n = unfold joined in ap length (append-nil (skipped-bytes n t)) ∙ skipped-size n t

@@ -1,0 +1,22 @@
+-- The columns of the table: what it has for each task in 32 bits, a column of 32 behind the other.
+use mathlib.Core.List.{List}
+use Prim.Native.Nat.{ℕ, _+_}
+use lib.ListN.{getD, set}
+use Rattle.table.specs.Types.{TaskParameters}
+
+-- L, the length of a task's copy-in
+abbrev pub copyin-length : List ℕ → ℕ → ℕ
+copyin-length columns n = getD columns n 0
+
+-- C, the length of its execution
+abbrev pub execution-length : List ℕ → ℕ → ℕ
+execution-length columns n = getD columns (32 + n) 0
+
+-- U, the length of its copy-out
+abbrev pub copyout-length : List ℕ → ℕ → ℕ
+copyout-length columns n = getD columns (64 + n) 0
+
+-- the columns with one task more
+unfoldable pub with-lengths : List ℕ → TaskParameters → List ℕ
+with-lengths columns p =
+    set (set (set columns (p .number) (p .copyin)) (32 + p .number) (p .execution)) (64 + p .number) (p .copyout)

@@ -1,0 +1,208 @@
+"""Measure whether the wrong programs of the must-fail edits are wrong.
+
+    python3 -m tools.measure [NAME..]        NAME is a crate, or an edit as CRATE/LABEL
+    python3 -m tools.measure --gate          those that the gate tries
+
+Each edit of code is made to a copy of the sources, the programs are built with no proof, and what those that reach the edit's crate
+write is compared with the simulator: on random and damaged inputs, on inputs at the limits, and for some functions in direct calls. An
+edit with no result that differs needs a line `why:` in its file, which says why the promise that it breaks is for other states than
+those that inputs and calls make. An edit of a statement changes no program and is only listed.
+"""
+
+import argparse
+import pathlib
+import subprocess
+import sys
+import tempfile
+from typing import NamedTuple
+
+from sim.compare import EXPECTED, inputs
+from sim.entries import Refused
+from sim.files import record
+from tools import direct, edits, limits
+from tools.unproved import PROGRAMS, NotBuilt, Workshop
+
+ROOT = pathlib.Path(__file__).resolve().parents[1]
+
+SEED = 1
+
+# As in the driver: what it lays into the lent slice, how many bytes behind the slice it shows, and after how many late runs it stops.
+FILL = b"\xa5"
+BEHIND = 64
+MOST_LATE = 3
+
+# By how many bytes the lent slices are longer than the record that is to go into them.
+SPARE = (-1, 0, 1, 400)
+
+
+# What is compared: pairs of an input and what the simulator writes for it.
+
+def told(data, room):
+    """What the driver writes for the record function: its number, the value that it tells, and the lent bytes."""
+    memory = FILL * (room + BEHIND)
+    try:
+        written = record(data, lent=room)
+    except Refused as refused:
+        return bytes([refused.number]) + (refused.place or 0).to_bytes(8, "little") + memory
+    return bytes([0]) + len(written).to_bytes(8, "little") + written + memory[len(written):]
+
+
+def lent(data, spare):
+    """An input of the record function with a slice about as long as the record, and what the driver writes for it."""
+    try:
+        room = max(0, len(record(data)) + spare)
+    except Refused:
+        room = spare % 50
+    return room.to_bytes(8, "little") + data, told(data, room)
+
+
+def cases(program, count):
+    """The inputs of one program, with what is expected."""
+    if program == "direct":
+        return direct.cases(SEED)
+    kind, more = ("session", limits.sessions()) if program == "session" else ("file", limits.files())
+    found = [data for _, data in inputs(kind, SEED, count, count)] + more
+    if program == "exports":
+        return [lent(data, SPARE[index % len(SPARE)]) for index, data in enumerate(found)]
+    return [(data, EXPECTED[kind](data)) for data in found]
+
+
+class Results(NamedTuple):
+    """Of a program's runs: how many were made, how many are not as expected, and how many of those crashed or were late."""
+
+    program: str
+    made: int
+    differ: int
+    crashed: int
+    late: int
+
+
+def ended_early(text):
+    """The driver's lines: which runs a signal ended, and how."""
+    return {int(number): how for number, how in (line.split() for line in text.splitlines())}
+
+
+def tally(program, expected, early, output):
+    """The results of a program's runs; `output` gives what a run wrote."""
+    late = sum(how == "late" for how in early.values())
+    made = max(early) + 1 if late == MOST_LATE else len(expected)
+    differ = sum(number in early or output(number) != expected[number] for number in range(made))
+    return Results(program, made, differ, len(early) - late, late)
+
+
+class Bench:
+    """The programs' inputs in a folder, and what is expected for each."""
+
+    def __init__(self, folder, count):
+        self.folder, self.expected = folder, {}
+        (folder / "outputs").mkdir()
+        for program in PROGRAMS:
+            (folder / program).mkdir()
+            found = cases(program, count)
+            for number, (data, _) in enumerate(found):
+                (folder / program / str(number)).write_bytes(data)
+            self.expected[program] = [expected for _, expected in found]
+
+    def run(self, driver, program):
+        """Run a program on its inputs and compare."""
+        expected, outputs = self.expected[program], self.folder / "outputs"
+        command = [driver, program, self.folder / program, outputs, str(len(expected))]
+        done = subprocess.run(command, stdout=subprocess.PIPE, check=True, text=True)
+        return tally(program, expected, ended_early(done.stdout), lambda number: (outputs / str(number)).read_bytes())
+
+
+# What is said of each edit.
+
+def summed(all_results):
+    """Of how many runs how many differ, and in which programs."""
+    made, differ = (sum(getattr(results, name) for results in all_results) for name in ("made", "differ"))
+    parts = [f"{results.program} {results.differ}" for results in all_results if results.differ]
+    for word in ("crashed", "late"):
+        number = sum(getattr(results, word) for results in all_results)
+        parts += [f"{number} {word}"] if number else []
+    return f"{differ:5} of {made:5} differ" + (f": {', '.join(parts)}" if parts else "")
+
+
+def judged(all_results, why):
+    """The kind of an edit ('differs', 'reason' or 'error') and what is said of it."""
+    said = summed(all_results)
+    if any(results.differ for results in all_results):
+        return ("error", f"{said}; and yet it has a line 'why:'") if why else ("differs", said)
+    return ("reason", f"{said}: {why}") if why else ("error", f"{said}: NOT SEEN TO BE WRONG, and it has no line 'why:'")
+
+
+def measured(edit, workshop, bench):
+    """Build what an edit makes of the programs, and run those that it may change."""
+    files = edits.edited_files(edit, lambda file: workshop.original(edit.crate, file))
+    workshop.put(edit.crate, files)
+    try:
+        driver = workshop.build()
+    finally:
+        workshop.put(edit.crate, {file: workshop.original(edit.crate, file) for file in files})
+    return [bench.run(driver, program) for program in workshop.reached(edit.crate)]
+
+
+def of_edit(crate, label, text, workshop, bench):
+    """The kind of an edit and what is said of it."""
+    try:
+        edit = edits.parse(crate, label, text)
+        if edits.is_statement(edit, lambda file: workshop.original(crate, file)):
+            return "statement", "a statement, and no program"
+        return judged(measured(edit, workshop, bench), edit.why)
+    except edits.BadEdit as bad:
+        return "error", f"BAD EDIT: {bad}"
+    except NotBuilt as bad:
+        return "error", f"DOES NOT BUILD: {bad}"
+
+
+def as_they_stand(workshop, bench):
+    """Hold the programs as they stand to the simulator: what differs there is no edit's doing."""
+    driver = workshop.build()
+    all_results = [bench.run(driver, program) for program in PROGRAMS]
+    print(f"the programs as they stand: {summed(all_results).strip()}", flush=True)
+    return all(results.differ == 0 for results in all_results)
+
+
+def chosen_edits(names):
+    """The edits that names choose; a name that chooses none is a mistake."""
+    unknown = [name for name in names if not any(edits.find(ROOT / "crates", [name]))]
+    if unknown:
+        sys.exit(f"no crate or edit has the name {unknown[0]}, or it has no edit")
+    return list(edits.find(ROOT / "crates", names))
+
+
+def measure_all(found, workshop, bench):
+    """Print a line for each edit and a summary, and answer whether all is as it should be."""
+    width = max((len(f"{crate}/{label}") for crate, label, _ in found), default=0)
+    kinds = []
+    for crate, label, text in found:
+        kind, said = of_edit(crate, label, text, workshop, bench)
+        kinds.append(kind)
+        print(f"{f'{crate}/{label}':{width}}  {said}", flush=True)
+    counts = {kind: kinds.count(kind) for kind in ("differs", "reason", "statement", "error")}
+    print(f"{counts['differs']} wrong programs differ, {counts['reason']} with a reason why none does, "
+          f"{counts['statement']} statements, {counts['error']} errors")
+    return not counts["error"]
+
+
+def main(arguments=None):
+    parser = argparse.ArgumentParser(description="Measure whether the wrong programs of the must-fail edits are wrong.")
+    parser.add_argument("names", nargs="*", metavar="NAME", help="a crate, or an edit as CRATE/LABEL; all if there is none")
+    parser.add_argument("--gate", action="store_true", help="those that the gate tries")
+    parser.add_argument("--count", type=int, default=300, help="how many random and how many damaged inputs each program gets")
+    chosen = parser.parse_args(arguments)
+    found = list(edits.find(ROOT / "crates", folders=("must-fail",))) if chosen.gate else chosen_edits(chosen.names)
+    with tempfile.TemporaryDirectory() as folder:
+        for name in ("sources", "runs"):
+            (pathlib.Path(folder) / name).mkdir()
+        try:
+            workshop = Workshop(ROOT, pathlib.Path(folder) / "sources")
+            bench = Bench(pathlib.Path(folder) / "runs", chosen.count)
+            good = as_they_stand(workshop, bench) and measure_all(found, workshop, bench)
+        except NotBuilt as bad:
+            sys.exit(f"the programs cannot be built: {bad}")
+    return 0 if good else 1
+
+
+if __name__ == "__main__":
+    sys.exit(main())

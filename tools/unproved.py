@@ -1,0 +1,124 @@
+"""The programs built as their sources stand, with no proof.
+
+The kit that `rt` belongs to has a compiler that writes a static library of a crate and of the sources of all that it needs. Here the
+programs are the modules of one crate, each with its `main` exported under a name of its own, and tools/driver.c calls them.
+"""
+
+import os
+import pathlib
+import platform
+import shutil
+import subprocess
+
+from tools import direct
+
+DRIVER = pathlib.Path(__file__).with_name("driver.c")
+
+# What is run: two programs, the record function for C, and the calls of tools/direct.py, which are no crate of the repository.
+PROGRAMS = ("gateway", "session", "exports", "direct")
+
+
+class NotBuilt(Exception):
+    """What the compiler or the linker said."""
+
+
+def kit_home():
+    """The folder of the kit: what RATTLE_HOME says, else where `rt` stands, as `rt` itself finds it."""
+    if "RATTLE_HOME" in os.environ:
+        return pathlib.Path(os.environ["RATTLE_HOME"])
+    found = shutil.which("rt")
+    if found is None:
+        raise NotBuilt("rt is not installed")
+    return pathlib.Path(found).resolve().parents[1]
+
+
+def dependencies(text):
+    """The names behind each name of a list such as crates.txt."""
+    lines = (line.split("#")[0] for line in text.splitlines())
+    pairs = (line.split(":", 1) for line in lines if ":" in line)
+    return {name.strip(): names.split() for name, names in pairs}
+
+
+def ground_up(names, needs):
+    """Some names and what they reach, each behind those that it needs."""
+    order = []
+
+    def visit(name):
+        for needed in needs.get(name, ()):
+            visit(needed)
+        if name not in order:
+            order.append(name)
+
+    for name in names:
+        visit(name)
+    return order
+
+
+def as_module(text, program):
+    """A program's source as that of a module, which exports its `main` under the program's name."""
+    head = "fn main() {"
+    if text.count(head) != 1:
+        raise NotBuilt(f"the source of {program} has '{head}' {text.count(head)} times")
+    return text.replace(head, f'#[no_mangle]\npub extern "C" fn {program}_main() {{')
+
+
+def run(command):
+    done = subprocess.run(command, stdout=subprocess.PIPE, stderr=subprocess.STDOUT, check=False)
+    if done.returncode != 0:
+        raise NotBuilt(done.stdout.decode(errors="replace").strip() or f"status {done.returncode}")
+
+
+class Workshop:
+    """A copy of the crates' sources in a folder, in which files may be changed and the programs built."""
+
+    def __init__(self, root, folder):
+        self.root, self.folder = root, folder
+        self.home = kit_home()
+        self.needs = dependencies((self.home / "libs" / "libs.txt").read_text())
+        self.needs.update(dependencies((root / "crates.txt").read_text()))
+        self.needs["direct"] = direct.NEEDS
+        for source in (root / "crates").glob("*/src"):
+            shutil.copytree(source, folder / source.parent.name / "src")
+        (folder / "direct" / "src").mkdir(parents=True)
+        (folder / "direct" / "src" / "main.rt").write_text(direct.SOURCE)
+        (folder / "programs" / "src").mkdir(parents=True)
+
+    def reached(self, crate):
+        """The programs that reach a crate, or are it."""
+        return [program for program in PROGRAMS if crate in ground_up([program], self.needs)]
+
+    def original(self, crate, file):
+        """A file's text in the repository."""
+        return (self.root / "crates" / crate / file).read_text(encoding="utf-8")
+
+    def put(self, crate, files):
+        """Change source files of a crate."""
+        for file, text in files.items():
+            if file.startswith("src/"):
+                (self.folder / crate / file).write_text(text, encoding="utf-8")
+
+    def _module(self, program):
+        main = self.folder / program / "src" / "main.rt"
+        text = as_module(main.read_text(), program) if main.exists() else main.with_name("lib.rt").read_text()
+        (self.folder / "programs" / "src" / f"{program}.rt").write_text(text)
+
+    def _source(self, name):
+        own = self.folder / name / "src" / "lib.rt"
+        return own if own.exists() else self.home / "libs" / name / "src" / "lib.rt"
+
+    def build(self):
+        """The driver over the programs; its path."""
+        own = self.home / "on" / platform.machine()
+        library, driver = self.folder / "libprograms.a", self.folder / "driver"
+        for program in PROGRAMS:
+            self._module(program)
+        root = self.folder / "programs" / "src" / "lib.rt"
+        root.write_text("".join(f"mod {program};\n" for program in PROGRAMS))
+        words = ["--toolchain", own / "toolchain", "--staticlib", library, root, "--crate-name", "programs"]
+        for name in ["std", *ground_up(PROGRAMS, self.needs)]:
+            if name not in PROGRAMS:
+                words += ["--lib", f"{name}={self._source(name)}"]
+        run([own / "bin" / "rattle-cases", *words])
+        flags = ["-std=c11", "-Wall", "-Wextra", "-Werror", "-I", self.root / "link"]
+        run(["cc", *flags, "-o", driver, DRIVER, library])
+        return driver
