@@ -1,4 +1,4 @@
-//! The inputs that are timed, made from a fixed seed, and some that are refused.
+//! The inputs and the stored records that are timed, made from a fixed seed, and some that are refused.
 
 struct Random(u64);
 
@@ -18,10 +18,19 @@ fn task(number: u8, priority: u8, mark: u8, lengths: [u32; 3]) -> Vec<u8> {
     entry
 }
 
-fn release(task: u8, time: u64) -> Vec<u8> {
-    let mut entry = vec![2, task];
+/// An entry of a kind that has a task and a time.
+fn timed(kind: u8, task: u8, time: u64) -> Vec<u8> {
+    let mut entry = vec![kind, task];
     entry.extend(time.to_le_bytes());
     entry
+}
+
+fn release(task: u8, time: u64) -> Vec<u8> {
+    timed(2, task, time)
+}
+
+fn skipped(task: u8, time: u64) -> Vec<u8> {
+    timed(18, task, time)
 }
 
 /// Tasks 0 to `tasks` - 1, every second one marked, with phases of up to `longest` ticks.
@@ -92,5 +101,65 @@ pub fn refused() -> Vec<(&'static str, Vec<u8>)> {
         ("a release too late", with(release(0, 1_000_000_001))),
         ("one release too many", { let mut i = mixed(4, 4096); i.extend(release(3, 999_999_999)); i }),
         ("tasks alone", task(1, 1, 1, [1, 1, 1])),
+    ]
+}
+
+/// Task entries and a record over them.
+#[derive(Clone)]
+pub struct Stored {
+    pub tasks: Vec<u8>,
+    pub record: Vec<u8>,
+}
+
+/// The record of an input, by a function that writes it; the input has this many tasks.
+pub fn stored(input: &[u8], number: u8, write: impl Fn(&[u8], &mut [u8]) -> usize) -> Stored {
+    let mut record = vec![0; 1 << 19];
+    let length = write(input, &mut record);
+    record.truncate(length);
+    Stored { tasks: input[..16 * usize::from(number)].to_vec(), record }
+}
+
+/// Records that no list of releases yields, of a true one's tasks: made to cost much.
+pub fn hostile(truth: &Stored) -> Vec<(&'static str, Stored)> {
+    let with = |record: Vec<u8>| Stored { tasks: truth.tasks.clone(), record };
+    let falling = |count: u64| (0..count).rev().flat_map(|time| skipped(1, time)).collect();
+    let mut changed = truth.record.clone();
+    *changed.last_mut().unwrap() ^= 1;
+    vec![
+        ("its last byte changed", with(changed)),
+        ("its entries in falling order", with(reversed(&truth.record))),
+        ("4,096 skipped, falling", with(falling(4096))),
+        ("100,000 skipped, falling", with(falling(100_000))),
+        ("2^20 bytes of one skipped", with(skipped(1, 7).repeat((1 << 20) / 10))),
+    ]
+}
+
+/// The entries of a record, the last one first.
+fn reversed(record: &[u8]) -> Vec<u8> {
+    let mut entries = Vec::new();
+    let mut rest = record;
+    while let Some(kind) = rest.first() {
+        let (entry, behind) = rest.split_at(match kind { 16 => 27, 17 => 24, _ => 10 });
+        entries.push(entry);
+        rest = behind;
+    }
+    entries.into_iter().rev().flatten().copied().collect()
+}
+
+/// Records that are refused, and one that is not.
+pub fn refused_records(truth: &Stored) -> Vec<(&'static str, Stored)> {
+    let with = |more: &[u8]| Stored { record: [&truth.record, more].concat(), ..truth.clone() };
+    let tasks = |tasks: Vec<u8>| Stored { tasks, ..truth.clone() };
+    vec![
+        ("no task", tasks(Vec::new())),
+        ("a release among the tasks", tasks([&truth.tasks[..], &release(0, 0)].concat())),
+        ("a task cut short", tasks(truth.tasks[..21].to_vec())),
+        ("another table", tasks(truth.tasks[..16].to_vec())),
+        ("an entry of another kind", with(&[2])),
+        ("an entry cut short", with(&[17, 0, 0])),
+        ("an entry too many", with(&skipped(0, 0))),
+        ("a skipped release too late", with(&skipped(0, 1_000_000_001))),
+        ("an unknown task skipped", with(&skipped(32, 5))),
+        ("nothing", Stored { record: Vec::new(), ..truth.clone() }),
     ]
 }

@@ -1,5 +1,5 @@
-//! Times the proved record function against plain Rust, in one run: for each input the ratio proved/plain of the times, its median and
-//! spread over the repetitions. Both must give the same number, value and bytes.
+//! Times the proved functions, that of records and that which reads them, against plain Rust, in one run: for each input the ratio proved/plain of
+//! the times, its median and spread over the repetitions. Both must give the same number, value and bytes.
 
 #[path = "../link/rust/gateway.rs"]
 mod gateway;
@@ -7,31 +7,100 @@ mod inputs;
 mod plain;
 
 use gateway::Outcome;
+use inputs::Stored;
 use std::hint::black_box;
 use std::time::{Duration, Instant};
 
 const REPETITIONS: usize = 15;
 const SLICE: Duration = Duration::from_millis(8);
 
-fn proved(input: &[u8], out: &mut [u8]) -> (u8, usize) {
-    match gateway::record(input, out) {
-        Outcome::Recorded(length) => (0, length),
+/// What is timed: the proved function and the plain one on one input, with the slice that they are lent. The plain one also tells how many
+/// instants it ran.
+struct Work<'a> {
+    name: String,
+    proved: Box<dyn Fn(&mut [u8]) -> Outcome + 'a>,
+    plain: Box<dyn Fn(&mut [u8]) -> (u8, usize, u64) + 'a>,
+}
+
+fn recording(name: String, input: &[u8]) -> Work<'_> {
+    Work {
+        name,
+        proved: Box::new(|out| gateway::record(black_box(input), out)),
+        plain: Box::new(|out| plain::record(black_box(input), out)),
+    }
+}
+
+fn reading(name: String, stored: &Stored) -> Work<'_> {
+    Work {
+        name,
+        proved: Box::new(|out| gateway::read(black_box(&stored.tasks), black_box(&stored.record), out)),
+        plain: Box::new(|out| plain::read(black_box(&stored.tasks), black_box(&stored.record), out)),
+    }
+}
+
+fn number_and_value(outcome: Outcome) -> (u8, usize) {
+    match outcome {
+        Outcome::Written(length) => (0, length),
         Outcome::TooShort(needed) => (13, needed),
         Outcome::Refused { number, place } => (number, place),
     }
 }
 
-/// Both on one input and one slice; the instants of the run. Stops the program where they differ.
-fn compare(name: &str, input: &[u8], room: usize) -> u64 {
-    let mut one = vec![0xa5; room];
-    let mut other = vec![0xa5; room];
-    let told = proved(input, &mut one);
-    let (number, value, instants) = plain::record(input, &mut other);
-    if told != (number, value) || one != other {
-        eprintln!("{name}: the proved function tells {told:?}, the plain one {:?}; bytes alike: {}", (number, value), one == other);
-        std::process::exit(1);
+impl Work<'_> {
+    /// Both on one slice; the instants of the run, and the value told. Stops the program where they differ.
+    fn compare(&self, room: usize) -> (u64, usize) {
+        let mut one = vec![0xa5; room];
+        let mut other = vec![0xa5; room];
+        let told = number_and_value((self.proved)(&mut one));
+        let (number, value, instants) = (self.plain)(&mut other);
+        if told != (number, value) || one != other {
+            let (name, answer) = (&self.name, (number, value));
+            eprintln!("{name}: the proved function tells {told:?}, the plain one {answer:?}; bytes alike: {}", one == other);
+            std::process::exit(1);
+        }
+        (instants, value)
     }
-    instants
+
+    /// The comparisons, the times and the ratios, printed as one row.
+    fn measure(&self) -> Times {
+        let mut out = vec![0; 1 << 19];
+        let (instants, needed) = self.compare(out.len());
+        // the lengths of slices at which the answer changes
+        self.compare(needed);
+        self.compare(needed.saturating_sub(1));
+
+        let once = timed(4, || (self.plain)(&mut out));
+        let turns = (SLICE.as_secs_f64() / once).ceil().max(1.0) as u32;
+        let (mut ratios, mut slow, mut fast) = (Vec::new(), Vec::new(), Vec::new());
+        for _ in 0..REPETITIONS {
+            let p = timed(turns, || (self.proved)(&mut out));
+            let q = timed(turns, || (self.plain)(&mut out));
+            ratios.push(p / q);
+            slow.push(p);
+            fast.push(q);
+        }
+        let times = Times { proved: median(&mut slow), plain: median(&mut fast), ratio: median(&mut ratios) };
+        let each = |seconds: f64| seconds * 1e9 / instants.max(1) as f64;
+        println!(
+            "{:36} {instants:6} {:9.2} {:9.2} {:7.1} {:7.1} {:6.2} {:6.2} .. {:.2}",
+            self.name,
+            times.proved * 1e6,
+            times.plain * 1e6,
+            each(times.proved),
+            each(times.plain),
+            times.ratio,
+            ratios[0],
+            ratios[REPETITIONS - 1],
+        );
+        times
+    }
+}
+
+/// Medians: of both functions' seconds, and of their ratio.
+struct Times {
+    proved: f64,
+    plain: f64,
+    ratio: f64,
 }
 
 /// Seconds for each of `turns` calls.
@@ -48,56 +117,72 @@ fn median(values: &mut [f64]) -> f64 {
     values[values.len() / 2]
 }
 
-fn measure(name: &str, input: &[u8]) -> f64 {
-    let mut out = vec![0; 1 << 19];
-    let instants = compare(name, input, out.len());
-    // the lengths of slices at which the answer changes
-    let (_, needed) = proved(input, &mut out);
-    compare(name, input, needed);
-    compare(name, input, needed.saturating_sub(1));
-
-    let once = timed(4, || plain::record(black_box(input), &mut out));
-    let turns = (SLICE.as_secs_f64() / once).ceil().max(1.0) as u32;
-    let (mut ratios, mut slow, mut fast) = (Vec::new(), Vec::new(), Vec::new());
-    for _ in 0..REPETITIONS {
-        let p = timed(turns, || proved(black_box(input), &mut out));
-        let q = timed(turns, || plain::record(black_box(input), &mut out));
-        ratios.push(p / q);
-        slow.push(p);
-        fast.push(q);
-    }
-    let middle = median(&mut ratios);
-    let each = |seconds: f64| seconds * 1e9 / instants.max(1) as f64;
+fn heading(what: &str) {
     println!(
-        "{name:36} {instants:6} {:9.2} {:9.2} {:7.1} {:7.1} {middle:6.2} {:6.2} .. {:.2}",
-        median(&mut slow) * 1e6,
-        median(&mut fast) * 1e6,
-        each(slow[REPETITIONS / 2]),
-        each(fast[REPETITIONS / 2]),
-        ratios[0],
-        ratios[REPETITIONS - 1],
+        "{what:36} {:>6} {:>9} {:>9} {:>7} {:>7} {:>6} least .. most",
+        "inst.", "proved us", "plain us", "ns/inst", "ns/inst", "ratio"
     );
-    middle
 }
 
-fn main() {
+/// The record function on inputs that are run; the largest ratio.
+fn records() -> f64 {
     for (name, input) in inputs::refused() {
-        compare(name, &input, 4096);
+        recording(name.to_string(), &input).compare(4096);
     }
-    println!(
-        "{:36} {:>6} {:>9} {:>9} {:>7} {:>7} {:>6} {}",
-        "input", "inst.", "proved us", "plain us", "ns/inst", "ns/inst", "ratio", "least .. most"
-    );
-    let mut worst: f64 = 0.0;
+    heading("input");
+    let mut rows = Vec::new();
     for tasks in [4, 32] {
         for releases in [64, 512, 4096] {
-            let name = format!("record, {releases} releases, {tasks} tasks");
-            worst = worst.max(measure(&name, &inputs::mixed(tasks, releases)));
+            rows.push((format!("record, {releases} releases, {tasks} tasks"), inputs::mixed(tasks, releases)));
         }
     }
     for tasks in [4, 32] {
-        worst = worst.max(measure(&format!("instants with releases, {tasks} tasks"), &inputs::dense(tasks)));
-        worst = worst.max(measure(&format!("instants mostly without, {tasks} tasks"), &inputs::sparse(tasks)));
+        rows.push((format!("instants with releases, {tasks} tasks"), inputs::dense(tasks)));
+        rows.push((format!("instants mostly without, {tasks} tasks"), inputs::sparse(tasks)));
     }
+    rows.iter().map(|(name, input)| recording(name.clone(), input).measure().ratio).fold(0.0, f64::max)
+}
+
+/// The reader on the records of the same inputs; the largest ratio.
+fn true_records() -> f64 {
+    heading("stored record");
+    let mut worst: f64 = 0.0;
+    for tasks in [4, 32] {
+        for releases in [64, 512, 4096] {
+            let stored = recorded(tasks, releases);
+            for (name, other) in inputs::refused_records(&stored) {
+                reading(name.to_string(), &other).compare(1 << 16);
+            }
+            let name = format!("read, {releases} releases, {tasks} tasks");
+            worst = worst.max(reading(name, &stored).measure().ratio);
+        }
+    }
+    worst
+}
+
+fn recorded(tasks: u8, releases: usize) -> Stored {
+    inputs::stored(&inputs::mixed(tasks, releases), tasks, |input, out| number_and_value(gateway::record(input, out)).1)
+}
+
+/// The reader on records that are made to cost much: how many times the time of a true one of the same length the worst takes. Where none is as
+/// long, the time for each byte is what is compared.
+fn hostile_records() -> f64 {
+    heading("hostile record");
+    let truth = recorded(32, 4096);
+    let true_time = reading("a true one".to_string(), &truth).measure().proved / truth.record.len() as f64;
+    let mut worst: f64 = 0.0;
+    for (name, stored) in inputs::hostile(&truth) {
+        let times = reading(name.to_string(), &stored).measure();
+        let as_much = times.proved / stored.record.len() as f64 / true_time;
+        println!("    {} bytes, {as_much:.2} times a true one of that length", stored.record.len());
+        worst = worst.max(as_much);
+    }
+    worst
+}
+
+fn main() {
+    let worst = records().max(true_records());
+    let hostile = hostile_records();
     println!("the largest median ratio is {worst:.2}");
+    println!("a hostile record takes at most {hostile:.2} times a true one of its length");
 }

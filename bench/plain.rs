@@ -6,6 +6,11 @@ const LAST_TIME: u64 = 1_000_000_000;
 const MOST_RELEASES: usize = 4096;
 const LONGEST: u32 = 1_000_000;
 
+// The lengths of entries: of a job, of an interval, and of a release, skipped or not.
+const JOB: usize = 27;
+const INTERVAL: usize = 24;
+const TIMED: usize = 10;
+
 #[derive(Clone, Copy, PartialEq)]
 enum Unit {
     Free,
@@ -46,24 +51,13 @@ struct State {
     instants: u64,
 }
 
-struct Writer<'a> {
-    out: &'a mut [u8],
-    at: usize,
-    keep: bool,
-}
-
-impl Writer<'_> {
-    #[inline]
-    fn put<const N: usize>(&mut self, bytes: [u8; N]) {
-        if self.keep {
-            self.out[self.at..self.at + N].copy_from_slice(&bytes);
-        }
-        self.at += N;
-    }
+/// What becomes of a run's entries.
+trait Entries {
+    fn put<const N: usize>(&mut self, bytes: [u8; N]);
 
     #[inline]
     fn job(&mut self, task: u8, release: u64, start: u64, completion: u64, blocked: u8) {
-        let mut e = [16; 27];
+        let mut e = [16; JOB];
         e[1] = task;
         e[2..10].copy_from_slice(&release.to_le_bytes());
         e[10..18].copy_from_slice(&start.to_le_bytes());
@@ -74,7 +68,7 @@ impl Writer<'_> {
 
     #[inline]
     fn interval(&mut self, s: &State, end: u64, promoted: u8) {
-        let mut e = [17; 24];
+        let mut e = [17; INTERVAL];
         e[1..9].copy_from_slice(&s.begin.to_le_bytes());
         e[9..17].copy_from_slice(&end.to_le_bytes());
         e[17] = s.half;
@@ -89,10 +83,48 @@ impl Writer<'_> {
 
     #[inline]
     fn skipped(&mut self, task: u8, time: u64) {
-        let mut e = [18; 10];
-        e[1] = task;
-        e[2..10].copy_from_slice(&time.to_le_bytes());
-        self.put(e);
+        self.put(timed(18, task, time));
+    }
+}
+
+/// An entry of a task and a time: a release, or a release skipped.
+#[inline]
+fn timed(kind: u8, task: u8, time: u64) -> [u8; TIMED] {
+    let mut e = [kind; TIMED];
+    e[1] = task;
+    e[2..10].copy_from_slice(&time.to_le_bytes());
+    e
+}
+
+/// Writes them.
+struct Writer<'a> {
+    out: &'a mut [u8],
+    at: usize,
+    keep: bool,
+}
+
+impl Entries for Writer<'_> {
+    #[inline]
+    fn put<const N: usize>(&mut self, bytes: [u8; N]) {
+        if self.keep {
+            self.out[self.at..self.at + N].copy_from_slice(&bytes);
+        }
+        self.at += N;
+    }
+}
+
+/// Holds them against the entries of a record.
+struct Held<'a> {
+    record: &'a [u8],
+    at: usize,
+    alike: bool,
+}
+
+impl Entries for Held<'_> {
+    #[inline]
+    fn put<const N: usize>(&mut self, bytes: [u8; N]) {
+        self.alike &= self.record.get(self.at..self.at + N) == Some(&bytes[..]);
+        self.at += N;
     }
 }
 
@@ -142,7 +174,7 @@ impl State {
     }
 
     #[inline]
-    fn end_interval(&mut self, now: u64, w: &mut Writer) {
+    fn end_interval(&mut self, now: u64, w: &mut impl Entries) {
         self.open = false;
         if self.executed != NONE {
             let limit = self.priority[self.executed as usize];
@@ -175,7 +207,7 @@ impl State {
     }
 
     #[inline]
-    fn instant(&mut self, now: u64, released: u32, w: &mut Writer) {
+    fn instant(&mut self, now: u64, released: u32, w: &mut impl Entries) {
         self.instants += 1;
         // a
         if self.open {
@@ -448,4 +480,86 @@ pub fn record(s: &[u8], out: &mut [u8]) -> (u8, usize, u64) {
     let mut w = Writer { out, at: 0, keep: true };
     run(s, start, &mut state, &mut w);
     (0, w.at, state.instants)
+}
+
+/// A release as one number, by time and then task: both fit.
+fn key(task: u8, time: u64) -> u64 {
+    time << 5 | u64::from(task)
+}
+
+/// The releases of a record's entries, as keys in the order of the entries; none where one of them cannot be a file's or there are too many. Or
+/// the refusal of an entry.
+fn collect(record: &[u8], present: u32) -> Result<Option<Vec<u64>>, (u8, usize)> {
+    let mut at = 0;
+    let mut keys = Vec::with_capacity(MOST_RELEASES.min(record.len() / TIMED));
+    let mut admissible = true;
+    while at < record.len() {
+        let size = match record[at] {
+            16 => JOB,
+            17 => INTERVAL,
+            18 => TIMED,
+            _ => return Err((2, at)),
+        };
+        if record.len() - at < size {
+            return Err((1, at));
+        }
+        if size != INTERVAL && admissible {
+            let task = record[at + 1];
+            let time = time_at(record, at);
+            admissible = task < 32 && present >> task & 1 == 1 && time <= LAST_TIME && keys.len() < MOST_RELEASES;
+            keys.push(key(task, time));
+        }
+        at += size;
+    }
+    Ok(admissible.then_some(keys))
+}
+
+/// Whether the run of a list of releases has this record.
+fn yields(keys: &[u64], state: &mut State, record: &[u8]) -> bool {
+    let mut held = Held { record, at: 0, alike: true };
+    let mut at = 0;
+    while held.alike {
+        let next = keys.get(at).map_or(u64::MAX, |key| key >> 5);
+        let now = state.due().min(next);
+        if now == u64::MAX {
+            return held.at == record.len();
+        }
+        let mut released = 0;
+        while at < keys.len() && keys[at] >> 5 == now {
+            released |= 1 << (keys[at] & 31);
+            at += 1;
+        }
+        state.instant(now, released, &mut held);
+    }
+    false
+}
+
+/// The releases that made a record, written into the front of `out`: what is told is as for `record`.
+pub fn read(tasks: &[u8], record: &[u8], out: &mut [u8]) -> (u8, usize, u64) {
+    if tasks.is_empty() {
+        return (12, 0, 0);
+    }
+    let mut state = opened();
+    match read_table(tasks, &mut state) {
+        Ok(end) if end < tasks.len() => return (2, end, 0),
+        Ok(_) => {}
+        Err((number, place)) => return (number, place, 0),
+    }
+    let mut keys = match collect(record, state.present) {
+        Ok(Some(keys)) => keys,
+        Ok(None) => return (18, 0, 0),
+        Err((number, place)) => return (number, place, 0),
+    };
+    keys.sort_unstable();
+    if keys.windows(2).any(|pair| pair[0] == pair[1]) || !yields(&keys, &mut state, record) {
+        return (18, 0, state.instants);
+    }
+    let needed = TIMED * keys.len();
+    if out.len() < needed {
+        return (13, needed, state.instants);
+    }
+    for (entry, key) in out.chunks_exact_mut(TIMED).zip(keys) {
+        entry.copy_from_slice(&timed(2, (key & 31) as u8, key >> 5));
+    }
+    (0, needed, state.instants)
 }

@@ -1,9 +1,9 @@
 #!/usr/bin/env bash
-# Time the proved record function against plain Rust, both in one program, and print the ratios of their times.
+# Time the proved functions, that of records and that which reads them, against plain Rust in one program, and print the ratios of their times.
 set -eu
 cd "$(dirname "$0")/.."
 mkdir -p target
-rt staticlib exports >target/staticlib.log 2>&1 || {
+link/library.sh >target/staticlib.log 2>&1 || {
     cat target/staticlib.log
     exit 1
 }

@@ -1,40 +1,61 @@
-/* Prints what comes of the input in a file: example FILE [ROOM]. ROOM is the length of the slice that is lent. */
+/* Prints what comes of the input in a file:         example FILE [ROOM]
+ * or of a stored record, beside its task entries:   example --read TASKS RECORD [ROOM]
+ * ROOM is the length of the slice that is lent. */
 #include "gateway.h"
 
 #include <stdio.h>
 #include <stdlib.h>
+#include <string.h>
+
+static uint8_t first[1 << 16], second[1 << 19], out[1 << 19];
+
+/* Reads a file into `to`, and answers its length. */
+static size_t read_file(const char *path, uint8_t *to, size_t most)
+{
+    FILE *file = fopen(path, "rb");
+    if (file == NULL) {
+        perror(path);
+        exit(2);
+    }
+    size_t length = fread(to, 1, most, file);
+    if (ferror(file) || !feof(file)) {
+        fprintf(stderr, "%s: cannot be read, or is too long\n", path);
+        exit(2);
+    }
+    fclose(file);
+    return length;
+}
+
+static void print(const char *what, uint8_t number, size_t told)
+{
+    size_t written = number == 0 ? told : 0;
+    printf("number %u, value %zu, %s of %zu bytes\n", (unsigned)number, told, what, written);
+    for (size_t i = 0; i < written; i++) {
+        printf("%02x%s", out[i], i + 1 == written || i % 32 == 31 ? "\n" : "");
+    }
+}
 
 int main(int argc, char **argv)
 {
-    if (argc < 2 || argc > 3) {
-        fprintf(stderr, "usage: %s FILE [ROOM]\n", argv[0]);
+    int reads = argc > 1 && strcmp(argv[1], "--read") == 0;
+    int files = reads ? 2 : 1;
+    char **paths = argv + 1 + reads;
+    if (argc - 1 - reads < files || argc - 1 - reads > files + 1) {
+        fprintf(stderr, "usage: %s FILE [ROOM], or %s --read TASKS RECORD [ROOM]\n", argv[0], argv[0]);
         return 2;
     }
-    FILE *file = fopen(argv[1], "rb");
-    if (file == NULL) {
-        perror(argv[1]);
-        return 2;
-    }
-    static uint8_t input[1 << 16];
-    size_t length = fread(input, 1, sizeof input, file);
-    if (ferror(file) || !feof(file)) {
-        fprintf(stderr, "%s: cannot be read, or is longer than an input can be\n", argv[1]);
-        return 2;
-    }
-    fclose(file);
-
-    static uint8_t out[1 << 19];
-    size_t room = argc == 3 ? strtoul(argv[2], NULL, 10) : sizeof out;
+    size_t room = paths[files] != NULL ? strtoul(paths[files], NULL, 10) : sizeof out;
     if (room > sizeof out) {
         room = sizeof out;
     }
-    size_t told = 0;
-    uint8_t number = gateway_record(input, length, out, room, &told);
-
-    size_t written = number == 0 ? told : 0;
-    printf("number %u, value %zu, record of %zu bytes\n", (unsigned)number, told, written);
-    for (size_t i = 0; i < written; i++) {
-        printf("%02x%s", out[i], i + 1 == written || i % 32 == 31 ? "\n" : "");
+    size_t told = 0, length = read_file(paths[0], first, sizeof first);
+    if (reads) {
+        size_t stored = read_file(paths[1], second, sizeof second);
+        uint8_t number = gateway_read(first, length, second, stored, out, room, &told);
+        print("list", number, told);
+    } else {
+        uint8_t number = gateway_record(first, length, out, room, &told);
+        print("record", number, told);
     }
     return 0;
 }

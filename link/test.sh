@@ -7,7 +7,7 @@ inputs=$(mktemp -d)
 trap 'rm -rf "$inputs"' EXIT
 passed=0
 
-# try NAME INPUT [ROOM]: both examples print link/expected/NAME.txt
+# try NAME WORDS..: both examples, with these words, print link/expected/NAME.txt
 try() {
     local name=$1 program
     shift
@@ -28,4 +28,19 @@ try plan_a "$inputs/plan_a"
 try too_short "$inputs/plan_a" 10
 try cut_short "$inputs/cut"
 try empty "$inputs/empty"
+
+# a record that is stored, the same with its first entry left out, and with a byte behind it
+head -c 48 "$inputs/plan_a" >"$inputs/tasks"
+python3 -m sim record <"$inputs/plan_a" >"$inputs/record"
+tail -c +25 "$inputs/record" >"$inputs/first_left_out"
+{
+    cat "$inputs/record"
+    printf '\007'
+} >"$inputs/byte_behind"
+try read_plan_a --read "$inputs/tasks" "$inputs/record"
+try read_too_short --read "$inputs/tasks" "$inputs/record" 29
+try read_no_list --read "$inputs/tasks" "$inputs/first_left_out"
+try read_another_kind --read "$inputs/tasks" "$inputs/byte_behind"
+try read_a_release --read "$inputs/plan_a" "$inputs/record"
+try read_nothing --read "$inputs/tasks" "$inputs/empty"
 echo "$passed passed"

@@ -1,1 +1,1 @@
-"""An independent simulator of the gateway dispatcher, written from document 01 alone."""
+"""An independent simulator of the gateway dispatcher, written from documents 01 and 02 alone."""

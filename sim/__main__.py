@@ -3,6 +3,7 @@
     python3 -m sim file     prints the lines of an input file
     python3 -m sim record   writes the record's bytes; a refused input writes none and ends with status 1
     python3 -m sim session  prints the lines of a session
+    python3 -m sim read     prints the releases that made a stored record
 """
 
 import sys
@@ -10,11 +11,14 @@ import sys
 from sim.entries import Refused
 from sim.files import record
 from sim.lines import file_lines, refusal_line, text
+from sim.reading import read_lines
 from sim.sessions import session_lines
+
+PRINTED = {"file": file_lines, "session": session_lines, "read": read_lines}
 
 
 def main(arguments):
-    if len(arguments) != 1 or arguments[0] not in ("file", "record", "session"):
+    if len(arguments) != 1 or arguments[0] not in ("record", *PRINTED):
         sys.stderr.write(__doc__)
         return 2
     data = sys.stdin.buffer.read()
@@ -25,8 +29,7 @@ def main(arguments):
             sys.stderr.write(refusal_line(refused) + "\n")
             return 1
         return 0
-    program = {"file": file_lines, "session": session_lines}[arguments[0]]
-    sys.stdout.write(text(program(data)))
+    sys.stdout.write(text(PRINTED[arguments[0]](data)))
     return 0
 
 

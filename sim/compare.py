@@ -3,6 +3,7 @@
     python3 -m sim.compare session --program PATH --seed 1 --count 2000 --damaged 500
     python3 -m sim.compare file    --program PATH --seed 1 --count 2000 --damaged 2000
     python3 -m sim.compare record  --program PATH ...   (a program that writes the record's raw bytes)
+    python3 -m sim.compare read    --program PATH ...   (a program that reads a stored record)
 
 An input is fixed by what is compared, the seed and its index, so a longer comparison begins with the
 inputs of a shorter one.
@@ -16,10 +17,11 @@ import subprocess
 import sys
 import tempfile
 
-from sim import generate
+from sim import generate, generate_records
 from sim.entries import Refused
 from sim.files import record
 from sim.lines import file_lines, text
+from sim.reading import read_lines
 from sim.sessions import session_lines
 
 SECONDS_EACH = 20
@@ -39,6 +41,10 @@ def expected_session(data):
     return text(session_lines(data)).encode()
 
 
+def expected_read(data):
+    return text(read_lines(data)).encode()
+
+
 def expected_record(data):
     try:
         return record(data)
@@ -46,11 +52,13 @@ def expected_record(data):
         return b""
 
 
-EXPECTED = {"file": expected_file, "session": expected_session, "record": expected_record}
+EXPECTED = {"file": expected_file, "session": expected_session, "record": expected_record, "read": expected_read}
 
-GOOD = {"file": generate.random_file, "session": generate.random_session, "record": generate.random_file}
+GOOD = {"file": generate.random_file, "session": generate.random_session, "record": generate.random_file,
+        "read": generate_records.random_stored}
 
-DAMAGED = {"file": generate.damaged_file, "session": generate.damaged_session, "record": generate.damaged_file}
+DAMAGED = {"file": generate.damaged_file, "session": generate.damaged_session, "record": generate.damaged_file,
+           "read": generate_records.damaged_stored}
 
 
 def inputs(what, seed, count, damaged):

@@ -11,6 +11,9 @@ SKIPPED = 18
 
 NO_TASK = 255
 
+# Where a program's input has two parts, this many bytes in front tell the length of the first.
+LENGTH_BYTES = 4
+
 # The length in bytes of each field of a kind's body, in body order.
 FIELDS = {
     TASK: (1, 1, 1, 4, 4, 4),
@@ -79,3 +82,16 @@ def task_entry(number, priority, mark, copy_in, execution, copy_out):
 def release_entry(time, task):
     """A release; the arguments are in document 01's order for plans, (time, task)."""
     return encode(RELEASE, task, time)
+
+
+def two_parts(first, second):
+    """A program's input of two parts: the length of the first, lowest byte first, then both."""
+    return len(first).to_bytes(LENGTH_BYTES, "little") + first + second
+
+
+def parts_of(data):
+    """The two parts of a program's input, or None where the length or the first part is cut short."""
+    behind = LENGTH_BYTES + int.from_bytes(data[:LENGTH_BYTES], "little")
+    if len(data) < LENGTH_BYTES or len(data) < behind:
+        return None
+    return data[LENGTH_BYTES:behind], data[behind:]

@@ -115,7 +115,7 @@ def _sprinkled_releases(rng, tasks, count):
     return sorted({(begin + rng.randint(0, width), rng.choice(numbers)) for _ in range(count)})
 
 
-def _crowded_releases(rng, tasks, count):
+def crowded_releases(rng, tasks, count):
     """Exactly `count` releases, close together: for files at and past the limit."""
     numbers = sorted(decode(task)[0] for task in tasks)
     releases, time = [], rng.randint(0, 5)
@@ -126,18 +126,24 @@ def _crowded_releases(rng, tasks, count):
     return releases[:count]
 
 
-def file_parts(rng):
-    """The entries of a file that is served, as a list."""
+def tasks_and_releases(rng):
+    """The task entries of a file that is served, and its releases (time, task)."""
     tasks = random_tasks(rng)
     shape = rng.random()
     if shape < 0.04:
         releases = []
     elif shape < 0.05:
-        releases = _crowded_releases(rng, tasks, rng.choice((MOST_RELEASES - 1, MOST_RELEASES)))
+        releases = crowded_releases(rng, tasks, rng.choice((MOST_RELEASES - 1, MOST_RELEASES)))
     elif shape < 0.75:
         releases = _followed_releases(rng, tasks, rng.choice((3, 10, 30, 120)))
     else:
         releases = _sprinkled_releases(rng, tasks, rng.choice((3, 10, 30, 120)))
+    return tasks, releases
+
+
+def file_parts(rng):
+    """The entries of a file that is served, as a list."""
+    tasks, releases = tasks_and_releases(rng)
     return tasks + [release_entry(*release) for release in releases]
 
 
@@ -148,7 +154,7 @@ def random_file(rng):
 
 # Damage to a list of entries. Each changes it in place.
 
-def _swap(rng, parts):
+def swap(rng, parts):
     one, other = rng.randrange(len(parts)), rng.randrange(len(parts))
     parts[one], parts[other] = parts[other], parts[one]
 
@@ -158,32 +164,32 @@ def _swap_neighbours(rng, parts):
     parts[at - 1], parts[at] = parts[at], parts[at - 1]
 
 
-def _duplicate(rng, parts):
+def duplicate(rng, parts):
     parts.insert(rng.randint(0, len(parts)), rng.choice(parts))
 
 
-def _drop(rng, parts):
+def drop(rng, parts):
     if len(parts) > 1:
         del parts[rng.randrange(len(parts))]
 
 
-def _change_kind(rng, parts):
+def change_kind(rng, parts):
     at = rng.randrange(len(parts))
     parts[at] = bytes([rng.choice((0, 1, 2, 3, 7, 16, 17, 18, 255))]) + parts[at][1:]
 
 
-def _is_whole(part):
+def is_whole(part):
     return bool(part) and part[0] in FIELDS and len(part) == entry_length(FIELDS[part[0]])
 
 
 def _change_fields(rng, parts, chance):
     """Put limit values, or another entry's, into fields of one entry; several at once test the order of checks."""
     at = rng.randrange(len(parts))
-    if not _is_whole(parts[at]):
+    if not is_whole(parts[at]):
         return
     kind = parts[at][0]
     fields = list(decode(parts[at]))
-    peers = [decode(part) for part in parts if _is_whole(part) and part[0] == kind]
+    peers = [decode(part) for part in parts if is_whole(part) and part[0] == kind]
     forced = rng.randrange(len(fields))
     for index, size in enumerate(FIELDS[kind]):
         if index == forced or rng.random() < chance:
@@ -191,17 +197,17 @@ def _change_fields(rng, parts, chance):
     parts[at] = encode(kind, *fields)
 
 
-def _change_one_field(rng, parts):
+def change_one_field(rng, parts):
     _change_fields(rng, parts, 0)
 
 
-def _change_many_fields(rng, parts):
+def change_many_fields(rng, parts):
     _change_fields(rng, parts, 0.5)
 
 
 def _same_priority(rng, parts):
     """One task's priority given to another."""
-    tasks = [at for at, part in enumerate(parts) if _is_whole(part) and part[0] == TASK]
+    tasks = [at for at, part in enumerate(parts) if is_whole(part) and part[0] == TASK]
     if len(tasks) > 1:
         one, other = rng.sample(tasks, 2)
         number, _, *rest = decode(parts[one])
@@ -220,8 +226,8 @@ def _stray_release(rng, parts):
     parts.insert(rng.randint(0, len(parts)), encode(RELEASE, task, time))
 
 
-ENTRY_DAMAGE = (_swap, _swap_neighbours, _duplicate, _drop, _change_kind, _change_one_field, _change_one_field,
-                _change_many_fields, _same_priority, _late_task, _stray_release)
+ENTRY_DAMAGE = (swap, _swap_neighbours, duplicate, drop, change_kind, change_one_field, change_one_field,
+                change_many_fields, _same_priority, _late_task, _stray_release)
 
 
 def damage_entries(rng, parts):
@@ -266,7 +272,7 @@ def _crowded_file(rng):
     """Too many releases, or nearly: the first refusal is the 4,097th release unless damage comes before it."""
     tasks = random_tasks(rng)
     count = MOST_RELEASES + rng.choice((0, 1, 1, 1, 2, 200))
-    parts = tasks + [release_entry(*release) for release in _crowded_releases(rng, tasks, count)]
+    parts = tasks + [release_entry(*release) for release in crowded_releases(rng, tasks, count)]
     if rng.random() < 0.5:
         damage_entries(rng, parts)
     return b"".join(parts)
@@ -465,12 +471,15 @@ def _opening_of_no_task(rng):
     return session_bytes(b"", calls)
 
 
-def _length_wrong(rng):
-    """The opening's length says more, or less, than there is."""
-    data = random_session(rng)
+def wrong_length(rng, data):
+    """An input of two parts whose length of the first says more, or less, than there is."""
     length = int.from_bytes(data[:4], "little")
     wrong = rng.choice((length - 1, length - 16, length + 1, length + 16, len(data) - 4, len(data) - 3, 2**32 - 1))
     return max(0, wrong).to_bytes(4, "little") + data[4:]
+
+
+def _length_wrong(rng):
+    return wrong_length(rng, random_session(rng))
 
 
 def _call_kind_unknown(rng):
@@ -493,12 +502,13 @@ def _session_flipped(rng):
     return _flip(rng, random_session(rng))
 
 
-def _too_short(rng):
+def too_short(rng):
+    """Fewer bytes than tell a length."""
     return rng.randbytes(rng.randint(0, 3))
 
 
 def damaged_session(rng):
     """A session whose opening or call entries are not right; what is wrong may lie anywhere."""
     kinds = (_opening_damaged, _opening_bytes_damaged, _opening_of_no_task, _length_wrong, _call_kind_unknown,
-             _session_cut, _last_call_cut, _session_flipped, _too_short)
+             _session_cut, _last_call_cut, _session_flipped, too_short)
     return rng.choices(kinds, weights=(40, 15, 3, 8, 8, 8, 5, 10, 3))[0](rng)

@@ -5,7 +5,7 @@ call entries until the input ends.
 """
 
 from sim.dispatcher import Dispatcher
-from sim.entries import Refused, encode, entries
+from sim.entries import Refused, encode, entries, parts_of, two_parts
 from sim.files import interval_entry, job_entry
 from sim.lines import record_lines, refusal_line
 
@@ -17,8 +17,6 @@ CALL_FIELDS = {
     MARK: (1, 1),     # task, mark
 }
 
-LENGTH_BYTES = 4
-
 
 def call_entry(kind, *fields):
     return encode(kind, *fields, formats=CALL_FIELDS)
@@ -26,8 +24,7 @@ def call_entry(kind, *fields):
 
 def session_bytes(opening, calls):
     """A session's input from its opening bytes and its calls (kind, first field, second field)."""
-    head = len(opening).to_bytes(LENGTH_BYTES, "little")
-    return head + opening + b"".join(call_entry(*call) for call in calls)
+    return two_parts(opening, b"".join(call_entry(*call) for call in calls))
 
 
 def answer_lines(answer):
@@ -64,11 +61,12 @@ def calls_lines(dispatcher, data):
 
 def session_lines(data):
     """What the session program prints for an input."""
-    calls_at = LENGTH_BYTES + int.from_bytes(data[:LENGTH_BYTES], "little")
-    if len(data) < LENGTH_BYTES or len(data) < calls_at:
-        return ["X"]  # the length or the opening bytes are cut short: nothing was opened
+    parts = parts_of(data)
+    if parts is None:
+        return ["X"]  # nothing was opened
+    opening, calls = parts
     try:
-        dispatcher = Dispatcher.open(data[LENGTH_BYTES:calls_at])
+        dispatcher = Dispatcher.open(opening)
     except Refused as refused:
         return [refusal_line(refused)]
-    return ["O"] + calls_lines(dispatcher, data[calls_at:])
+    return ["O"] + calls_lines(dispatcher, calls)

@@ -2,8 +2,10 @@
  * and so on: driver PROGRAM INPUTS OUTPUTS COUNT. Each run has a process of its own, since a program that is not proved may crash or not end: for
  * a run that a signal ended a line is printed, 'NUMBER crashed' or 'NUMBER late'. After the third that is late it stops.
  *
- * `gateway`, `session` and `direct` read standard input and write standard output. `exports` is the record function: the first 8 bytes of its input
- * are the length of the slice that is lent, and what it answers, what it tells and the slice with some bytes behind it are written. */
+ * `gateway`, `session`, `reader` and `direct` read standard input and write standard output. `exports` calls a function for C: of its input the first byte
+ * says which, 0 the record function and 1 that which reads a record, the next 8 are the length of the slice that is lent, and the rest is what
+ * the function gets, of two slices the first behind its length in 4 bytes. What it answers, what it tells and the slice with some bytes behind it are
+ * written. */
 #define _POSIX_C_SOURCE 200809L
 #include "gateway.h"
 
@@ -17,10 +19,11 @@
 #include <unistd.h>
 
 enum { SECONDS = 1, MOST_OUTPUT = 1 << 24, MOST_LATE = 3, OWN_FAULT = 3 };
-enum { MOST_INPUT = 1 << 17, MOST_LENT = 1 << 19, BEHIND = 64, FILL = 0xA5 };
+enum { MOST_INPUT = 1 << 20, MOST_LENT = 1 << 19, BEHIND = 64, FILL = 0xA5 };
 
 extern void gateway_main(void);
 extern void session_main(void);
+extern void reader_main(void);
 extern void direct_main(void);
 
 static void fault(const char *what)
@@ -36,20 +39,35 @@ static void put(const void *bytes, size_t count)
     }
 }
 
+static uint8_t read_record(const uint8_t *rest, size_t length, uint8_t *out, size_t room, size_t *told)
+{
+    uint32_t tasks = 0;
+    if (length < sizeof tasks) {
+        fault("the length of the task entries");
+    }
+    memcpy(&tasks, rest, sizeof tasks);
+    if (length - sizeof tasks < tasks) {
+        fault("the task entries");
+    }
+    const uint8_t *first = rest + sizeof tasks;
+    return gateway_read(first, tasks, first + tasks, length - sizeof tasks - tasks, out, room, told);
+}
+
 static void exports_main(void)
 {
     static uint8_t input[MOST_INPUT], out[MOST_LENT + BEHIND];
     ssize_t length = read(0, input, sizeof input);
     uint64_t room = MOST_LENT + 1;
-    if (length >= (ssize_t)sizeof room) {
-        memcpy(&room, input, sizeof room);
+    if (length > (ssize_t)sizeof room) {
+        memcpy(&room, input + 1, sizeof room);
     }
     if (room > MOST_LENT) {
         fault("the length of the slice");
     }
     memset(out, FILL, sizeof out);
-    size_t told = 0;
-    uint8_t number = gateway_record(input + sizeof room, (size_t)length - sizeof room, out, room, &told);
+    const uint8_t *rest = input + 1 + sizeof room;
+    size_t told = 0, left = (size_t)length - 1 - sizeof room;
+    uint8_t number = input[0] ? read_record(rest, left, out, room, &told) : gateway_record(rest, left, out, room, &told);
     uint64_t value = told;
     put(&number, sizeof number);
     put(&value, sizeof value);
@@ -59,7 +77,7 @@ static void exports_main(void)
 static const struct {
     const char *name;
     void (*start)(void);
-} programs[] = {{"gateway", gateway_main}, {"session", session_main}, {"exports", exports_main}, {"direct", direct_main}};
+} programs[] = {{"gateway", gateway_main}, {"session", session_main}, {"reader", reader_main}, {"exports", exports_main}, {"direct", direct_main}};
 
 static void redirect(const char *folder, long number, int flags, int to)
 {

@@ -2,8 +2,9 @@
 releases as there may be and one more, times at the end of what a number holds."""
 
 from sim.dispatcher import LAST_RELEASE_TIME
-from sim.entries import release_entry, task_entry
+from sim.entries import SKIPPED, encode, release_entry, task_entry, two_parts
 from sim.files import MOST_RELEASES
+from sim.generate_records import LONGEST_KEPT, record_entries
 from sim.sessions import INSTANT, MARK, call_entry, session_bytes
 from sim.table import LAST_TASK, LENGTH_LIMIT
 
@@ -11,7 +12,8 @@ LAST_TICK = 2**64 - 1
 
 TASKS = (task_entry(1, 1, 1, 2, 3, 1), task_entry(2, 2, 0, 2, 4, 1), task_entry(3, 3, 0, 2, 5, 2))
 TABLE = b"".join(TASKS)
-RELEASES = tuple(release_entry(*pair) for pair in ((0, 3), (2, 2), (3, 1), (9, 2)))
+PAIRS = ((0, 3), (2, 2), (3, 1), (9, 2))
+RELEASES = tuple(release_entry(*pair) for pair in PAIRS)
 LENGTHS = (0, 1, LENGTH_LIMIT, LENGTH_LIMIT + 1, 2**32 - 1)
 
 
@@ -62,3 +64,44 @@ def sessions():
     late = (LAST_RELEASE_TIME, LAST_RELEASE_TIME + 1, LAST_TICK - 1, LAST_TICK)
     return found + [session_bytes(TABLE, ((INSTANT, time, released), (INSTANT, LAST_TICK, 0)))
                     for time in late for released in (0, 2, 14, 1)]
+
+
+def changed_records(entries):
+    """A record's entries with one left out, doubled, or swapped with the next, and its bytes with one changed."""
+    for at in range(len(entries)):
+        yield b"".join(entries[:at] + entries[at + 1:])
+        yield b"".join(entries[:at + 1] + entries[at:])
+        yield b"".join(entries[:at] + entries[at + 1:at + 2] + entries[at:at + 1] + entries[at + 2:])
+    whole = b"".join(entries)
+    for at in range(len(whole)):
+        yield whole[:at] + bytes([whole[at] ^ 1]) + whole[at + 1:]
+
+
+def skipped_alone():
+    """Records of skipped releases alone, in rising and in falling order, and at the limits."""
+    yield from (encode(SKIPPED, task, 0) for task in (0, 1, LAST_TASK, LAST_TASK + 1, 255))
+    yield from (encode(SKIPPED, 1, time) for time in (LAST_RELEASE_TIME, LAST_RELEASE_TIME + 1, LAST_TICK))
+    for count in (MOST_RELEASES, MOST_RELEASES + 1):
+        falling = [encode(SKIPPED, 1, time) for time in range(count, 0, -1)]
+        yield from (b"".join(falling), b"".join(reversed(falling)))
+
+
+def long_records():
+    """As many skipped releases as the reader keeps, and some more, whole, cut short, or with an entry of another kind behind."""
+    skipped = encode(SKIPPED, 1, 0)
+    for length in (LONGEST_KEPT, LONGEST_KEPT + 600):
+        whole = skipped * (length // len(skipped))
+        yield from (whole, (whole + skipped)[:length], whole + bytes([2]), whole + skipped + bytes([16]))
+
+
+def stored_records():
+    """Task entries cut, refused, or more than there may be; records cut, changed, of as many releases as there may be and of one more, too long."""
+    entries = record_entries(TASKS, PAIRS)
+    record = b"".join(entries)
+    found = cuts(two_parts(TABLE, record[:24])) + [two_parts(opening, record) for opening in cuts(TABLE + RELEASES[0])]
+    found += [two_parts(TABLE + other, record) for other in other_tasks()]
+    found += [two_parts(TABLE * count, record) for count in (10, 11, 12, 20_000)]
+    found += [two_parts(TABLE * 20_000, b"")[:length] for length in (4 + 33 * 16, 900_000)]
+    records = [*cuts(record), *changed_records(entries), *skipped_alone(), *long_records()]
+    records += [b"".join(record_entries(TASKS, [(time, 1) for time in range(count)])) for count in (MOST_RELEASES, MOST_RELEASES + 1)]
+    return found + [two_parts(TABLE, each) for each in records]

@@ -10,6 +10,7 @@ those that inputs and calls make. An edit of a statement changes no program and 
 """
 
 import argparse
+import functools
 import pathlib
 import subprocess
 import sys
@@ -17,8 +18,9 @@ import tempfile
 from typing import NamedTuple
 
 from sim.compare import EXPECTED, inputs
-from sim.entries import Refused
+from sim.entries import Refused, parts_of, release_entry
 from sim.files import record
+from sim.reading import read
 from tools import direct, edits, limits
 from tools.unproved import PROGRAMS, NotBuilt, Workshop
 
@@ -37,34 +39,63 @@ SPARE = (-1, 0, 1, 400)
 
 # What is compared: pairs of an input and what the simulator writes for it.
 
-def told(data, room):
-    """What the driver writes for the record function: its number, the value that it tells, and the lent bytes."""
+def record_of(data):
+    """The record function on an input: what it writes, or the refusal, with the length of a lent slice."""
+    return lambda lent=None: record(data, lent)
+
+
+def list_of(tasks, stored):
+    """The function that reads a record, in the same way."""
+    return lambda lent=None: b"".join(release_entry(*release) for release in read(tasks, stored, lent))
+
+
+def told(write, room):
+    """What the driver writes for a function for C: its number, the value that it tells, and the lent bytes."""
     memory = FILL * (room + BEHIND)
     try:
-        written = record(data, lent=room)
+        written = write(room)
     except Refused as refused:
         return bytes([refused.number]) + (refused.place or 0).to_bytes(8, "little") + memory
     return bytes([0]) + len(written).to_bytes(8, "little") + written + memory[len(written):]
 
 
-def lent(data, spare):
-    """An input of the record function with a slice about as long as the record, and what the driver writes for it."""
+def lent(write, spare):
+    """A slice about as long as what a function writes, and what the driver writes for it."""
     try:
-        room = max(0, len(record(data)) + spare)
+        room = max(0, len(write()) + spare)
     except Refused:
         room = spare % 50
-    return room.to_bytes(8, "little") + data, told(data, room)
+    return room.to_bytes(8, "little"), told(write, room)
+
+
+def exported(files, stored):
+    """The inputs of the functions for C."""
+    calls = [(bytes([0]), data, record_of(data)) for data in files]
+    calls += [(bytes([1]), data, list_of(*parts_of(data))) for data in stored if parts_of(data) is not None]
+    for index, (which, data, write) in enumerate(calls):
+        room, expected = lent(write, SPARE[index % len(SPARE)])
+        yield which + room + data, expected
+
+
+# The kind of input that a program has, and its inputs at the limits.
+KINDS = {"gateway": ("file", limits.files), "session": ("session", limits.sessions), "reader": ("read", limits.stored_records)}
+
+
+@functools.cache
+def given(program, count):
+    """The inputs of a program that has them."""
+    kind, more = KINDS[program]
+    return [data for _, data in inputs(kind, SEED, count, count)] + more()
 
 
 def cases(program, count):
     """The inputs of one program, with what is expected."""
     if program == "direct":
         return direct.cases(SEED)
-    kind, more = ("session", limits.sessions()) if program == "session" else ("file", limits.files())
-    found = [data for _, data in inputs(kind, SEED, count, count)] + more
     if program == "exports":
-        return [lent(data, SPARE[index % len(SPARE)]) for index, data in enumerate(found)]
-    return [(data, EXPECTED[kind](data)) for data in found]
+        return list(exported(given("gateway", count), given("reader", count)))
+    kind, _ = KINDS[program]
+    return [(data, EXPECTED[kind](data)) for data in given(program, count)]
 
 
 class Results(NamedTuple):

@@ -14,22 +14,9 @@ from sim.entries import Refused
 from sim.files import read_file, record
 from sim.lines import record_lines
 from tools.drawing import draw
-from tools.plan import BadLine, input_bytes
+from tools.plan import BadLine, input_bytes, line_of
+from tools.refusals import in_words
 from tools.timeline import BadLines, timeline
-
-REFUSALS = {
-    3: "a task after a release",
-    4: "a task number over 31 or given before",
-    5: "a priority given before",
-    6: "a mark over 1",
-    7: "L, C or U outside 1 to 1000000",
-    8: "a release of a task that is not in the table",
-    9: "a release that is not after the one before",
-    10: "a release time over 1000000000",
-    11: "a 4097th release",
-    12: "the plan has no entry",
-}
-
 
 class Unusable(Exception):
     """A plan or lines that no picture can be made of: the file and the reason."""
@@ -44,20 +31,9 @@ def read_text(path):
         raise Unusable(f"{path}: {error.strerror}") from None
 
 
-def line_of(plan, place):
-    """The number of the plan's line whose entry begins at a place of the input."""
-    at = 0
-    for number, line in enumerate(plan, 1):
-        length = len(input_bytes([line]))
-        if length and at == place:
-            return number
-        at += length
-    raise ValueError(f"no entry begins at {place}")
-
-
 def refusal(plan, refused):
     """A refusal in words, with the line that it is about if there is one."""
-    reason = f"{REFUSALS[refused.number]} (refusal {refused.number})"
+    reason = in_words(refused.number)
     return reason if refused.place is None else f"line {line_of(plan, refused.place)}: {reason}"
 
 

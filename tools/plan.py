@@ -49,17 +49,31 @@ def entry(words):
     return bytes([kind]) + b"".join(parts)
 
 
-def input_bytes(lines):
-    """The input of a plan's lines; a BadLine is raised with its line number in front."""
-    found = []
+def numbered_entries(lines):
+    """Of each line that has an entry its number, its words and its bytes; a BadLine is raised with its line number in front."""
     for number, line in enumerate(lines, 1):
         words = line.split("#")[0].split()
         if words:
             try:
-                found.append(entry(words))
+                made = entry(words)
             except BadLine as bad:
                 raise BadLine(f"line {number}: {bad}") from None
-    return b"".join(found)
+            yield number, words, made
+
+
+def input_bytes(lines):
+    """The input of a plan's lines."""
+    return b"".join(made for _, _, made in numbered_entries(lines))
+
+
+def line_of(lines, place):
+    """The number of the line whose entry begins at a place of the input."""
+    at = 0
+    for number, _, made in numbered_entries(lines):
+        if at == place:
+            return number
+        at += len(made)
+    raise ValueError(f"no entry begins at {place}")
 
 
 def main():

@@ -14,8 +14,11 @@ from tools import direct
 
 DRIVER = pathlib.Path(__file__).with_name("driver.c")
 
-# What is run: two programs, the record function for C, and the calls of tools/direct.py, which are no crate of the repository.
-PROGRAMS = ("gateway", "session", "exports", "direct")
+# What is run: three programs, the functions for C, and the calls of tools/direct.py, which are no crate of the repository.
+PROGRAMS = ("gateway", "session", "reader", "exports", "direct")
+
+# The functions for C are two libraries, of which the driver makes one program.
+MODULES = (*PROGRAMS, "exports_reading")
 
 
 class NotBuilt(Exception):
@@ -77,6 +80,7 @@ class Workshop:
         self.needs = dependencies((self.home / "libs" / "libs.txt").read_text())
         self.needs.update(dependencies((root / "crates.txt").read_text()))
         self.needs["direct"] = direct.NEEDS
+        self.needs["exports"] = [*self.needs["exports"], "exports_reading"]
         for source in (root / "crates").glob("*/src"):
             shutil.copytree(source, folder / source.parent.name / "src")
         (folder / "direct" / "src").mkdir(parents=True)
@@ -110,13 +114,13 @@ class Workshop:
         """The driver over the programs; its path."""
         own = self.home / "on" / platform.machine()
         library, driver = self.folder / "libprograms.a", self.folder / "driver"
-        for program in PROGRAMS:
-            self._module(program)
+        for module in MODULES:
+            self._module(module)
         root = self.folder / "programs" / "src" / "lib.rt"
-        root.write_text("".join(f"mod {program};\n" for program in PROGRAMS))
+        root.write_text("".join(f"mod {module};\n" for module in MODULES))
         words = ["--toolchain", own / "toolchain", "--staticlib", library, root, "--crate-name", "programs"]
-        for name in ["std", *ground_up(PROGRAMS, self.needs)]:
-            if name not in PROGRAMS:
+        for name in ["std", *ground_up(MODULES, self.needs)]:
+            if name not in MODULES:
                 words += ["--lib", f"{name}={self._source(name)}"]
         run([own / "bin" / "rattle-cases", *words])
         flags = ["-std=c11", "-Wall", "-Wextra", "-Werror", "-I", self.root / "link"]

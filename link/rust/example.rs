@@ -1,29 +1,52 @@
-//! Prints what comes of the input in a file: example FILE [ROOM]. ROOM is the length of the slice that is lent.
+//! Prints what comes of the input in a file:         example FILE [ROOM]
+//! or of a stored record, beside its task entries:   example --read TASKS RECORD [ROOM]
+//! ROOM is the length of the slice that is lent.
 
 mod gateway;
 
 use gateway::Outcome;
 
-fn main() {
-    let words: Vec<String> = std::env::args().collect();
-    if words.len() < 2 || words.len() > 3 {
-        eprintln!("usage: {} FILE [ROOM]", words[0]);
-        std::process::exit(2);
-    }
-    let input = std::fs::read(&words[1]).unwrap_or_else(|why| {
-        eprintln!("{}: {why}", words[1]);
-        std::process::exit(2);
-    });
-    let most = 1 << 19;
-    let room = words.get(2).map_or(most, |word| word.parse().expect("ROOM is a number"));
-    let mut out = vec![0; room.min(most)];
-    let (number, value, written) = match gateway::record(&input, &mut out) {
-        Outcome::Recorded(length) => (0, length, length),
+const MOST: usize = 1 << 19;
+
+fn trouble(what: &str) -> ! {
+    eprintln!("{what}");
+    std::process::exit(2);
+}
+
+fn read_file(path: &str) -> Vec<u8> {
+    std::fs::read(path).unwrap_or_else(|why| trouble(&format!("{path}: {why}")))
+}
+
+fn room(word: Option<&&str>) -> usize {
+    word.map_or(MOST, |word| word.parse().expect("ROOM is a number")).min(MOST)
+}
+
+fn print(what: &str, outcome: Outcome, out: &[u8]) {
+    let (number, value, written) = match outcome {
+        Outcome::Written(length) => (0, length, length),
         Outcome::TooShort(needed) => (13, needed, 0),
         Outcome::Refused { number, place } => (number, place, 0),
     };
-    println!("number {number}, value {value}, record of {written} bytes");
+    println!("number {number}, value {value}, {what} of {written} bytes");
     for line in out[..written].chunks(32) {
         println!("{}", line.iter().map(|byte| format!("{byte:02x}")).collect::<String>());
+    }
+}
+
+fn main() {
+    let words: Vec<String> = std::env::args().collect();
+    let words: Vec<&str> = words.iter().map(String::as_str).collect();
+    match words[1..] {
+        ["--read", tasks, record, ref more @ ..] if more.len() < 2 => {
+            let mut out = vec![0; room(more.first())];
+            let outcome = gateway::read(&read_file(tasks), &read_file(record), &mut out);
+            print("list", outcome, &out);
+        }
+        [input, ref more @ ..] if more.len() < 2 && input != "--read" => {
+            let mut out = vec![0; room(more.first())];
+            let outcome = gateway::record(&read_file(input), &mut out);
+            print("record", outcome, &out);
+        }
+        _ => trouble(&format!("usage: {0} FILE [ROOM], or {0} --read TASKS RECORD [ROOM]", words[0])),
     }
 }

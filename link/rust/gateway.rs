@@ -1,7 +1,7 @@
-//! The record function of the gateway's dispatcher, safe for Rust. Link with libexports.a.
+//! The functions of the gateway's dispatcher that are exported, safe for Rust. Link with libgateway.a.
 
 mod raw {
-    #[link(name = "exports", kind = "static")]
+    #[link(name = "gateway", kind = "static")]
     unsafe extern "C" {
         pub fn gateway_record(
             input: *const u8,
@@ -10,28 +10,64 @@ mod raw {
             out_length: usize,
             told: *mut usize,
         ) -> u8;
+
+        pub fn gateway_read(
+            tasks: *const u8,
+            tasks_length: usize,
+            record: *const u8,
+            record_length: usize,
+            out: *mut u8,
+            out_length: usize,
+            told: *mut usize,
+        ) -> u8;
     }
 }
 
-/// What comes of an input and a lent slice.
+/// What comes of an input, or of task entries and a record, and a lent slice.
 #[derive(Clone, Copy, Debug, PartialEq, Eq)]
 pub enum Outcome {
-    /// The record stands in the front of the slice, with this length.
-    Recorded(usize),
-    /// The slice is shorter than the record, which has this length.
+    /// What was asked for stands in the front of the slice, with this length.
+    Written(usize),
+    /// The slice is too short for it: it has this length.
     TooShort(usize),
-    /// The input is refused by a number, at the place of an entry (0 where the refusal has none).
+    /// What was handed in is refused by a number, at the place of an entry (0 where the refusal has none).
     Refused { number: u8, place: usize },
+}
+
+impl Outcome {
+    /// By the number that a function answers, and what it tells.
+    fn of(number: u8, told: usize) -> Outcome {
+        match number {
+            0 => Outcome::Written(told),
+            13 => Outcome::TooShort(told),
+            number => Outcome::Refused { number, place: told },
+        }
+    }
 }
 
 /// Writes the record of `input` into the front of `out`. On a refusal, and where `out` is too short, `out` is as it was.
 pub fn record(input: &[u8], out: &mut [u8]) -> Outcome {
     let mut told = 0;
-    // Both slices and the number are live, and Rust lets no two of them overlap: the function asks no more.
+    // The slices and the number are live, and Rust lets no two of them overlap that are written: the function asks no more.
     let number = unsafe { raw::gateway_record(input.as_ptr(), input.len(), out.as_mut_ptr(), out.len(), &mut told) };
-    match number {
-        0 => Outcome::Recorded(told),
-        13 => Outcome::TooShort(told),
-        number => Outcome::Refused { number, place: told },
-    }
+    Outcome::of(number, told)
+}
+
+/// Writes the release entries that made `record`, over the task entries `tasks`, into the front of `out`. On a refusal, and where `out` is too
+/// short, `out` is as it was. The place of a refused entry counts from the start of `tasks`, or of `record` where the tasks are in order.
+pub fn read(tasks: &[u8], record: &[u8], out: &mut [u8]) -> Outcome {
+    let mut told = 0;
+    // As above.
+    let number = unsafe {
+        raw::gateway_read(
+            tasks.as_ptr(),
+            tasks.len(),
+            record.as_ptr(),
+            record.len(),
+            out.as_mut_ptr(),
+            out.len(),
+            &mut told,
+        )
+    };
+    Outcome::of(number, told)
 }

@@ -8,7 +8,9 @@ import unittest
 from sim.entries import Refused
 from sim.files import instant_entries, read_file, run
 from sim.generate import LONGEST_CHECKED, damaged_file, damaged_session, random_file, random_session
+from sim.generate_records import LONGEST_KEPT, damaged_stored, longer_than_kept, random_stored
 from sim.lines import file_lines, record_lines
+from sim.reading import read_lines
 from sim.sessions import session_lines
 
 SEEDS = 400
@@ -25,7 +27,7 @@ def refusal(line):
 
 class SameSeed(unittest.TestCase):
     def test_same_bytes(self):
-        for make in (random_file, damaged_file, random_session, damaged_session):
+        for make in (random_file, damaged_file, random_session, damaged_session, random_stored, damaged_stored):
             for seed in range(20):
                 self.assertEqual(make(random.Random(seed)), make(random.Random(seed)))
             self.assertGreater(len({make(random.Random(seed)) for seed in range(20)}), 15)
@@ -126,6 +128,32 @@ class SessionCoverage(unittest.TestCase):
                     far += 1
                 at += 13 if data[at] == 64 else 3
         self.assertGreater(far, 5)
+
+
+class StoredCoverage(unittest.TestCase):
+    def test_random_records_are_read(self):
+        read = [read_lines(data) for data in made(random_stored)]
+        self.assertTrue(all(line.startswith("L") for lines in read for line in lines))
+        self.assertIn([], read)
+        self.assertGreater(max(map(len, read)), 4_000)
+
+    def test_every_refusal_of_the_reader(self):
+        seen = collections.Counter()
+        for data in made(damaged_stored):
+            lines = read_lines(data)
+            seen[lines[0][:lines[0].rindex(" ")] if lines and lines[0][0] == "R" else lines[0][0] if lines else ""] += 1
+        self.assertEqual(set(seen), {"", "L", "X"} | {f"R {number}" for number in (1, 2, 4, 5, 6, 7, 12, 18)})
+        self.assertGreater(seen["R 18"], SEEDS / 2, "most of them only a run can refuse")
+        self.assertGreater(seen["L"], SEEDS / 20, "some are the record of another list")
+
+    def test_refusals_around_the_end_of_what_is_kept(self):
+        places = set()
+        for seed in range(12):
+            line = read_lines(longer_than_kept(random.Random(seed)))[0]
+            places.add(int(line.split()[2]))
+        self.assertIn(0, places)
+        self.assertTrue(any(abs(place - LONGEST_KEPT) < 100 for place in places))
+        self.assertGreater(max(places), LONGEST_KEPT + 1_000)
 
 
 if __name__ == "__main__":

@@ -9,7 +9,7 @@ import tempfile
 import unittest
 
 from sim import compare
-from sim.entries import encode
+from sim.entries import encode, two_parts
 from sim.files import record
 from sim.lines import file_lines, text
 from sim.sessions import session_bytes
@@ -37,6 +37,11 @@ class Simulator(unittest.TestCase):
     def test_session(self):
         data = session_bytes(TASKS, [(64, 0, 2)])
         self.assertEqual(run_sim("session", data), (0, b"O\nA 0 2\n", b""))
+
+    def test_read(self):
+        self.assertEqual(run_sim("read", two_parts(TASKS, record(plan("A")))), (0, b"L 3 0\nL 2 2\nL 1 3\n", b""))
+        self.assertEqual(run_sim("read", two_parts(TASKS, record(plan("A"))[24:])), (0, b"R 18 0\n", b""))
+        self.assertEqual(run_sim("read", TASKS[:3]), (0, b"X\n", b""))
 
     def test_usage(self):
         self.assertEqual(run_sim("waveform", b"")[0], 2)

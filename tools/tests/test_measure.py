@@ -5,10 +5,12 @@ import tempfile
 import unittest
 
 from sim.compare import EXPECTED
+from sim.entries import two_parts
+from sim.files import record
 from sim.sessions import session_lines
 from tools import direct, limits
 from tools.edits import BadEdit, Change, code, edited_files, find, is_statement, parse
-from tools.measure import BEHIND, FILL, Results, ended_early, judged, lent, summed, tally, told
+from tools.measure import BEHIND, FILL, Results, ended_early, exported, judged, lent, list_of, record_of, summed, tally, told
 from tools.unproved import NotBuilt, as_module, dependencies, ground_up
 
 SOURCE = """ghost use a.{b};
@@ -123,16 +125,34 @@ class Counting(unittest.TestCase):
 
 
 class Inputs(unittest.TestCase):
-    def test_the_record_function_tells_and_keeps_memory(self):
+    def test_a_function_for_c_tells_and_keeps_memory(self):
         data = limits.TABLE + limits.RELEASES[0]
-        room, said = int.from_bytes(lent(data, 0)[0][:8], "little"), lent(data, 0)[1]
-        self.assertEqual((said[0], said[1:9], said[-BEHIND:]), (0, room.to_bytes(8, "little"), FILL * BEHIND))
-        self.assertEqual(told(data, room - 1), bytes([13]) + room.to_bytes(8, "little") + FILL * (room - 1 + BEHIND))
-        self.assertEqual(told(data[:-1], 5), bytes([1]) + len(limits.TABLE).to_bytes(8, "little") + FILL * (5 + BEHIND))
+        stored = record(data)
+        for write, bad, refusal in (
+                (record_of(data), record_of(data[:-1]), (1, len(limits.TABLE))),
+                (list_of(limits.TABLE, stored), list_of(limits.TABLE, stored + b"\x07"), (2, len(stored))),
+                (list_of(limits.TABLE, stored), list_of(limits.TABLE, stored[24:]), (18, 0))):
+            length, said = lent(write, 0)
+            room = int.from_bytes(length, "little")
+            self.assertEqual((said[0], said[1:9], said[9:9 + room], said[9 + room:]), (0, length, write(), FILL * BEHIND))
+            self.assertEqual(told(write, room - 1), bytes([13]) + length + FILL * (room - 1 + BEHIND))
+            self.assertEqual(told(bad, 5), bytes([refusal[0]]) + refusal[1].to_bytes(8, "little") + FILL * (5 + BEHIND))
+
+    def test_the_driver_is_told_which_function_and_how_much_is_lent(self):
+        data = limits.TABLE + limits.RELEASES[0]
+        stored = two_parts(limits.TABLE, record(data))
+        (one, _), (other, _) = exported([data], [stored, stored[:40]])
+        self.assertEqual((one[0], one[9:]), (0, data))
+        self.assertEqual((other[0], other[9:]), (1, stored))
 
     def test_the_limits_meet_every_refusal_of_a_file(self):
         lines = {EXPECTED["file"](data).split()[1] for data in limits.files() if EXPECTED["file"](data).startswith(b"R")}
         self.assertEqual({int(number) for number in lines}, set(range(1, 13)))
+
+    def test_the_limits_meet_every_answer_of_the_reader(self):
+        words = [EXPECTED["read"](data).split() for data in limits.stored_records()]
+        said = {None if not each else int(each[1]) if each[0] == b"R" else each[0] for each in words}
+        self.assertEqual(said, {None, b"L", b"X", 1, 2, 4, 5, 6, 7, 12, 18})
 
     def test_the_limits_cut_a_release_in_an_opening(self):
         cut = limits.sessions()[len(limits.TABLE) + 3]

@@ -1,7 +1,5 @@
 """The picture of a run: what is drawn and where, for document 01's plans A and B and for random runs."""
 
-import contextlib
-import io
 import os
 import pathlib
 import random
@@ -19,6 +17,7 @@ from sim.files import read_file, record, released_sets
 from sim.lines import record_lines, text
 from tools import picture
 from tools.drawing import MOST_WIDTH, draw, stack, tick_step
+from tools.tests.captured import run_main
 from tools.timeline import timeline
 
 ROOT = pathlib.Path(__file__).resolve().parents[2]
@@ -412,13 +411,7 @@ class Labels(unittest.TestCase):
 
 class Command(unittest.TestCase):
     def run_main(self, *arguments):
-        """The status, the bytes written and the message."""
-        class Output(io.StringIO):
-            buffer = io.BytesIO()
-        output, message = Output(), io.StringIO()
-        with contextlib.redirect_stdout(output), contextlib.redirect_stderr(message):
-            status = picture.main(list(arguments))
-        return status, output.buffer.getvalue(), message.getvalue()
+        return run_main(picture.main, *arguments)
 
     def refused(self, plan, lines=None):
         """The message about a bad plan or bad lines, behind the file's name."""

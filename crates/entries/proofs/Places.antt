@@ -65,7 +65,7 @@ module _ (front s : List ℕ) where
   interval-behind at =
       rw (there 8 at 1, there 8 at 9, there 1 at 17, there 1 at 18, there 1 at 19, there 1 at 20, there 1 at 21, there 1 at 22, there 1 at 23)
 
-  release-behind : (at : ℕ) → release-at (front ++ s) (length front + at) ≡ release-at s at
+  pub release-behind : (at : ℕ) → release-at (front ++ s) (length front + at) ≡ release-at s at
   unfolding release-at
   release-behind at = rw (there 1 at 1, there 8 at 2)
 

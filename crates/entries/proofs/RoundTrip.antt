@@ -1,17 +1,17 @@
--- An entry of the record that was written is taken apart again as the same entry. Assumes nothing.
+-- An entry that was written is taken apart again as the same entry. Assumes nothing.
 use mathlib.Core.Path.{_≡_, refl, sym, ap, _∙_}
 use mathlib.Core.List.{List, [], _∷_, _++_}
-use Prim.Native.Nat.{ℕ, _-_, _^_, _<_}
+use Prim.Native.Nat.{ℕ, _+_, _-_, _^_, _≤_, _<_}
 use native.Mathlib.Nat.{add-zero}
 use native.Mathlib.Omega.{arith}
 use borrow.Author.Tests.{le-leb, ne-eqb}
 use lib.ListN.{length}
 use Rattle.words.specs.Words.{bytesOf, numberAt}
-use Rattle.words.proofs.Laws.{one-byte, round-trip-at}
-use Rattle.entries.specs.Types.{MaybeTask, NoTask, Task, Release, JobEntry, IntervalEntry, RecordEntry, JobDone, IntervalEnded, ReleaseSkipped}
-use Rattle.entries.specs.Entries.{release-at, task-byte, job-bytes, choice-bytes, interval-bytes, skipped-bytes, task-of, job-at, interval-at, record-entry-at}
+use Rattle.words.proofs.Laws.{one-byte, behind, round-trip-at}
+use Rattle.entries.specs.Types.{MaybeTask, NoTask, Task, Release, ReleaseEntry, JobEntry, IntervalEntry, RecordEntry, JobDone, IntervalEnded, ReleaseSkipped}
+use Rattle.entries.specs.Entries.{entry-at, release-at, release-bytes, task-byte, job-bytes, choice-bytes, interval-bytes, skipped-bytes, task-of, job-at, interval-at, record-entry-at}
 use Rattle.entries.specs.RoundTrip.{TaskFits, JobFits, IntervalFits, ReadAs, RoundTrip}
-use Rattle.entries.proofs.Places.{entry-behind}
+use Rattle.entries.proofs.Places.{release-behind, left-behind, entry-behind}
 
 named : (t : MaybeTask) → TaskFits t → task-of (task-byte t) ≡ t
 unfolding task-of TaskFits
@@ -63,24 +63,42 @@ module _ (e : IntervalEntry) (rest : List ℕ) (fits : IntervalFits e) where
       let kind : numberAt 1 s 0 ≡ 17 = one-byte s 0 in
       rw (kind, le-leb 24 (length s - 0) (omega arith), interval-there)
 
+-- an entry of a task and a time, whatever its kind
+timed-there : (kind : ℕ) (r : Release) (rest : List ℕ) → r .time < 256 ^ 8 → release-at (kind ∷ r .task ∷ (bytesOf 8 (r .time) ++ rest)) 0 ≡ r
+unfolding release-at bytesOf
+timed-there kind r rest fits =
+    let s : List ℕ = kind ∷ r .task ∷ (bytesOf 8 (r .time) ++ rest) in
+    let a : numberAt 1 s 1 ≡ r .task = one-byte s 1 in
+    let b : numberAt 8 s 2 ≡ r .time = round-trip-at 8 (r .time) (kind ∷ r .task ∷ []) rest fits in
+    rw (a, b)
+
 module _ (n t : ℕ) (rest : List ℕ) (fits : t < 256 ^ 8) where
   abbrev skip : Release
   skip = record { task = n; time = t }
-
-  skipped-there : release-at (skipped-bytes n t ++ rest) 0 ≡ skip
-  unfolding release-at skipped-bytes bytesOf
-  skipped-there =
-      let s : List ℕ = skipped-bytes n t ++ rest in
-      let a : numberAt 1 s 1 ≡ n = one-byte s 1 in
-      let b : numberAt 8 s 2 ≡ t = round-trip-at 8 t (18 ∷ n ∷ []) rest fits in
-      rw (a, b)
 
   skipped-read : record-entry-at (skipped-bytes n t ++ rest) 0 ≡ ReleaseSkipped skip
   unfolding record-entry-at skipped-bytes bytesOf
   skipped-read =
       let s : List ℕ = skipped-bytes n t ++ rest in
       let kind : numberAt 1 s 0 ≡ 18 = one-byte s 0 in
-      rw (kind, le-leb 10 (length s - 0) (omega arith), skipped-there)
+      rw (kind, le-leb 10 (length s - 0) (omega arith), timed-there 18 skip rest fits)
+
+module _ (r : Release) (fits : r .time < 256 ^ 8) (front rest : List ℕ) where
+  -- a release that was written stands there
+  pub release-there : release-at (front ++ (release-bytes r ++ rest)) (length front) ≡ r
+  unfolding release-bytes
+  release-there =
+      ap (release-at (front ++ (release-bytes r ++ rest))) (sym (add-zero (length front)))
+      ∙ release-behind front (release-bytes r ++ rest) 0 ∙ timed-there 2 r rest fits
+
+  release-read : entry-at (front ++ (release-bytes r ++ rest)) (length front) ≡ ReleaseEntry r
+  unfolding entry-at release-bytes bytesOf
+  release-read =
+      let s : List ℕ = release-bytes r ++ rest in
+      let place : length front ≡ length front + 0 = sym (add-zero (length front)) in
+      let kind : numberAt 1 (front ++ s) (length front) ≡ 2 = ap (numberAt 1 (front ++ s)) place ∙ behind 1 front s 0 ∙ one-byte s 0 in
+      let room : 10 ≤ length (front ++ s) - length front = omega (arith, left-behind front s 0) in
+      rw (kind, le-leb 10 (length (front ++ s) - length front) room, release-there)
 
 -- and so it is at every place
 anywhere : (bytes : List ℕ) (e : RecordEntry) → ((rest : List ℕ) → record-entry-at (bytes ++ rest) 0 ≡ e) → ReadAs bytes e
@@ -92,4 +110,5 @@ round-trip = record {
   job = λ e h. anywhere (job-bytes e) (JobDone e) (λ rest. job-read e rest h);
   interval = λ e h. anywhere (interval-bytes e) (IntervalEnded e) (λ rest. interval-read e rest h);
   skipped = λ n t h. anywhere (skipped-bytes n t) _ (λ rest. skipped-read n t rest h);
+  release = λ r h front rest. release-read r h front rest;
 }

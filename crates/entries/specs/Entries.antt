@@ -42,6 +42,11 @@ entry-at s at =
     (cond (eqb kind 2) (cond (leb (size 2) (length s - at)) (ReleaseEntry (release-at s at)) (Malformed 1))
     (Malformed 2))
 
+-- ---- A release entry, written
+
+unfoldable pub release-bytes : Release → List ℕ
+release-bytes r = 2 ∷ r .task ∷ bytesOf 8 (r .time)
+
 -- ---- An entry of the record, written
 
 -- 255 is "no task"

@@ -1,10 +1,10 @@
--- An entry of the record that was written is taken apart again as the same entry.
+-- An entry that was written is taken apart again as the same entry.
 use mathlib.Core.Path.{_≡_}
 use mathlib.Core.List.{List, _++_}
 use Prim.Native.Nat.{ℕ, _^_, _<_}
 use lib.ListN.{length}
-use Rattle.entries.specs.Types.{MaybeTask, NoTask, Task, JobEntry, IntervalEntry, RecordEntry, JobDone, IntervalEnded, ReleaseSkipped}
-use Rattle.entries.specs.Entries.{job-bytes, interval-bytes, skipped-bytes, record-entry-at}
+use Rattle.entries.specs.Types.{MaybeTask, NoTask, Task, Release, ReleaseEntry, JobEntry, IntervalEntry, RecordEntry, JobDone, IntervalEnded, ReleaseSkipped}
+use Rattle.entries.specs.Entries.{release-bytes, entry-at, job-bytes, interval-bytes, skipped-bytes, record-entry-at}
 
 -- ---- Numbers that fit their fields: a time has 8 bytes, and no task has the number that stands for none
 
@@ -35,3 +35,5 @@ pub record RoundTrip : Type 0 where
   pub job : (e : JobEntry) → JobFits e → ReadAs (job-bytes e) (JobDone e)
   pub interval : (e : IntervalEntry) → IntervalFits e → ReadAs (interval-bytes e) (IntervalEnded e)
   pub skipped : (n t : ℕ) → t < 256 ^ 8 → ReadAs (skipped-bytes n t) (ReleaseSkipped (record { task = n; time = t }))
+  -- and a release entry of an input
+  pub release : (r : Release) → r .time < 256 ^ 8 → (front rest : List ℕ) → entry-at (front ++ (release-bytes r ++ rest)) (length front) ≡ ReleaseEntry r

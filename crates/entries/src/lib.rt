@@ -298,17 +298,31 @@ fn put_time(out: &mut [u8], at: usize, v: u64)
     words::put_u64(&mut out[at..], v);
 }
 
-// Kind 18 in the front of `out`, and its length; nothing and 0 where it does not fit, here and below.
+// An entry of a kind, a task and a time in the front of `out`, and its length; nothing and 0 where it does not fit, here and below.
+fn put_timed(out: &mut [u8], kind: u8, task: u8, time: u64) -> usize
+    ensures { λ r. ⌜ Put (kind ∷ task ∷ bytesOf 8 time) (now (out .entry)) r (now (out .exit)) ⌝ }
+{
+    if out.len() < RELEASE_SIZE {
+        return 0;
+    }
+    put_byte(out, 0, kind);
+    put_byte(out, RELEASE_TASK, task);
+    put_time(out, RELEASE_TIME, time);
+    RELEASE_SIZE
+}
+
+// Kind 2.
+pub fn put_release(out: &mut [u8], r: Release) -> usize
+    ensures { λ n. ⌜ Put (entries.release-bytes r) (now (out .entry)) n (now (out .exit)) ⌝ }
+{
+    put_timed(out, RELEASE_KIND, r.task, r.time)
+}
+
+// Kind 18.
 pub fn put_skipped(out: &mut [u8], task: u8, time: u64) -> usize
     ensures { λ r. ⌜ Put (entries.skipped-bytes task time) (now (out .entry)) r (now (out .exit)) ⌝ }
 {
-    if out.len() < SKIPPED_SIZE {
-        return 0;
-    }
-    put_byte(out, 0, SKIPPED_KIND);
-    put_byte(out, RELEASE_TASK, task);
-    put_time(out, RELEASE_TIME, time);
-    SKIPPED_SIZE
+    put_timed(out, SKIPPED_KIND, task, time)
 }
 
 // Kind 16.

@@ -1,27 +1,6 @@
 // The record function for programs in C and Rust: slices and numbers, and no type of this repository.
-use record::Outcome;
 ghost use mathlib.Core.Path.{_≡_};
 ghost use Rattle.record.specs.Writing.{file, outcome-number, outcome-value};
-
-fn number(outcome: Outcome) -> u8
-    ensures { λ r. ⌜ r ≡ outcome-number outcome ⌝ }
-{
-    match outcome {
-        Outcome::RefusedInput(refusal) => table::number_of(refusal),
-        Outcome::TooShort(_) => 13,
-        Outcome::Recorded(_) => 0,
-    }
-}
-
-fn value(outcome: Outcome) -> usize
-    ensures { λ r. ⌜ r ≡ outcome-value outcome ⌝ }
-{
-    match outcome {
-        Outcome::RefusedInput(refusal) => table::place_of(refusal),
-        Outcome::TooShort(needed) => needed,
-        Outcome::Recorded(size) => size,
-    }
-}
 
 // The record of `input` in the front of `out`. The answer is the number of the refusal, 0 where there is none; what `told` holds then is the
 // record's length, the length needed with 13, or the place of the entry that is refused. Nothing is asked of the bytes. That the
@@ -33,6 +12,6 @@ pub extern "C" fn gateway_record(input: &[u8], out: &mut [u8], told: &mut usize)
     ensures { λ _. ⌜ now (out .exit) ≡ file (now (input .entry)) (now (out .entry)) .memory ⌝ }
 {
     let outcome = record::write(input, out);
-    *told = value(outcome);
-    number(outcome)
+    *told = record::value_of(outcome);
+    record::number_of(outcome)
 }

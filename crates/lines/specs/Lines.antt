@@ -54,9 +54,17 @@ interval-line e =
     73 ∷ (field (e .begin) ++ (field (e .end) ++ (field (e .half) ++ (task-field (e .task) ++ (field (e .work)
     ++ (task-field (e .copiedout) ++ (task-field (e .chosen) ++ (field (e .fate) ++ (task-field (e .promoted) ++ newline)))))))))
 
--- S, kind 18: task, time
-unfoldable pub skipped-line : ℕ → ℕ → List ℕ
-skipped-line task time = 83 ∷ (field task ++ (field time ++ newline))
+-- a letter, and the task and the time of a release
+unfoldable pub timed-line : ℕ → ℕ → ℕ → List ℕ
+timed-line letter task time = letter ∷ (field task ++ (field time ++ newline))
+
+-- S, kind 18: a release skipped
+abbrev pub skipped-line : ℕ → ℕ → List ℕ
+skipped-line task time = timed-line 83 task time
+
+-- L: a release of the list that made a record
+abbrev pub listed-line : ℕ → ℕ → List ℕ
+listed-line task time = timed-line 76 task time
 
 -- ---- Refusals
 

@@ -13,7 +13,7 @@ ghost use mathlib.Core.Path.{_≡_};
 ghost use mathlib.Core.List.{[], _∷_};
 ghost use Prim.Native.Nat.{_+_, _≤_, _<_};
 ghost use lib.ListN.{length};
-ghost use Rattle.lines.specs.Lines.{decimal, field, task-field, due-field, no-field, newline, job-line, interval-line, skipped-line, done-lines, closing-lines, answer-line, served-lines, refused-input-line, refused-call-line, cut-short-line, instant-lines, mark-lines, opening-lines};
+ghost use Rattle.lines.specs.Lines.{decimal, field, task-field, due-field, no-field, newline, job-line, interval-line, timed-line, skipped-line, listed-line, done-lines, closing-lines, answer-line, served-lines, refused-input-line, refused-call-line, cut-short-line, instant-lines, mark-lines, opening-lines};
 ghost use Rattle.lines.specs.Text.{text-of, shown, room, written, Appended, Prints};
 
 // A text: the first `len` of the bytes. All lines of one answer fit: a job's line takes at most 73 bytes, an interval's 72 and the
@@ -191,11 +191,29 @@ pub fn interval_line(e: IntervalEntry) -> Text
     empty().interval(e)
 }
 
+// A line of a letter, a task and a time.
+fn timed_line(letter: u8, task: u8, time: u64) -> Text
+    ensures { λ r. ⌜ Prints r (timed-line letter task time) ⌝ }
+{
+    empty()
+        .byte(letter)
+        .byte_field(task)
+        .field(time)
+        .byte(b'\n')
+}
+
 // S: a release skipped.
 pub fn skipped_line(task: u8, time: u64) -> Text
     ensures { λ r. ⌜ Prints r (skipped-line task time) ⌝ }
 {
-    empty().byte(b'S').byte_field(task).field(time).byte(b'\n')
+    timed_line(b'S', task, time)
+}
+
+// L: a release of the list that made a record.
+pub fn listed_line(task: u8, time: u64) -> Text
+    ensures { λ r. ⌜ Prints r (listed-line task time) ⌝ }
+{
+    timed_line(b'L', task, time)
 }
 
 // R: an input refused.

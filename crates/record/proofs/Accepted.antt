@@ -32,7 +32,7 @@ rejected : (r : Refusal) (rs : List Release) → Rejected r ≡ Releases rs → 
 rejected r rs e = let z : _≡_ {A = ℕ} 0 1 = cc in omega arith
 
 -- what releases that are read with one in front are made of
-with-first : (r : Release) (c : Checked) (rs : List Release) → with-release r c ≡ Releases rs → (qs : List Release) × (c ≡ Releases qs) × (rs ≡ r ∷ qs)
+pub with-first : (r : Release) (c : Checked) (rs : List Release) → with-release r c ≡ Releases rs → (qs : List Release) × (c ≡ Releases qs) × (rs ≡ r ∷ qs)
 unfolding with-release
 with-first r (Rejected n) rs h = absurd (rejected n rs h)
 with-first r (Releases qs) rs h = (qs, refl, cc)

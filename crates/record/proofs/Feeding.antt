@@ -161,14 +161,14 @@ module _ (table : Table) (marks : ℕ) (fair : Fair table marks) where
     is-served : eqb (refusal d t (released-at t rs)) 0 ≡ true
     is-served = eq-eqb (refusal d t set) 0 no-row
 
-    state-is : after-call d (Instant t (released-at t rs)) ≡ at-g d t (released-at t rs)
+    pub state-is : after-call d (Instant t (released-at t rs)) ≡ at-g d t (released-at t rs)
     state-is = Walk.served d t set is-served
 
-    step-is : instant d t (released-at t rs) ≡ record { state = at-g d t (released-at t rs); answer = Served (occurred d t (released-at t rs)) }
+    pub step-is : instant d t (released-at t rs) ≡ record { state = at-g d t (released-at t rs); answer = Served (occurred d t (released-at t rs)) }
     unfolding instant served
     step-is = rw (is-served, instant)
 
-    fit-next : Fit (at-g d t (released-at t rs)) (released-after t rs)
+    pub fit-next : Fit (at-g d t (released-at t rs)) (released-after t rs)
     fit-next = record {
       good = good-next table marks fair d t set (fit .good) (served-at d t set is-served);
       sorted = parts .sorted;

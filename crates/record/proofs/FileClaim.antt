@@ -68,7 +68,7 @@ module _ (s : List ℕ) (rs : List Release) (a : Accepted s rs) where
   abbrev d : State
   d = opened (task-part s .table) (task-part s .marked)
 
-  fit : Fit (task-part s .table) (task-part s .marked) (fair s rs a) (opened (task-part s .table) (task-part s .marked)) rs
+  pub fit : Fit (task-part s .table) (task-part s .marked) (fair s rs a) (opened (task-part s .table) (task-part s .marked)) rs
   fit = record { good = good-opened (task-part s .table) (task-part s .marked) (fair s rs a); sorted = a .sorted; ahead = unfold opened in tt }
 
   none-yet : mass (opened (task-part s .table) (task-part s .marked)) ≡ 0

@@ -2,12 +2,12 @@
 use mathlib.Core.Path.{_≡_, refl, sym, ap, ap₂, _∙_, subst}
 use mathlib.Core.Bool.{Bool, true, false}
 use mathlib.Core.List.{List, [], _∷_, _++_}
-use Prim.Native.Nat.{ℕ, _+_, _-_, _*_, _^_, _≤_}
+use Prim.Native.Nat.{ℕ, suc, _+_, _-_, _*_, _^_, _≤_}
 use mathlib.Core.Logic.{⊎-elim}
 use native.Mathlib.Nat.{zero-add}
 use native.Mathlib.Omega.{arith}
 use lib.ListN.{length, take, drop, length-drop, drop-of-length-le, take-append-drop}
-use lib.Seq.{drop-drop}
+use lib.Seq.{drop-drop, take-at}
 use Rattle.words.proofs.Laws.{lent, rest-whole}
 use Rattle.entries.specs.Entries.{laid}
 use Rattle.rules.specs.Instant.{due, sooner, at-a, at-b, new-at, at-e, at-f, at-g, occurred}
@@ -23,7 +23,7 @@ use Rattle.run.proofs.Slices.{put-all-length, put-all-laid, rest-length}
 use Rattle.run.proofs.InOrder.{entries-joined}
 use Rattle.record.specs.Types.{Table, State, Registers, Clock, At, Due, Never, Tick, Release, TaskPart, Advanced}
 use Rattle.record.specs.Cursor.{Cursor, Served, Room, Ran, start, served-bytes, run-bytes, most}
-use Rattle.record.proofs.Running.{Progress, begins, ends, over, goes, comes-early, room, more, served-most, next-cursor}
+use Rattle.record.proofs.Running.{Progress, begins, ends, over, goes, comes-early, goes-on, room, more, served-most, next-cursor}
 
 -- ---- what was put into the rest of the slice
 
@@ -70,7 +70,7 @@ cursor-in m r at = record { state = state-in m r; at = at }
 abbrev pub first-cursor : TaskPart → Registers → Cursor
 first-cursor k r = cursor-in (first-memory (k .table)) r (k .end)
 
-is-start : (k : TaskPart) (r : Registers) → Empty (k .marked) r → first-cursor k r ≡ start k
+pub is-start : (k : TaskPart) (r : Registers) → Empty (k .marked) r → first-cursor k r ≡ start k
 is-start k r e = ap (λ (d : State). record { state = d; at = k .end }) (e (k .table))
 
 pub record Going (s : List ℕ) (table : Table) (bytes before : List ℕ) (keep : Bool) (a : Arrays) (r : Registers) (at size left : ℕ) (out : List ℕ) : Type 0 where
@@ -79,7 +79,7 @@ pub record Going (s : List ℕ) (table : Table) (bytes before : List ℕ) (keep 
   pub served : Served s (cursor-in (memory-in table clock a) r at)
 
 module _ {s : List ℕ} {budget : ℕ} {out : List ℕ} {keep : Bool} (k : TaskPart) (r : Registers) (e : Empty (k .marked) r) where
-  pub sets-out : Room s (start k) budget out keep → Going s (k .table) (run-bytes s (first-cursor k r) budget) out keep (first-memory (k .table) .arrays) r (k .end) 0 budget out
+  unfoldable pub sets-out : {kept : Bool} → Room s (start k) budget out kept → Going s (k .table) (run-bytes s (first-cursor k r) budget) out keep (first-memory (k .table) .arrays) r (k .end) 0 budget out
   sets-out p = record {
     clock = first-memory (k .table) .clock;
     progress = begins s out keep (first-cursor k r) budget (p .few);
@@ -107,6 +107,10 @@ module _ {s : List ℕ} {table : Table} {bytes before : List ℕ} {keep : Bool} 
   unfolding run record-bytes
   spent e = ends s bytes before keep here size left out (g .progress) (ap (run-bytes s here) e)
 
+  pub none-left : left ≡ 0 → run-bytes s (cursor-in (memory-in table (g .clock) a) r at) left ≡ []
+  unfolding run record-bytes
+  none-left e = ap (run-bytes s here) e
+
   -- where the record is kept there is room for it behind what is laid
   pub place-fits : (keep ≡ true → length bytes ≤ length before) → keep ≡ true → size ≤ length out
   place-fits l h = omega (arith, l h, g .progress .size-is, g .progress .same, ap length (g .progress .rest), length-more (g .progress .done) (run-bytes s here left))
@@ -124,6 +128,10 @@ module _ {s : List ℕ} {table : Table} {bytes before : List ℕ} {keep : Bool} 
     none-next : x .time ≡ 2 ^ 64 - 1 → sooner (first-time (releases-at s at)) (due (phase-in r)) ≡ Never
     unfolding state-in
     none-next e = ⊎-elim (λ next. absurd (omega (arith, comes-early s here (g .served) (x .time) next))) (λ w. w .1) (next-is .is)
+
+    pub none-more : x .time ≡ 2 ^ 64 - 1 → run-bytes s (cursor-in (memory-in table (g .clock) a) r at) left ≡ []
+    unfolding state-in
+    none-more e = over s here left (none-next e)
 
     pub stops : x .time ≡ 2 ^ 64 - 1 → (size ≡ length bytes) × (keep ≡ true → out ≡ laid 0 bytes before) × (keep ≡ false → out ≡ before)
     unfolding state-in
@@ -177,6 +185,45 @@ module _ {s : List ℕ} {table : Table} {bytes before : List ℕ} {keep : Bool} 
           ap (λ (d : State). record { state = d; at = at + x .read })
           (sym (step .state ∙ ap (λ (rs : List Release). at-g (state-in m r) t (released-at t rs)) (in-part s at)))
 
+      -- what an instant leaves is laid where the record is kept, and nothing changed where it is not
+      pub moves-to : {out′ : List ℕ}
+          → (keep ≡ true → out′ ≡ laid size (served-bytes (x .time) (occurred (state-in (memory-in table (g .clock) a) r) (x .time) (released-at (x .time) (releases-at s at)))) out)
+          → (keep ≡ false → out′ ≡ out) → length out′ ≡ length out
+          → Going s table bytes before keep after (x .registers) (at + x .read) (size + x .size) (left - 1) out′
+      moves-to {out′} kept none same = record {
+        clock = At t;
+        progress = subst (λ (c : Cursor). Progress s bytes before keep c (size + x .size) (left - 1) out′) after-is
+            (more s bytes before keep here size left out (g .progress) t (at + x .read) some next-in (served-on .0) behind (x .size) out′ size-is kept none same);
+        served = subst (λ (c : Cursor). Served s c) after-is (served-on .1);
+      }
+
+      pub moves-clock : {out′ : List ℕ}
+          (kept : keep ≡ true → out′ ≡ laid size (served-bytes (x .time) (occurred (state-in (memory-in table (g .clock) a) r) (x .time) (released-at (x .time) (releases-at s at)))) out)
+          (none : keep ≡ false → out′ ≡ out) (same : length out′ ≡ length out) → moves-to kept none same .clock ≡ At (x .time)
+      unfolding moves-to
+      moves-clock kept none same = refl
+
+      -- what the instant leaves, and then the run from there on
+      pub splits : run-bytes s (cursor-in (memory-in table (g .clock) a) r at) left
+          ≡ served-bytes (x .time) (occurred (state-in (memory-in table (g .clock) a) r) (x .time) (released-at (x .time) (releases-at s at)))
+          ++ run-bytes s (cursor-in (memory-in table (At (x .time)) after) (x .registers) (at + x .read)) (left - 1)
+      splits =
+          ap (run-bytes s here) (less left some)
+          ∙ goes-on s here (left - 1) t (at + x .read) next-in (served-on .0) behind
+          ∙ ap (λ (c : Cursor). instant-bytes ++ run-bytes s c (left - 1)) after-is
+        where
+          less : (n : ℕ) → (n ≡ 0 → ⊥) → n ≡ suc (n - 1)
+          less n f = omega arith
+
+      -- a slice of its own that was lent holds them at its front, where they fit
+      pub made-front : most ≤ length rest-before
+          → take (x .size) rest-after ≡ served-bytes (x .time) (occurred (state-in (memory-in table (g .clock) a) r) (x .time) (released-at (x .time) (releases-at s at)))
+      made-front l =
+          let es : List (List ℕ) = moment-entries (record { time = t; occurred = occurred (state-in m r) t (released-at t (releases-at (take (length s - at) (drop at s)) 0)) }) in
+          let few : length (joined es) ≤ most = omega (arith, ap length entries-are, served-most t (occurred (state-in m r) t (released-at t (releases-at s at)))) in
+          ap (take (x .size)) (step .puts .holds ∙ put-all-laid 0 es rest-before (omega arith))
+          ∙ take-at (joined es) (drop (0 + length (joined es)) rest-before) (x .size) (sym (size-is ∙ ap length (sym entries-are))) ∙ entries-are
+
       -- the rest of the slice was lent: what it holds then, at its place
       pub moves : {out′ : List ℕ} (place : ℕ) → rest-before ≡ take (length out - place) (drop place out) → out′ ≡ take place out ++ (rest-after ++ drop (length out - place) (drop place out))
           → (keep ≡ true → place ≡ size) → (keep ≡ false → place ≡ length out) → (keep ≡ true → length bytes ≤ length before)
@@ -184,14 +231,9 @@ module _ {s : List ℕ} {table : Table} {bytes before : List ℕ} {keep : Bool} 
       moves {out′} place lent-is out-is kept none fit =
           let es : List (List ℕ) = moment-entries (record { time = t; occurred = occurred (state-in m r) t (released-at t (releases-at (take (length s - at) (drop at s)) 0)) }) in
           let puts : rest-after ≡ put-all 0 es (take (length out - place) (drop place out)) = step .puts .holds ∙ ap (put-all 0 es) lent-is in
-          record {
-            clock = At t;
-            progress = subst (λ (c : Cursor). Progress s bytes before keep c (size + x .size) (left - 1) out′) after-is
-                (more s bytes before keep here size left out (g .progress) t (at + x .read) some next-in (served-on .0) behind (x .size) out′ size-is
-                (λ k. out-is ∙ rest-laid es place out rest-after puts
-                (omega (arith, kept k, ap length entries-are, room s bytes before keep here size left out (g .progress) t (at + x .read) some next-in (served-on .0) behind (fit k)))
-                ∙ ap₂ (λ (n : ℕ) (z : List ℕ). laid n z out) (kept k) entries-are)
-                (λ k. out-is ∙ rest-none es place out rest-after puts (none k))
-                (ap length out-is ∙ rest-length place out rest-after (ap length puts ∙ put-all-length 0 es (take (length out - place) (drop place out)))));
-            served = subst (λ (c : Cursor). Served s c) after-is (served-on .1);
-          }
+          moves-to
+          (λ k. out-is ∙ rest-laid es place out rest-after puts
+          (omega (arith, kept k, ap length entries-are, room s bytes before keep here size left out (g .progress) t (at + x .read) some next-in (served-on .0) behind (fit k)))
+          ∙ ap₂ (λ (n : ℕ) (z : List ℕ). laid n z out) (kept k) entries-are)
+          (λ k. out-is ∙ rest-none es place out rest-after puts (none k))
+          (ap length out-is ∙ rest-length place out rest-after (ap length puts ∙ put-all-length 0 es (take (length out - place) (drop place out))))

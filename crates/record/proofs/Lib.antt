@@ -9,3 +9,5 @@ pub mod Feeding
 pub mod FileClaim
 pub mod Bound
 pub mod Outcomes
+pub mod Fitting
+pub mod FileFits

@@ -48,14 +48,14 @@ at-entry e f = let z : _≡_ {A = ℕ} 0 1 = cc in omega arith
 
 -- ---- the releases of a file that is accepted
 
--- a release entry that is taken apart is the release that stands there
-entry-release : (s : List ℕ) (at : ℕ) (r : Release) → entry-at s at ≡ ReleaseEntry r → r ≡ release-at s at
+-- a release entry that is taken apart has its kind, and is the release that stands there
+pub entry-release : (s : List ℕ) (at : ℕ) (r : Release) → entry-at s at ≡ ReleaseEntry r → (numberAt 1 s at ≡ 2) × (r ≡ release-at s at)
 unfolding entry-at
 entry-release s at r e =
     by-test (eqb (numberAt 1 s at) 1)
     (λ a. by-test (leb 16 (length s - at)) (λ b. absurd (let z : _≡_ {A = ℕ} 0 1 = cc (rw (a, b) at e) in omega arith)) (λ b. absurd (let z : _≡_ {A = ℕ} 0 1 = cc (rw (a, b) at e) in omega arith)))
     (λ a. by-test (eqb (numberAt 1 s at) 2)
-    (λ b. by-test (leb 10 (length s - at)) (λ d. cc (rw (a, b, d) at e)) (λ d. absurd (let z : _≡_ {A = ℕ} 0 1 = cc (rw (a, b, d) at e) in omega arith)))
+    (λ b. by-test (leb 10 (length s - at)) (λ d. (eqb-true (numberAt 1 s at) 2 b, cc (rw (a, b, d) at e))) (λ d. absurd (let z : _≡_ {A = ℕ} 0 1 = cc (rw (a, b, d) at e) in omega arith)))
     (λ b. absurd (let z : _≡_ {A = ℕ} 0 1 = cc (rw (a, b) at e) in omega arith)))
 
 pub record Accepted (s : List ℕ) (at count : ℕ) (c : Checked) : Type 0 where
@@ -84,7 +84,7 @@ module _ (s : List ℕ) (present : ℕ) where
           let i : Accepted s (at + 10) (count + 1) (releases-from k s (at + 10) present (Before r) (count + 1)) =
           rec r (count + 1) (omega (arith, few present last count r f)) (omega arith) g in
           record {
-            list = t ∙ ap (with-release r) (i .list) ∙ ap Releases (ap (λ (y : Release). y ∷ releases-at s (at + 10)) (entry-release s at r e) ∙ sym (here s at w));
+            list = t ∙ ap (with-release r) (i .list) ∙ ap Releases (ap (λ (y : Release). y ∷ releases-at s (at + 10)) (entry-release s at r e .1) ∙ sym (here s at w));
             small = omega (arith, i .small, w);
           }
       go-refusal r (suc x) m e f rec = absurd (let z : _≡_ {A = ℕ} 0 1 = cc (rw (lt-leb (length s) at m, releases-from, e, f) at h) in omega arith)
@@ -126,10 +126,10 @@ module _ (s : List ℕ) (k : TaskPart) (read : ReadWhole s k) where
     all : Accepted s (k .end) 0 (releases-from (length s) s (k .end) (k .table .present) NoneBefore 0)
     all = accepted s (k .table .present) (length s) (k .end) NoneBefore 0 (omega arith) (omega arith) h
 
-    listed-all : releases-of s ≡ Releases (releases-at s (k .end))
+    pub listed-all : releases-of s ≡ Releases (releases-at s (k .end))
     listed-all = checked-from ∙ all .list
 
-    same-run : record-bytes (moments-of s (releases-at s (k .end))) ≡ run-bytes s (start k) (budget-at s (start k))
+    pub same-run : record-bytes (moments-of s (releases-at s (k .end))) ≡ run-bytes s (start k) (budget-at s (start k))
     unfolding moments-of
     same-run = rw (sym (read .tasks), how-many s (k .end))
 

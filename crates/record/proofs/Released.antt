@@ -59,11 +59,15 @@ After t [] = Unit {0}
 After t (r ∷ rs) = t < r .time
 
 -- no task of a set comes again at a time
-abbrev Under : ℕ → ℕ → List Release → Type 0
+abbrev pub Under : ℕ → ℕ → List Release → Type 0
 Under t set [] = Unit {0}
 Under t set (r ∷ rs) = r .time ≡ t → (k : ℕ) → member k set ≡ true → k < r .task
 
-rises-on : (l r : Release) → rises (Before l) r ≡ true → (l .time < r .time) ⊎ ((l .time ≡ r .time) × (l .task < r .task))
+pub none-under : (t : ℕ) (rs : List Release) → Under t 0 rs
+none-under t [] = tt
+none-under t (r ∷ rs) = λ e k m. clash (member k 0) m (none k)
+
+pub rises-on : (l r : Release) → rises (Before l) r ≡ true → (l .time < r .time) ⊎ ((l .time ≡ r .time) × (l .task < r .task))
 unfolding rises
 rises-on l r h =
     let e : Bool = eqb (l .time) (r .time) in
@@ -75,7 +79,7 @@ on-time : (r : Release) (rs : List Release) → RisesTo (Before r) rs → NotBef
 on-time r [] h = tt
 on-time r (q ∷ qs) h = ⊎-elim (λ x. omega arith) (λ x. omega arith) (rises-on r q h)
 
-under-more : (t set : ℕ) (r : Release) (rs : List Release) → r .time ≡ t → ((k : ℕ) → member k set ≡ true → k < r .task) → RisesTo (Before r) rs
+pub under-more : (t set : ℕ) (r : Release) (rs : List Release) → r .time ≡ t → ((k : ℕ) → member k set ≡ true → k < r .task) → RisesTo (Before r) rs
     → Under t (insert (r .task) set) rs
 under-more t set r [] e h g = tt
 under-more t set r (q ∷ qs) e h g = λ x k m.
@@ -133,11 +137,7 @@ module _ (present : ℕ) (tasks : present < 2 ^ 32) (t : ℕ) where
       (record { known = λ k m. inl m; sorted = h; later = omega arith; sizes = refl }))
 
   pub split : (rs : List Release) → Sorted present rs → NotBefore t rs → Split 0 rs (released-at t rs) (released-after t rs)
-  split rs h n = split-from 0 rs h n (none-under rs)
-    where
-      none-under : (rs : List Release) → Under t 0 rs
-      none-under [] = tt
-      none-under (r ∷ rs) = λ e k m. clash (member k 0) m (none k)
+  split rs h n = split-from 0 rs h n (none-under t rs)
 
   -- a set that is not empty comes early
   pub early : (rs : List Release) → Sorted present rs → eqb (released-at t rs) 0 ≡ false → t ≤ 1000000000

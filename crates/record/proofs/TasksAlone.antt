@@ -28,7 +28,7 @@ use Rattle.run.specs.Files.{Releases, refusal-of, release-refusal, releases-fro
 use Rattle.run.proofs.Checking
 use Rattle.record.proofs.Accepted.{Accepted}
 
-unlike : (r : TaskPart) (n at : ℕ) → refused-at n at ≡ r → r .refusal ≡ NoRefusal → ⊥
+pub unlike : (r : TaskPart) (n at : ℕ) → refused-at n at ≡ r → r .refusal ≡ NoRefusal → ⊥
 unlike r n at e h = let x : AtEntry n at ≡ NoRefusal = ap (λ (k : TaskPart). k .refusal) e ∙ h in let z : _≡_ {A = ℕ} 0 1 = cc in omega arith
 
 -- ---- the entries one after another

@@ -2,3 +2,4 @@ pub mod Types
 pub mod Writing
 pub mod FileClaim
 pub mod Cursor
+pub mod Fits

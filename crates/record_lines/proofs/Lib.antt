@@ -1,5 +1,4 @@
 pub mod Laws
 pub mod Filling
 pub mod EntryLines
-pub mod Fitting
 pub mod FileLines

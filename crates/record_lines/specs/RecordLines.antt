@@ -2,14 +2,11 @@
 use mathlib.Core.Path.{_≡_}
 use mathlib.Core.Bool.{cond}
 use mathlib.Core.List.{List, [], _∷_, _++_}
-use Prim.Native.Nat.{ℕ, zero, suc, _^_, _<_}
+use Prim.Native.Nat.{ℕ, zero, suc}
 use Rattle.sets.specs.Sets.{member}
 use Rattle.rules.specs.declared.Occurred.{Occurred}
-use Rattle.rules.specs.declared.Done.{Done}
-use Rattle.rules.specs.declared.Done.the-variants.{NoJob, Job}
 use Rattle.rules.specs.declared.Closing.{Closing}
 use Rattle.rules.specs.declared.Closing.the-variants.{Unclosed, BeforeReleases, AfterReleases}
-use Rattle.entries.specs.RoundTrip.{JobFits, IntervalFits}
 use Rattle.lines.specs.Lines.{interval-line, skipped-line, done-lines}
 use Rattle.run.specs.Files.{Releases, releases-of}
 use Rattle.run.specs.Run.{Moment, record-bytes, moments-of}
@@ -40,23 +37,3 @@ moments-lines (m ∷ ms) = moment-lines m ++ moments-lines ms
 unfoldable pub FilePrinted : Type 0
 FilePrinted = (s : List ℕ) (rs : List Release) → releases-of s ≡ Releases rs →
     let ms : List Moment = moments-of s rs in record-lines (record-bytes ms) ≡ moments-lines ms
-
--- ---- A run whose numbers fit their fields
-
-unfoldable pub DoneFits : Done → Type 0
-DoneFits NoJob = Unit {0}
-DoneFits (Job e) = JobFits e
-
-unfoldable pub ClosedFits : Closing → Type 0
-ClosedFits Unclosed = Unit {0}
-ClosedFits (BeforeReleases e) = IntervalFits e
-ClosedFits (AfterReleases e) = IntervalFits e
-
-pub record MomentFits (m : Moment) : Type 0 where
-  pub time-fits : m .time < 256 ^ 8
-  pub done-fits : DoneFits (m .occurred .done)
-  pub closed-fits : ClosedFits (m .occurred .closed)
-
-unfoldable pub MomentsFit : List Moment → Type 0
-MomentsFit [] = Unit {0}
-MomentsFit (m ∷ ms) = MomentFits m × MomentsFit ms

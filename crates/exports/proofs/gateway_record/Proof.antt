@@ -8,11 +8,11 @@ use Rattle.exports.proofs.gateway_record.Tie as tie
 write-requires : tie.Need-write-requires
 write-requires c κs = search needs
 
-value-requires : tie.Need-value-requires
-value-requires c κs = search needs
+value-of-requires : tie.Need-value-of-requires
+value-of-requires c κs = search needs
 
-number-requires : tie.Need-number-requires
-number-requires c κs = search needs
+number-of-requires : tie.Need-number-of-requires
+number-of-requires c κs = search needs
 
 same-length : tie.Need-same-length
 same-length c = search needs
@@ -20,7 +20,7 @@ same-length c = search needs
 returns : tie.Need-returns
 returns c =
     let wrote = c .before .before .before .before .write .ensures .wrote in
-    (c .number .ensures ∙ ap outcome-number (wrote .outcome-is), (c .before .value .ensures ∙ ap outcome-value (wrote .outcome-is), wrote .holds))
+    (c .number-of .ensures ∙ ap outcome-number (wrote .outcome-is), (c .before .value-of .ensures ∙ ap outcome-value (wrote .outcome-is), wrote .holds))
 
 pub gateway-record-spec : {M : Type 1} → statement M
-gateway-record-spec = tie.close (tie.spec write-requires value-requires number-requires same-length returns)
+gateway-record-spec = tie.close (tie.spec write-requires value-of-requires number-of-requires same-length returns)

@@ -12,7 +12,7 @@ use Rattle.rules.specs.Calls.{opened}
 use Rattle.guarantees.proofs.Highest.{Best, best}
 use Rattle.guarantees.proofs.Cases.{held-at, copyin-cases, copyout-cases, processor-cases, d-cases, e-cases, g-cases}
 use Rattle.entries.specs.RoundTrip.{TaskFits, IntervalFits}
-use Rattle.record_lines.specs.RecordLines.{DoneFits, ClosedFits, MomentFits}
+use Rattle.record.specs.Fits.{DoneFits, ClosedFits, MomentFits}
 
 -- ---- What fits
 

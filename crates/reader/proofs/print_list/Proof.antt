@@ -1,0 +1,70 @@
+-- `reader::print_list` is safe and ends. The measure is how many bytes are left. Assumes nothing.
+use mathlib.Core.Path.{_≡_}
+use Prim.Native.Nat.{_-_, _≤_}
+use lib.ListN.{length}
+use native.Mathlib.Omega.{arith}
+use borrow.Author.Tests.{leb-true}
+use borrow.Author.Needs.{needs}
+use Rattle.reader.proofs.print_list.Statement.{statement}
+use Rattle.reader.proofs.print_list.Tie as tie
+
+abbrev Inv-loop : tie.InvT-loop
+Inv-loop list size out₀ len₀ at₀ out len at = (at ≤ length list) × (len ≤ length out₀) × (length out ≡ length out₀)
+
+abbrev μ-loop : tie.MeasureT-loop
+μ-loop list size out₀ len₀ at₀ out len at = length list - at
+
+loop-holds : tie.Need-loop-holds Inv-loop μ-loop
+loop-holds c = search needs
+
+sub-if1 : tie.Need-sub-if1 Inv-loop μ-loop
+sub-if1 c = search needs
+
+listed-at-requires : tie.Need-listed-at-requires Inv-loop μ-loop
+listed-at-requires c κs = search needs
+
+gather-requires : tie.Need-gather-requires Inv-loop μ-loop
+gather-requires c κs = search needs
+
+add-at : tie.Need-add-at Inv-loop μ-loop
+add-at c = search needs
+
+loop-less : tie.Need-loop-less Inv-loop μ-loop
+loop-less c =
+    let v = c .before .before .before .before .before in
+    let s = v .before .before .before .before .before .args .list .now in
+    let left = leb-true 10 (length s - v .before .before .loop .at) (v .if1 .taken) in
+    omega (arith, left)
+
+loop-again : tie.Need-loop-again Inv-loop μ-loop
+loop-again c =
+    let v = c .before .before .before .before .before in
+    let s = v .before .before .before .before .before .args .list .now in
+    let left = leb-true 10 (length s - v .before .before .loop .at) (v .if1 .taken) in
+    (omega (arith, left), search needs, search needs)
+
+print-requires : tie.Need-print-requires Inv-loop μ-loop
+print-requires c κs = search needs
+
+same-length : tie.Need-same-length Inv-loop μ-loop
+same-length c = search needs
+
+returns : tie.Need-returns Inv-loop μ-loop
+returns c = search needs
+
+pub print-list-spec : {M : Type 1} → statement M
+print-list-spec =
+    tie.close
+    (tie.spec
+    Inv-loop
+    μ-loop
+    loop-holds
+    sub-if1
+    listed-at-requires
+    gather-requires
+    add-at
+    loop-less
+    loop-again
+    print-requires
+    same-length
+    returns)

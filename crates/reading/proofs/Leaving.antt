@@ -1,0 +1,239 @@
+-- Each release of an input that is accepted leaves exactly one entry, a job done or a release skipped, with its task and its time. Along the run, for
+-- each test of a release: the entries of an instant and what is pending after it are what was pending before it and what is released at it. Assumes nothing.
+use Prim.Native.Nat.{_^_}
+use native.Mathlib.Nat.{zero-add}
+use native.Mathlib.Omega.{arith}
+use borrow.Author.Tests.{eqb-true, eqb-false}
+use lib.Dec.{eqb}
+use lib.ListN.{length, getD}
+use Rattle.sets.specs.Sets.{member, union, intersection, difference, insert, bit}
+use Rattle.sets.proofs.Laws.{by-test, united, intersection-member, difference-member, same-task, member-task}
+use Rattle.table.specs.TaskPart.{task-part}
+use Rattle.rules.specs.With.{at-clock}
+use Rattle.rules.specs.Order.{highest-of}
+use Rattle.rules.specs.Instant.{completed, after-done, without-done, step-a, close, step-b, taken, skipped, stamped, step-c, cancel, step-d, choose, step-e, begin, step-g, fresh-stage, at-a, at-b, new-at, at-e, at-f, at-g, occurred}
+use Rattle.rules.specs.Calls.{opened, after-call}
+use Rattle.guarantees.specs.Types.{_≡_, refl, ap, _∙_, subst, Bool, true, false, cond, not, _&&_, _||_, List, [], _∷_, ℕ, _+_, _<_, Table, Jobs, MaybeTask, NoTask, Task, CopyOut, NoCopyOut, CopyingOut, CopiedOut, Interval, Phase, Between, Within, State, Done, Stage, Call, Step}
+use Rattle.guarantees.specs.History.{after-calls}
+use Rattle.guarantees.specs.States.{copyout-known}
+use Rattle.guarantees.proofs.Cases.{held-at, b-cases, d-cases, e-cases, g-cases}
+use Rattle.guarantees.proofs.Proper.{Fair}
+use Rattle.guarantees.proofs.Places.{copyout-bit, Parted}
+use Rattle.guarantees.proofs.Tallies.{stamped-length, stamped-exact}
+use Rattle.guarantees.proofs.Closings.{done-so}
+use Rattle.run.specs.Files.{Releases, releases-of}
+use Rattle.run.specs.Run.{Moment, released-from, released-at, released-after, moments-of}
+use Rattle.run.proofs.Listing
+use Rattle.record.specs.FileClaim.{Feeds, answers, Demand3Files}
+use Rattle.record.proofs.Accepted.{Sorted, Accepted, accepted}
+use Rattle.record.proofs.Released.{Under, none-under, under-more}
+use Rattle.record.proofs.TasksAlone.{fair}
+use Rattle.record.proofs.Feeding.{Fit, state-is, step-is, fit-next}
+use Rattle.record.proofs.FileClaim.{fit, fed-file, demand-3-files}
+use Rattle.reading.specs.Types.{Release}
+use Rattle.reading.specs.Told.{done-told, skips-told, moment-told, run-told, tally}
+use Rattle.reading.proofs.Keys.{count-pairs, hits, among, among-none, among-removed, among-inserted, tally-append, skips-tally}
+
+-- ---- what is pending, with the times of the releases
+
+record Held : Type 0 where
+  pending : ℕ
+  release : List ℕ
+
+abbrev held : State → Held
+held d = record { pending = d .jobs .pending; release = d .jobs .release }
+
+-- the steps but a and c leave it
+b-held : (s : Stage) (t : ℕ) → held (step-b s t (s .state .phase) .state) ≡ held (s .state)
+unfolding close
+b-held s t = b-cases (λ x. held x ≡ held (s .state)) s t (λ i e o. refl) (λ next outgoing e. refl) (λ i e o. refl)
+
+d-held : (d : State) (new : ℕ) → held (step-d d new (d .phase)) ≡ held d
+unfolding cancel
+d-held d new = d-cases (λ x. held x ≡ held d) d new refl (λ i n u e s b. refl)
+
+choose-held : (d : State) (t : ℕ) (i : Interval) (q : MaybeTask) → held (choose d t i q) ≡ held d
+unfolding choose
+choose-held d t i NoTask = refl
+choose-held d t i (Task q) = refl
+
+e-held : (d : State) (t : ℕ) → held (step-e d t (d .phase)) ≡ held d
+e-held d t = e-cases (λ x. held x ≡ held d) d t refl (λ i e s u. choose-held d t i (highest-of d (d .jobs .ready)))
+
+g-held : (d : State) (t new : ℕ) → held (step-g d t new (d .phase)) ≡ held d
+unfolding begin
+g-held d t new =
+    g-cases (λ x. held x ≡ held d) d t new (λ i e. refl) (λ next outgoing e w. refl) (λ next outgoing e w. e-held (begin d t new next outgoing) t)
+
+held-b : (d : State) (t : ℕ) → held (at-b d t .state) ≡ held (at-a d t .state)
+unfolding at-b
+held-b d t = b-held (at-a d t) t
+
+held-g : (d : State) (t set : ℕ) → held (at-g d t set) ≡ held (step-c (at-b d t .state) t (new-at d t set))
+unfolding at-g at-f at-e
+held-g d t set =
+    let new : ℕ = new-at d t set in
+    let c : State = step-c (at-b d t .state) t new in
+    g-held (at-f d t set .state) t (held-at d t set)
+    ∙ b-held (fresh-stage (at-e d t set)) t ∙ e-held (step-d c new (c .phase)) t ∙ d-held c new
+
+-- the times are as many as before
+a-length : (d : State) (t : ℕ) (p : Phase) → length (step-a d t p .state .jobs .release) ≡ length (d .jobs .release)
+unfolding step-a without-done
+a-length d t (Between next outgoing) = refl
+a-length d t (Within i) = refl
+
+b-length : (d : State) (t : ℕ) → length (at-b d t .state .jobs .release) ≡ length (d .jobs .release)
+unfolding at-a
+b-length d t = ap (λ (x : Held). length (x .release)) (held-b d t) ∙ a-length (at-clock d t) t (d .phase)
+
+g-length : (d : State) (t set : ℕ) → length (at-g d t set .jobs .release) ≡ length (d .jobs .release)
+unfolding step-c
+g-length d t set =
+    ap (λ (x : Held). length (x .release)) (held-g d t set)
+    ∙ stamped-length (new-at d t set) t 0 (at-b d t .state .jobs .release) ∙ b-length d t
+
+-- ---- for each test of a release
+
+module _ (test : Release → Bool) where
+  -- how many pending jobs pass it
+  unfoldable held-with : Held → ℕ
+  held-with h = among test (h .pending) (λ n. getD (h .release) n 0)
+
+  -- a: a job that is done was pending
+  a-jobs : (j : Jobs) (t : ℕ) (o : CopyOut) → ((n start until : ℕ) → o ≡ CopyingOut n start until → (n < 32) × (member n (j .pending) ≡ true))
+      → tally test (done-told (completed j t o)) + among test (after-done (j .pending) (completed j t o)) (λ n. getD (j .release) n 0)
+      ≡ among test (j .pending) (λ n. getD (j .release) n 0)
+  unfolding completed tally
+  a-jobs j t NoCopyOut h = omega arith
+  a-jobs j t (CopyingOut n start until) h =
+      by-test (eqb until t)
+      (λ e. rw e (omega (arith, among-removed test n (λ n. getD (j .release) n 0) (h n start until refl .0) (j .pending) (h n start until refl .1))))
+      (λ e. rw e (omega arith))
+  a-jobs j t (CopiedOut n) h = omega arith
+
+  a-leaves : (present : ℕ) (tasks : present < 2 ^ 32) (d : State) (t : ℕ) (p : Phase) → Parted present tasks d p
+      → tally test (done-told (step-a d t p .done)) + held-with (held (step-a d t p .state)) ≡ held-with (held d)
+  unfolding step-a without-done held-with tally
+  a-leaves present tasks d t (Between next outgoing) h = omega arith
+  a-leaves present tasks d t (Within i) h = a-jobs (d .jobs) t (i .copyout) there
+    where
+      there : (n start until : ℕ) → i .copyout ≡ CopyingOut n start until → (n < 32) × (member n (d .jobs .pending) ≡ true)
+      there n start until e =
+          let l : n < 32 = member-task n present tasks (subst (copyout-known present) e (h .known .2)) in
+          let one : copyout-bit n (i .copyout) ≡ 1 = ap (copyout-bit n) e ∙ rw (same-task n) in
+          (l, by-test (member n (d .jobs .pending)) (λ m. m) (λ m. absurd (omega (arith, rw m at (h .parts n l)))))
+
+  -- c: a release is taken, and pending from now on, or skipped
+  c-leaves : (d : State) (t set : ℕ) → length (d .jobs .release) ≡ 32
+      → among test (skipped d set) (λ n. t) + held-with (held (step-c d t (taken d set))) ≡ held-with (held d) + among test set (λ n. t)
+  unfolding skipped taken step-c held-with among
+  c-leaves d t set long =
+      let p : ℕ = d .jobs .pending in
+      let new : ℕ = difference set p in
+      let xs : List ℕ = d .jobs .release in
+      count-pairs 32 (λ n. member n (intersection set p) && hits test t n) (λ n. member n (union p new) && hits test (getD (stamped new t 0 xs) n 0) n)
+      (λ n. member n p && hits test (getD xs n 0) n) (λ n. member n set && hits test t n)
+      (λ n l.
+      let stamp : getD (stamped new t 0 xs) n 0 ≡ cond (member n new) t (getD xs n 0) =
+      stamped-exact new t 0 xs n (omega arith) ∙ ap (λ (j : ℕ). cond (member j new) t (getD xs n 0)) (zero-add n) in
+      rw (intersection-member set p n l, united p new n l, stamp, difference-member set p n l) (parts (member n p) (member n set) n (getD xs n 0)))
+    where
+      parts : (p s : Bool) (n x : ℕ)
+          → bit ((s && p) && hits test t n) + bit ((p || (s && not p)) && hits test (cond (s && not p) t x) n) ≡ bit (p && hits test x n) + bit (s && hits test t n)
+      parts true true n x = omega arith
+      parts true false n x = omega arith
+      parts false true n x = omega arith
+      parts false false n x = omega arith
+
+  -- an instant
+  instant-leaves : (present : ℕ) (tasks : present < 2 ^ 32) (d : State) (t set : ℕ) → Parted present tasks d (d .phase) → length (d .jobs .release) ≡ 32
+      → tally test (moment-told (record { time = t; occurred = occurred d t set })) + held-with (held (at-g d t set)) ≡ held-with (held d) + among test set (λ n. t)
+  unfolding moment-told occurred new-at
+  instant-leaves present tasks d t set h long =
+      let a : Stage = at-a d t in
+      let b : State = at-b d t .state in
+      let from-a : tally test (done-told (a .done)) + held-with (held (a .state)) ≡ held-with (held d) =
+      unfold at-a in a-leaves present tasks (at-clock d t) t (d .phase) (record { few = h .few; marks = h .marks; pending = h .pending; ready = h .ready; known = h .known; parts = h .parts }) in
+      omega (
+        arith,
+        tally-append test (done-told (at-b d t .done)) (skips-told 32 (skipped b set) t),
+        skips-tally test (skipped b set) t,
+        ap (λ (o : Done). tally test (done-told o)) (done-so d t set),
+        c-leaves b t set (b-length d t ∙ long),
+        ap held-with (held-b d t),
+        ap held-with (held-g d t set),
+      )
+
+  -- the releases at a time are those of the set, and the others come after it
+  releases-apart : (present : ℕ) (tasks : present < 2 ^ 32) (t set : ℕ) (rs : List Release) → Sorted present rs → Under t set rs
+      → among test (released-from t set rs) (λ n. t) + tally test (released-after t rs) ≡ among test set (λ n. t) + tally test rs
+  unfolding Sorted tally
+  releases-apart present tasks t set [] h u = unfold released-from released-after in refl
+  releases-apart present tasks t set (r ∷ rs) h u =
+      by-test (eqb (r .time) t)
+      (λ e.
+      let x : r .time ≡ t = eqb-true (r .time) t e in
+      let fresh : member (r .task) set ≡ false = by-test (member (r .task) set) (λ m. absurd (omega (arith, u x (r .task) m))) (λ m. m) in
+      rw (Listing.taken t set r rs x, Listing.after-taken t set r rs x)
+      (omega (
+        arith,
+        releases-apart present tasks t (insert (r .task) set) rs (h .3) (under-more t set r rs x (u x) (h .2)),
+        among-inserted test (r .task) (λ n. t) (member-task (r .task) present tasks (h .0)) set fresh,
+        ap (λ (y : ℕ). bit (hits test y (r .task))) x,
+      )))
+      (λ e.
+      let x : r .time ≡ t → ⊥ = eqb-false (r .time) t e in
+      rw (Listing.later t set r rs x, Listing.after-later t set r rs x))
+
+  -- where nothing is pending nothing passes
+  none-held : (d : State) → d .jobs .pending ≡ 0 → held-with (held d) ≡ 0
+  unfolding held-with
+  none-held d e = rw e (among-none test (λ n. getD (d .jobs .release) n 0))
+
+  -- along the calls that feed a file
+  module _ (table : Table) (marks : ℕ) (fair : Fair table marks) where
+    feed-leaves : (cs : List Call) (d : State) (rs : List Release) → Fit table marks fair d rs → length (d .jobs .release) ≡ 32 → Feeds d rs cs
+        → tally test (run-told (answers d cs)) + held-with (held (after-calls d cs)) ≡ held-with (held d) + tally test rs
+    unfolding Feeds answers after-calls run-told tally
+    feed-leaves [] d rs fit long feeds = rw (feeds .0) (omega arith)
+    feed-leaves (c ∷ cs) d rs fit long feeds =
+        let t : ℕ = feeds .0 in
+        let set : ℕ = released-at t rs in
+        let rest : List Release = released-after t rs in
+        let g : State = at-g d t set in
+        let m : Moment = record { time = t; occurred = occurred d t set } in
+        let state : after-call d c ≡ g = ap (after-call d) (feeds .2) ∙ state-is table marks fair d rs t fit (feeds .1) in
+        let last : after-calls d (c ∷ cs) ≡ after-calls g cs = ap (λ (x : State). after-calls x cs) state in
+        let gives : answers d (c ∷ cs) ≡ m ∷ answers g cs =
+        rw (feeds .2, ap (λ (s : Step). s .answer) (step-is table marks fair d rs t fit (feeds .1)), state-is table marks fair d rs t fit (feeds .1)) in
+        omega (
+          arith,
+          ap (λ (ms : List Moment). tally test (run-told ms)) gives,
+          ap (λ (x : State). held-with (held x)) last,
+          tally-append test (moment-told m) (run-told (answers g cs)),
+          instant-leaves (table .present) (fair .present) d t set (fit .good .parted) long,
+          feed-leaves cs g rest (fit-next table marks fair d rs t fit (feeds .1)) (g-length d t set ∙ long) (subst (λ (x : State). Feeds x rest cs) state (feeds .3)),
+          releases-apart (table .present) (fair .present) t 0 rs (fit .sorted) (none-under t rs),
+          among-none test (λ n. t),
+        )
+
+-- ---- the file's run
+
+-- of each test the run has as many entries that pass it as the input has releases
+pub leaves-one : (s : List ℕ) (rs : List Release) → releases-of s ≡ Releases rs → (test : Release → Bool) → tally test (run-told (moments-of s rs)) ≡ tally test rs
+unfolding Demand3Files
+leaves-one s rs h test =
+    let a : Accepted s rs = accepted s rs h in
+    let d : State = opened (task-part s .table) (task-part s .marked) in
+    let f = fed-file s rs h in
+    let none-left : after-calls d (f .calls) .jobs .pending ≡ 0 = demand-3-files s rs h .of-the-feed (f .calls) (f .feeds) .nothing-pending in
+    let fed : tally test (run-told (answers d (f .calls))) + held-with test (held (after-calls d (f .calls))) ≡ held-with test (held d) + tally test rs =
+    feed-leaves test (task-part s .table) (task-part s .marked) (fair s rs a) (f .calls) d rs (fit s rs a) (unfold opened in refl) (f .feeds) in
+    omega (
+      arith,
+      fed,
+      ap (λ (ms : List Moment). tally test (run-told ms)) (f .gives),
+      none-held test (after-calls d (f .calls)) none-left,
+      none-held test d (unfold opened in refl),
+    )

@@ -1,0 +1,13 @@
+pub mod Sorting
+pub mod Noting
+pub mod Telling
+pub mod Keys
+pub mod Leaving
+pub mod Ordering
+pub mod Inputs
+pub mod Numbers
+pub mod Acceptance
+pub mod RoundTrip
+pub mod Laying
+pub mod Outcomes
+pub mod Holding

@@ -1,0 +1,31 @@
+-- `reading::listing::read_few` meets its contract: the memory that it lends is enough. Assumes nothing.
+use mathlib.Core.Logic.{inr}
+use native.Mathlib.Omega.{arith}
+use borrow.Author.Needs.{needs}
+use Rattle.reading.proofs.listing.read_few.Statement.{statement}
+use Rattle.reading.proofs.listing.read_few.Tie as tie
+
+slice-aggregate-read-record : tie.Need-slice-aggregate-read-record
+slice-aggregate-read-record c = search needs
+
+slice-aggregate-read-record-2 : tie.Need-slice-aggregate-read-record-2
+slice-aggregate-read-record-2 c = search needs
+
+read-record-requires : tie.Need-read-record-requires
+read-record-requires c κs = record { opens = c .before .before .before .before .before .before .pre .0; enough = inr (c .before .before .before .before .before .before .pre .1); room = omega arith }
+
+same-length : tie.Need-same-length
+same-length c = search needs
+
+returns : tie.Need-returns
+returns c = search needs
+
+pub read-few-spec : {M : Type 1} → statement M
+read-few-spec =
+    tie.close
+    (tie.spec
+    slice-aggregate-read-record
+    slice-aggregate-read-record-2
+    read-record-requires
+    same-length
+    returns)

@@ -1,0 +1,90 @@
+-- `reading::listing::read_listed` meets its contract: by whether the list's run has this record. Assumes nothing.
+use mathlib.Core.Path.{sym, _∙_}
+use native.Mathlib.Omega.{arith}
+use lib.Seq.{length-take-le}
+use Rattle.reading.proofs.Laying.{input-length}
+use Rattle.reading.proofs.Outcomes.{listed-part, not-listed-part}
+use borrow.Author.Needs.{needs}
+use Rattle.reading.proofs.listing.read_listed.Statement.{statement}
+use Rattle.reading.proofs.listing.read_listed.Tie as tie
+
+rebuild-requires : tie.Need-rebuild-requires
+rebuild-requires c κs = search needs
+
+slice-reshare-prefix-yields : tie.Need-slice-reshare-prefix-yields
+slice-reshare-prefix-yields c =
+    let r = c .before .before .rebuild .ensures in
+    let a = c .before .before .before .before .before .before .before .before .before in
+    let size = r .size-is ∙ input-length (a .args .tasks .now) (a .args .keys .now) in
+    omega (arith, size, r .same-length, a .pre)
+
+slice-aggregate-yields : tie.Need-slice-aggregate-yields
+slice-aggregate-yields c =
+    let r = c .before .before .before .rebuild .ensures in
+    let a = c .before .before .before .before .before .before .before .before .before .before in
+    let size = r .size-is ∙ input-length (a .args .tasks .now) (a .args .keys .now) in
+    sym (length-take-le _ _ (omega (arith, size, r .same-length, a .pre)))
+
+yields-requires : tie.Need-yields-requires
+yields-requires c κs = search needs
+
+sub-write-list : tie.Need-sub-write-list
+sub-write-list c =
+    let r = c .before .before .before .before .before .rebuild .ensures in
+    let a = c .before .before .before .before .before .before .before .before .before .before .before .before in
+    let size = r .size-is ∙ input-length (a .args .tasks .now) (a .args .keys .now) in
+    omega (arith, size)
+
+part-write-list-start : tie.Need-part-write-list-start
+part-write-list-start c =
+    let r = c .before .before .before .before .before .before .rebuild .ensures in
+    let a = c .before .before .before .before .before .before .before .before .before .before .before .before .before in
+    let size = r .size-is ∙ input-length (a .args .tasks .now) (a .args .keys .now) in
+    omega (arith, size)
+
+part-write-list-end : tie.Need-part-write-list-end
+part-write-list-end c =
+    let r = c .before .before .before .before .before .before .rebuild .ensures in
+    let a = c .before .before .before .before .before .before .before .before .before .before .before .before .before in
+    let size = r .size-is ∙ input-length (a .args .tasks .now) (a .args .keys .now) in
+    omega (arith, size, r .same-length, a .pre)
+
+write-list-requires : tie.Need-write-list-requires
+write-list-requires c κs = search needs
+
+same-length : tie.Need-same-length
+same-length c = search needs
+
+same-length-2 : tie.Need-same-length-2
+same-length-2 c = search needs
+
+returns : tie.Need-returns
+returns c =
+    let a = c .before .before .before .before .before .before .before .before .before .before .before .before .before .before .before .before .before .before .args in
+    listed-part (a .tasks .now) (a .keys .now) (a .stored .now) (a .out .now) (c .before .before .before .before .before .before .before .before .before .before .before .rebuild .ensures) (sym (c .before .before .before .before .before .before .before .yields .ensures) ∙ c .before .before .before .before .before .before .if1 .taken) (c .before .before .write-list .ensures)
+
+same-length-3 : tie.Need-same-length-3
+same-length-3 c = search needs
+
+returns-2 : tie.Need-returns-2
+returns-2 c =
+    let a = c .before .before .before .before .before .before .before .before .before .before .before .before .args in
+    not-listed-part (a .tasks .now) (a .keys .now) (a .stored .now) (a .out .now) (c .before .before .before .before .before .rebuild .ensures) (sym (c .before .yields .ensures) ∙ c .if1 .left)
+
+pub read-listed-spec : {M : Type 1} → statement M
+read-listed-spec =
+    tie.close
+    (tie.spec
+    rebuild-requires
+    slice-reshare-prefix-yields
+    slice-aggregate-yields
+    yields-requires
+    sub-write-list
+    part-write-list-start
+    part-write-list-end
+    write-list-requires
+    same-length
+    same-length-2
+    returns
+    same-length-3
+    returns-2)

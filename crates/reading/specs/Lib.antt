@@ -1,0 +1,6 @@
+pub mod Types
+pub mod Told
+pub mod Reading
+pub mod Acceptance
+pub mod Sorting
+pub mod Parts

@@ -1,0 +1,108 @@
+-- What the functions within promise: the releases that a record tells, noted as numbers in a lent slice, and the input that they make.
+use mathlib.Core.Path.{_≡_}
+use mathlib.Core.Logic.{_⊎_}
+use Prim.Native.Nat.{_+_, _*_, _/_, _%_, _^_, _≤_, _<_}
+use lib.ListN.{length, take, drop}
+use Rattle.entries.specs.Entries.{record-entry-size}
+use Rattle.rules.specs.Calls.{opening}
+use Rattle.run.specs.Files.{Releases, refusal-of}
+use Rattle.reading.specs.Types.{Bool, true, false, List, [], _∷_, _++_, ℕ, Release, NoRefusal, RecordEntry, MalformedRecord, JobDone, IntervalEnded, ReleaseSkipped}
+use Rattle.reading.specs.declared.collect.Decoded.{Decoded}
+use Rattle.reading.specs.declared.collect.Decoded.the-variants.{Faulty, Whole}
+use Rattle.reading.specs.declared.collect.Noted.{Noted}
+use Rattle.reading.specs.declared.collect.Collected.{Collected}
+use Rattle.reading.specs.declared.collect.Telling.{Telling}
+use Rattle.reading.specs.declared.replay.Held.{Held}
+use Rattle.reading.specs.Told.{release-of, told, key}
+use Rattle.reading.specs.Reading.{input-of}
+
+-- ---- An entry taken apart
+
+abbrev pub no-release : Release
+no-release = record { task = 0; time = 0 }
+
+-- its length and the release that it tells of, or the number by which it is refused
+abbrev pub decoded : RecordEntry → Decoded
+decoded (MalformedRecord n) = Faulty n
+decoded (JobDone e) = Whole (record { size = 27; counts = true; release = release-of e })
+decoded (IntervalEnded e) = Whole (record { size = 24; counts = false; release = no-release })
+decoded (ReleaseSkipped r) = Whole (record { size = 10; counts = true; release = r })
+
+abbrev pub fault : RecordEntry → ℕ
+fault (MalformedRecord n) = n
+fault (JobDone e) = 0
+fault (IntervalEnded e) = 0
+fault (ReleaseSkipped r) = 0
+
+-- ---- Releases as numbers
+
+unfoldable pub keys-of : List Release → List ℕ
+keys-of [] = []
+keys-of (r ∷ rs) = key r ∷ keys-of rs
+
+abbrev pub release-in : ℕ → Release
+release-in k = record { task = k % 256; time = k / 256 }
+
+unfoldable pub releases-in : List ℕ → List Release
+releases-in [] = []
+releases-in (k ∷ ks) = release-in k ∷ releases-in ks
+
+-- the fields of an entry hold them
+unfoldable pub AllFit : List Release → Type 0
+AllFit [] = Unit {0}
+AllFit (r ∷ rs) = ((r .task < 256) × (r .time < 2 ^ 64)) × AllFit rs
+
+unfoldable pub AllEarly : List Release → Type 0
+AllEarly [] = Unit {0}
+AllEarly (r ∷ rs) = (r .time ≤ 1000000000) × AllEarly rs
+
+-- ---- Noted in a slice
+
+-- some releases are noted: they stand in the slice's front as numbers; or no list can have them, since one is too late or they are too many
+pub record Notes (rs : List Release) (n : Noted) (keys : List ℕ) : Type 0 where
+  pub fit : AllFit rs
+  pub within : n .count ≤ length keys
+  pub noted : n .possible ≡ true → (take (n .count) keys ≡ keys-of rs) × AllEarly rs
+  pub not : n .possible ≡ false → AllEarly rs → length rs ≤ length keys → ⊥
+
+abbrev pub told-release : Telling → Bool → List Release
+told-release t true = t .release ∷ []
+told-release t false = []
+
+pub record NotesMore (n : Noted) (t : Telling) (before : List ℕ) (x : Noted) (after : List ℕ) : Type 0 where
+  pub same-length : length after ≡ length before
+  pub more : (rs : List Release) → Notes rs n before → Notes (rs ++ told-release t (t .counts)) x after
+
+pub record Collects (s before : List ℕ) (x : Collected) (after : List ℕ) : Type 0 where
+  pub same-length : length after ≡ length before
+  pub refusal-is : x .refusal ≡ refusal-of (told s)
+  pub whole : x .refusal ≡ NoRefusal → (rs : List Release) × (told s ≡ Releases rs)
+  pub notes : (rs : List Release) → told s ≡ Releases rs → Notes rs (x .noted) after
+
+-- ---- Bytes held against others
+
+-- whether two lists are the same
+pub record Tells (x : Bool) (a b : List ℕ) : Type 0 where
+  pub same : x ≡ true → a ≡ b
+  pub told : a ≡ b → x ≡ true
+
+-- what is made is held against the record, or there is room for another instant's bytes; the two together stay, or they differ
+pub record Holds (stored made : List ℕ) (size len : ℕ) (x : Held) : Type 0 where
+  pub within : x .agrees ≡ true → (x .size ≤ length stored) × (x .len + 371 ≤ length made)
+  pub stays : x .agrees ≡ true → take (x .size) stored ++ take (x .len) made ≡ take size stored ++ take len made
+  pub differs : x .agrees ≡ false → take len (drop size stored) ≡ take len made → ⊥
+
+-- ---- The input that the numbers make
+
+-- in the front of a slice
+pub record Rebuilt (tasks keys before : List ℕ) (size : ℕ) (after : List ℕ) : Type 0 where
+  pub same-length : length after ≡ length before
+  pub size-is : size ≡ length (input-of tasks (releases-in keys))
+  pub holds : take size after ≡ input-of tasks (releases-in keys)
+
+-- memory for reading: task entries that open a dispatcher; room for as many numbers as a file may have releases, or as the record can tell of; and
+-- for the input that they make
+pub record Lent (tasks stored keys input : List ℕ) : Type 0 where
+  pub opens : opening tasks .refusal ≡ NoRefusal
+  pub enough : (4096 ≤ length keys) ⊎ (length stored ≤ 10 * length keys)
+  pub room : 32 * 16 + 10 * length keys ≤ length input

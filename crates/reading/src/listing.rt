@@ -1,0 +1,150 @@
+// From the task entries and a stored record, the release entries that made it.
+use crate::collect::collect;
+use crate::order::sort;
+use crate::rebuild::rebuild;
+use crate::replay::yields;
+use record::Outcome;
+use table::Refusal;
+ghost use mathlib.Core.Path.{_≡_};
+ghost use Prim.Native.Nat.{_+_, _*_, _≤_};
+ghost use lib.ListN.{length};
+ghost use Rattle.rules.specs.Calls.{opening};
+ghost use Rattle.record.specs.Writing.{Wrote, written};
+ghost use Rattle.reading.specs.Types.{NoRefusal};
+ghost use Rattle.reading.specs.Told.{told};
+ghost use Rattle.reading.specs.Reading.{listed-if, read-told, reading};
+ghost use Rattle.reading.specs.Parts.{releases-in, Lent};
+ghost use Rattle.reading.specs.Acceptance.{ReadWithClaim};
+
+// As many releases as a file may have.
+const MOST: usize = 4096;
+
+// A record of few bytes tells of few releases: no entry that tells of one is shorter than a release entry. Then less memory is cleared first.
+const SOME: usize = 2048;
+
+const FEW: usize = 512;
+
+// The most bytes of task entries.
+const TASKS: usize = 32 * entries::TASK_SIZE;
+
+// A list of release entries in the front of `out`, or 13 with the length needed.
+fn write_list(list: &[u8], out: &mut [u8]) -> Outcome
+    ensures { λ r. ⌜ Wrote (written (now (list .entry)) (now (out .entry))) r (now (out .exit)) ⌝ }
+{
+    if out.len() < list.len() {
+        return Outcome::TooShort(list.len());
+    }
+    let size = bytes::copy(list, out);
+    Outcome::Recorded(size)
+}
+
+// The list of the releases that the numbers stand for, where its run has this record; else 18. `input` has room for the input that they make.
+fn read_listed(
+    tasks: &[u8],
+    keys: &[u64],
+    stored: &[u8],
+    input: &mut [u8],
+    out: &mut [u8],
+) -> Outcome
+    requires { ⌜ length (now tasks) + 10 * length (now keys) ≤ length (now input) ⌝ }
+    ensures { λ r. ⌜ Wrote (listed-if (now (tasks .entry)) (now (stored .entry)) (now (out .entry)) (releases-in (now (keys .entry)))) r (now (out .exit)) ⌝ }
+{
+    let end = rebuild(tasks, keys, input);
+    if yields(&input[..end], stored) {
+        let from = tasks.len();
+        return write_list(&input[from..end], out);
+    }
+    Outcome::RefusedInput(Refusal::Alone(18))
+}
+
+// Behind task entries that open a dispatcher. `keys` has room for every release that the record may tell of.
+fn read_record(
+    tasks: &[u8],
+    stored: &[u8],
+    keys: &mut [u64],
+    input: &mut [u8],
+    out: &mut [u8],
+) -> Outcome
+    requires { ⌜ Lent (now tasks) (now stored) (now keys) (now input) ⌝ }
+    ensures { λ r. ⌜ Wrote (read-told (now (tasks .entry)) (now (stored .entry)) (now (out .entry)) (told (now (stored .entry)))) r (now (out .exit)) ⌝ }
+{
+    let found = collect(stored, keys);
+    let noted = found.noted;
+    let refusal = found.refusal;
+    match refusal {
+        Refusal::NoRefusal => {
+            if !noted.possible {
+                return Outcome::RefusedInput(Refusal::Alone(18));
+            }
+            let count = noted.count;
+            sort(&mut keys[..count]);
+            read_listed(tasks, &keys[..count], stored, input, out)
+        }
+        Refusal::Alone(_) => Outcome::RefusedInput(refusal),
+        Refusal::AtEntry(_, _) => Outcome::RefusedInput(refusal),
+    }
+}
+
+fn read_few(tasks: &[u8], stored: &[u8], out: &mut [u8]) -> Outcome
+    requires { ⌜ opening (now tasks) .refusal ≡ NoRefusal ⌝ }
+    requires { ⌜ length (now stored) ≤ 5120 ⌝ }
+    ensures { λ r. ⌜ Wrote (read-told (now (tasks .entry)) (now (stored .entry)) (now (out .entry)) (told (now (stored .entry)))) r (now (out .exit)) ⌝ }
+{
+    let mut keys = [0u64; FEW];
+    let mut input = [0u8; TASKS + FEW * entries::RELEASE_SIZE];
+    read_record(tasks, stored, &mut keys, &mut input, out)
+}
+
+fn read_some(tasks: &[u8], stored: &[u8], out: &mut [u8]) -> Outcome
+    requires { ⌜ opening (now tasks) .refusal ≡ NoRefusal ⌝ }
+    requires { ⌜ length (now stored) ≤ 20480 ⌝ }
+    ensures { λ r. ⌜ Wrote (read-told (now (tasks .entry)) (now (stored .entry)) (now (out .entry)) (told (now (stored .entry)))) r (now (out .exit)) ⌝ }
+{
+    let mut keys = [0u64; SOME];
+    let mut input = [0u8; TASKS + SOME * entries::RELEASE_SIZE];
+    read_record(tasks, stored, &mut keys, &mut input, out)
+}
+
+fn read_any(tasks: &[u8], stored: &[u8], out: &mut [u8]) -> Outcome
+    requires { ⌜ opening (now tasks) .refusal ≡ NoRefusal ⌝ }
+    ensures { λ r. ⌜ Wrote (read-told (now (tasks .entry)) (now (stored .entry)) (now (out .entry)) (told (now (stored .entry)))) r (now (out .exit)) ⌝ }
+{
+    let mut keys = [0u64; MOST];
+    let mut input = [0u8; TASKS + MOST * entries::RELEASE_SIZE];
+    read_record(tasks, stored, &mut keys, &mut input, out)
+}
+
+// With as much memory as the record asks for.
+fn read_opened(tasks: &[u8], stored: &[u8], out: &mut [u8]) -> Outcome
+    requires { ⌜ opening (now tasks) .refusal ≡ NoRefusal ⌝ }
+    ensures { λ r. ⌜ Wrote (read-told (now (tasks .entry)) (now (stored .entry)) (now (out .entry)) (told (now (stored .entry)))) r (now (out .exit)) ⌝ }
+{
+    if stored.len() <= FEW * entries::RELEASE_SIZE {
+        return read_few(tasks, stored, out);
+    }
+    if stored.len() <= SOME * entries::RELEASE_SIZE {
+        return read_some(tasks, stored, out);
+    }
+    read_any(tasks, stored, out)
+}
+
+fn read_checked(tasks: &[u8], stored: &[u8], out: &mut [u8]) -> Outcome
+    ensures { λ r. ⌜ Wrote (reading (now (tasks .entry)) (now (stored .entry)) (now (out .entry))) r (now (out .exit)) ⌝ }
+{
+    let opened = guarantees::open(tasks);
+    let refusal = opened.refusal;
+    match refusal {
+        Refusal::NoRefusal => read_opened(tasks, stored, out),
+        Refusal::Alone(_) => Outcome::RefusedInput(refusal),
+        Refusal::AtEntry(_, _) => Outcome::RefusedInput(refusal),
+    }
+}
+
+// The release entries in the front of `out`, and their length: of the one list whose run has this record. A refusal of the task entries, as
+// at opening; of the record's entries, 2 and 1, with places that count from its start; 18 where no list yields it; or 13 with the length
+// needed. Nothing behind the list changes, and on a refusal nothing at all.
+pub fn read(tasks: &[u8], stored: &[u8], out: &mut [u8]) -> Outcome
+    ensures { λ r. ⌜ ReadWithClaim (now (tasks .entry)) (now (stored .entry)) (now (out .entry)) r (now (out .exit)) ⌝ }
+{
+    read_checked(tasks, stored, out)
+}

@@ -1,0 +1,247 @@
+"""Random stored records behind the task entries that they were made from, and damaged ones: inputs of the reader.
+
+Most damage leaves whole entries of a record's kinds that are nearly right, so that only a run tells that no list of
+releases yields them.
+"""
+
+from sim.dispatcher import LAST_RELEASE_TIME, Dispatcher
+from sim.entries import FIELDS, INTERVAL, JOB_DONE, NO_TASK, SKIPPED, TASK, Refused, decode, encode, entries, release_entry, two_parts
+from sim.files import MOST_RELEASES, instant_entries, run
+from sim.generate import (LAST_TICK, change_kind, change_many_fields, change_one_field, crowded_releases, damage_bytes, damage_entries,
+                          drop, duplicate, make_call, random_calls, random_tasks, swap, tasks_and_releases, too_short, wrong_length)
+from sim.reading import RECORD_KINDS
+from sim.sessions import INSTANT
+from sim.table import read_table
+
+# What the reader keeps of a record: no list yields one that is as long.
+LONGEST_KEPT = 524_288
+
+# By the kind of entry, which of its fields are times; the last of them is when it was written.
+TIMES = {JOB_DONE: (1, 2, 3), INTERVAL: (0, 1), SKIPPED: (1,)}
+
+
+def record_entries(tasks, releases):
+    """The entries of a run as a list, also of more releases than a file may have."""
+    table = read_table(b"".join(tasks))
+    return [entry for time, answer in run(table, releases) for entry in instant_entries(time, answer)]
+
+
+def true_parts(rng):
+    """Task entries, and the entries of a record over them."""
+    tasks, releases = tasks_and_releases(rng)
+    return tasks, record_entries(tasks, releases)
+
+
+def stored_bytes(tasks, stored):
+    return two_parts(b"".join(tasks), b"".join(stored))
+
+
+def random_stored(rng):
+    """A record that is read back."""
+    return stored_bytes(*true_parts(rng))
+
+
+# Damage to a list of record entries that is not empty. Each changes it in place.
+
+def written_at(entry):
+    """The instant at which a record's entry was written."""
+    return decode(entry)[TIMES[entry[0]][-1]]
+
+
+def _swap_within_an_instant(rng, stored):
+    near = [at for at in range(1, len(stored)) if written_at(stored[at - 1]) == written_at(stored[at])]
+    if near:
+        at = rng.choice(near)
+        stored[at - 1], stored[at] = stored[at], stored[at - 1]
+    else:
+        swap(rng, stored)
+
+
+def _nudge(rng, stored):
+    """A field one more or one less than it was."""
+    at = rng.randrange(len(stored))
+    kind, fields = stored[at][0], list(decode(stored[at]))
+    index = rng.randrange(len(fields))
+    fields[index] = (fields[index] + rng.choice((1, -1))) % 256**FIELDS[kind][index]
+    stored[at] = encode(kind, *fields)
+
+
+def _drop_skipped(rng, stored):
+    """A skipped release left out, which leaves the record of a shorter list; if there is none, any entry."""
+    skipped = [at for at, entry in enumerate(stored) if entry[0] == SKIPPED]
+    del stored[rng.choice(skipped or range(len(stored)))]
+
+
+def _drop_the_end(rng, stored):
+    del stored[rng.randrange(len(stored)):]
+
+
+def _skip_what_was_taken(rng, stored):
+    """The entry of a job, made that of a skipped release: its pair is still there."""
+    jobs = [at for at, entry in enumerate(stored) if entry[0] == JOB_DONE]
+    if jobs:
+        at = rng.choice(jobs)
+        stored[at] = encode(SKIPPED, *decode(stored[at])[:2])
+
+
+def _one_more_skipped(rng, stored):
+    """A skipped release where its time belongs: of a task and at a time that the record speaks of, or near them."""
+    at = rng.randint(0, len(stored))
+    time = written_at(stored[at - 1]) + rng.choice((0, 0, 1))
+    tasks = [decode(entry)[0] for entry in stored if entry[0] != INTERVAL]
+    task = rng.choice((rng.choice(tasks) if tasks else 0, rng.randrange(32), NO_TASK))
+    stored.insert(at, encode(SKIPPED, task, min(time, LAST_TICK)))
+
+
+def _from_another(rng, stored):
+    """The entries of another record behind these, or in front."""
+    other = true_parts(rng)[1]
+    stored[:] = rng.choice((stored + other, other + stored))
+
+
+def _moved(rng, stored):
+    """All times earlier or later by as much, so that the run stays one but its releases may be out of bounds."""
+    by = rng.choice((1, -1, LAST_RELEASE_TIME, LAST_RELEASE_TIME - rng.randint(0, 60), rng.randint(-100, 100)))
+    for at, entry in enumerate(stored):
+        kind, fields = entry[0], list(decode(entry))
+        for index in TIMES[kind]:
+            fields[index] = (fields[index] + by) % (LAST_TICK + 1)
+        stored[at] = encode(kind, *fields)
+
+
+STORED_DAMAGE = (drop, _drop_skipped, duplicate, _swap_within_an_instant, _swap_within_an_instant, swap, _nudge, _nudge, change_one_field,
+                 change_many_fields, _drop_the_end, _skip_what_was_taken, _one_more_skipped, _one_more_skipped, _from_another, _moved)
+
+
+def damage_stored(rng, stored):
+    """Damage that leaves whole entries of a record's kinds."""
+    if not stored:
+        stored.append(encode(SKIPPED, rng.randrange(32), rng.randint(0, 9)))
+        return
+    for _ in range(rng.choice((1, 1, 1, 1, 2))):
+        rng.choice(STORED_DAMAGE)(rng, stored)
+        if not stored:
+            return
+
+
+# Damaged records.
+
+def _entries_damaged(rng):
+    tasks, stored = true_parts(rng)
+    damage_stored(rng, stored)
+    return stored_bytes(tasks, stored)
+
+
+def _kind_or_bytes_damaged(rng):
+    """An entry of another kind, or bytes cut, changed, added or lost; often beside damage that is told only later."""
+    tasks, stored = true_parts(rng)
+    if rng.random() < 0.5:
+        damage_stored(rng, stored)
+    if stored and rng.random() < 0.3:
+        change_kind(rng, stored)
+    return two_parts(b"".join(tasks), damage_bytes(rng, b"".join(stored)))
+
+
+def _bytes_behind(rng):
+    """Bytes behind a record that is whole: a further entry, cut short, of another kind, or one too many."""
+    tasks, stored = true_parts(rng)
+    more = rng.choice((bytes([rng.choice((*RECORD_KINDS, 0, 1, 2, 19, 255))]), bytes(rng.randint(1, 30)), encode(SKIPPED, 0, 0),
+                       release_entry(0, 0), stored[-1][:-1] if stored else b"\x12"))
+    return stored_bytes(tasks, [*stored, more])
+
+
+def _another_table(rng):
+    """A true record beside other tasks: one field of one of them is different, one is left out, or all are."""
+    tasks, stored = true_parts(rng)
+    if rng.random() < 0.2:
+        return stored_bytes(random_tasks(rng), stored)
+    if len(tasks) > 1 and rng.random() < 0.3:
+        drop(rng, tasks)
+        return stored_bytes(tasks, stored)
+    at = rng.randrange(len(tasks))
+    number, priority, mark, *lengths = decode(tasks[at])
+    index = rng.randrange(5)
+    if index < 3:
+        lengths[index] += rng.choice((1, 1, 5))
+    tasks[at] = encode(TASK, number, (priority + 128) % 256 if index == 3 else priority, 1 - mark if index == 4 else mark, *lengths)
+    return stored_bytes(tasks, stored)
+
+
+def _made_by_calls(rng):
+    """What a list of calls left: a record that a list of releases yields, unless a mark was changed on the way."""
+    tasks = random_tasks(rng)
+    dispatcher, stored = Dispatcher.open(b"".join(tasks)), []
+    for call in random_calls(rng, tasks, rng.choice((5, 20, 60)), drained=True):
+        try:
+            answer = make_call(dispatcher, call)
+        except Refused:
+            continue
+        if call[0] == INSTANT:
+            stored += instant_entries(call[1], answer)
+    return stored_bytes(tasks, stored)
+
+
+def _too_many(rng):
+    """The record of as many releases as a file may have, or of more."""
+    tasks = random_tasks(rng)
+    stored = record_entries(tasks, crowded_releases(rng, tasks, MOST_RELEASES + rng.choice((0, 1, 1, 2, 100))))
+    if rng.random() < 0.3:
+        damage_stored(rng, stored)
+    return stored_bytes(tasks, stored)
+
+
+def _falling(rng):
+    """Skipped releases in falling order, behind a true record or alone."""
+    tasks, stored = true_parts(rng)
+    task = decode(rng.choice(tasks))[0]
+    times = range(rng.choice((3, 40, MOST_RELEASES, MOST_RELEASES + 1)), 0, -1)
+    stored = rng.choice((stored, [])) + [encode(SKIPPED, task, time) for time in times]
+    return stored_bytes(tasks, stored)
+
+
+def longer_than_kept(rng):
+    """Entries up to the end of what the reader keeps, or beyond, with the first that is malformed before it, at it, behind it or nowhere."""
+    tasks = random_tasks(rng)
+    some = b"".join(record_entries(tasks, crowded_releases(rng, tasks, 50)))
+    length = LONGEST_KEPT + rng.choice((rng.randint(-40, 40), rng.randint(0, 140_000), rng.randint(0, 140_000)))
+    data = bytearray(some * (length // len(some) + 1))
+    near = rng.choice((rng.randrange(LONGEST_KEPT), LONGEST_KEPT + rng.randint(-40, 40), rng.randint(LONGEST_KEPT, length + 1_000)))
+    places = [place for place, _, _ in entries(data, kinds=RECORD_KINDS)]
+    if rng.random() < 0.6:
+        data[min(places, key=lambda place: abs(place - near))] = rng.choice((0, 2, 19, 255))
+    return two_parts(b"".join(tasks), bytes(data[:rng.choice((length, max(place for place in places if place <= length)))]))
+
+
+def _tasks_damaged(rng):
+    """The task part is refused first, whatever the record is."""
+    tasks, stored = true_parts(rng)
+    if rng.random() < 0.3:
+        damage_stored(rng, stored)
+    damage_entries(rng, tasks)
+    return stored_bytes(tasks, stored)
+
+
+def _task_bytes_damaged(rng):
+    tasks, stored = true_parts(rng)
+    return two_parts(damage_bytes(rng, b"".join(tasks)), b"".join(stored))
+
+
+def _one_part_empty(rng):
+    tasks, stored = true_parts(rng)
+    return rng.choice((stored_bytes([], stored), stored_bytes(tasks, []), stored_bytes([], [])))
+
+
+def _length_wrong(rng):
+    return wrong_length(rng, random_stored(rng))
+
+
+# Each kind of damaged input, and how often it comes.
+DAMAGED = ((_entries_damaged, 48), (_kind_or_bytes_damaged, 12), (_bytes_behind, 5), (_another_table, 12), (_made_by_calls, 5),
+           (_too_many, 1), (_falling, 3), (longer_than_kept, 0.5), (_tasks_damaged, 8), (_task_bytes_damaged, 4), (_one_part_empty, 2),
+           (_length_wrong, 2), (too_short, 0.5))
+
+
+def damaged_stored(rng):
+    """A record or task part that is most likely refused; what is wrong may lie anywhere."""
+    kinds, weights = zip(*DAMAGED)
+    return rng.choices(kinds, weights=weights)[0](rng)
