@@ -17,10 +17,11 @@ use Rattle.record.specs.Writing.{Written, Wrote, written, outcome-number}
 use Rattle.record.proofs.Accepted.{Accepted, accepted}
 use Rattle.record.proofs.TasksAlone.{fair}
 use Rattle.reading.specs.Types.{Bool, true, false, List, [], _∷_, ℕ, Release, Refusal, NoRefusal, Alone, AtEntry, Outcome, RefusedInput}
-use Rattle.reading.specs.Told.{told, run-told, tally, sorted}
+use Rattle.reading.specs.Told.{told, sorted}
 use Rattle.reading.specs.Parts.{AllFit, AllEarly}
 use Rattle.reading.specs.Reading.{list-bytes, input-of, same-bytes, yielded-by, yields, turned-away, listed-if, read-told, read-opened, reading}
 use Rattle.reading.specs.Acceptance.{Yields, NoList, Accepts}
+use Rattle.reading.proofs.RunTold.{run-told, tally}
 use Rattle.reading.proofs.Noting.{same-releases}
 use Rattle.reading.proofs.Telling.{file-told}
 use Rattle.reading.proofs.Leaving.{leaves-one}

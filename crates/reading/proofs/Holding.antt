@@ -8,7 +8,7 @@ use native.Mathlib.Numerals.{add-one}
 use native.Mathlib.Omega.{arith}
 use borrow.Author.Tests.{eq-eqb, eqb-true, eqb-false}
 use lib.Dec.{eqb}
-use lib.ListN.{length, take, drop, getD, length-take, length-drop, take-append-drop, drop-of-length-le}
+use lib.ListN.{length, take, drop, getD, length-take, length-drop, take-append-drop}
 use lib.Seq.{length-take-le, take-suc, take-all, take-at, drop-at, take-append-add, take-append-le}
 use Rattle.sets.proofs.Laws.{by-test, left, right}
 use Rattle.words.proofs.Laws.{rest-whole}
@@ -16,7 +16,7 @@ use Rattle.rules.specs.Instant.{occurred}
 use Rattle.rules.specs.Registers.{Arrays, first-memory, state-in}
 use Rattle.rules.specs.Steps.{Empty}
 use Rattle.run.specs.Advance.{AdvancedTo}
-use Rattle.record.specs.Types.{Table, Registers, Advanced, Clock, At, TaskPart, NoRefusal, Release}
+use Rattle.record.specs.Types.{Table, Registers, Advanced, Clock, At, TaskPart, NoRefusal}
 use Rattle.run.specs.Listed.{releases-at}
 use Rattle.run.specs.Run.{released-at}
 use Rattle.record.specs.Cursor.{most, served-bytes, Room, start, run-bytes, budget-at}

@@ -27,8 +27,8 @@ use Rattle.record.proofs.Accepted.{Accepted, accepted}
 use Rattle.record.proofs.Outcomes
 use Rattle.record.proofs.TasksAlone.{unlike}
 use Rattle.reading.specs.Types.{Bool, true, false, cond, List, [], _∷_, _++_, ℕ, suc, _+_, _*_, Release, Refusal, NoRefusal, Alone, AtEntry}
-use Rattle.reading.specs.Told.{tally}
 use Rattle.reading.specs.Reading.{list-bytes, input-of}
+use Rattle.reading.proofs.RunTold.{tally}
 use Rattle.reading.proofs.Noting.{same-releases}
 use Rattle.reading.proofs.Ordering.{first-none, past-time}
 

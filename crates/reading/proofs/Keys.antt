@@ -9,7 +9,7 @@ use lib.Dec.{eqb}
 use Rattle.sets.specs.Sets.{member, insert, remove, bit, count}
 use Rattle.sets.proofs.Laws.{by-test, none, count-sum, count-none, inserted, removed}
 use Rattle.reading.specs.Types.{Bool, true, false, cond, List, [], _∷_, _++_, ℕ, zero, suc, _+_, Release}
-use Rattle.reading.specs.Told.{tally, skips-told}
+use Rattle.reading.proofs.RunTold.{tally, skips-told}
 
 -- ---- how many tasks pass a test
 

@@ -31,7 +31,7 @@ use Rattle.record.proofs.TasksAlone.{fair}
 use Rattle.record.proofs.Feeding.{Fit, state-is, step-is, fit-next}
 use Rattle.record.proofs.FileClaim.{fit, fed-file, demand-3-files}
 use Rattle.reading.specs.Types.{Release}
-use Rattle.reading.specs.Told.{done-told, skips-told, moment-told, run-told, tally}
+use Rattle.reading.proofs.RunTold.{done-told, skips-told, moment-told, run-told, tally}
 use Rattle.reading.proofs.Keys.{count-pairs, hits, among, among-none, among-removed, among-inserted, tally-append, skips-tally}
 
 -- ---- what is pending, with the times of the releases

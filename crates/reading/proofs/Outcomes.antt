@@ -16,7 +16,7 @@ use Rattle.reading.specs.Told.{told, sorted}
 use Rattle.reading.specs.Reading.{list-bytes, input-of, yields, listed-if, read-told, read-opened, reading}
 use Rattle.reading.specs.Acceptance.{Accepts}
 use Rattle.reading.specs.Sorting.{Sorts}
-use Rattle.reading.specs.Parts.{keys-of, releases-in, Notes, Collects, Rebuilt, Lent}
+use Rattle.reading.specs.Parts.{releases-in, Notes, Collects, Rebuilt, Lent}
 use Rattle.reading.proofs.Noting.{told-short}
 use Rattle.reading.proofs.Ordering.{keys-sorted}
 use Rattle.reading.proofs.Acceptance.{unlistable, accepts}

@@ -16,7 +16,8 @@ use Rattle.record.specs.Types.{Closing, Unclosed, BeforeReleases, AfterReleases
 use Rattle.record.specs.Fits.{DoneFits, ClosedFits, MomentsFit}
 use Rattle.record.proofs.FileFits.{file-fits}
 use Rattle.reading.specs.Types.{Bool, true, false, cond, List, [], _∷_, _++_, ℕ, zero, suc, _+_, Release, JobEntry, IntervalEntry, Done, NoJob, Job, Occurred, RecordEntry, JobDone, IntervalEnded}
-use Rattle.reading.specs.Told.{release-of, told-by, told-from, told, done-told, skips-told, moment-told, run-told}
+use Rattle.reading.specs.Told.{release-of, told-by, told-from, told}
+use Rattle.reading.proofs.RunTold.{done-told, skips-told, moment-told, run-told}
 use Rattle.reading.proofs.Noting.{in-front, front-more, front-all, told-none, told-one}
 
 -- ---- entries one after the other

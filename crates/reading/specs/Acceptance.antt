@@ -1,13 +1,13 @@
 -- Acceptance, said for itself. What stands between quotation marks is request 1/13 of document 02.
 use mathlib.Core.Path.{_≡_}
 use mathlib.Core.Logic.{_⊎_}
-use Prim.Native.Nat.{_<_, _^_}
-use lib.ListN.{length, take, drop, getD}
+use Prim.Native.Nat.{_<_}
+use lib.ListN.{take, drop, getD}
 use Rattle.table.specs.TaskPart.{task-part}
 use Rattle.rules.specs.Calls.{opening}
 use Rattle.run.specs.Files.{Releases, releases-of}
 use Rattle.run.specs.Run.{record-bytes, moments-of}
-use Rattle.record.specs.Writing.{Written, Wrote, written, file, outcome-number, outcome-value}
+use Rattle.record.specs.Writing.{Wrote, written, file, outcome-number, outcome-value}
 use Rattle.reading.specs.Types.{List, ℕ, Release, NoRefusal, Outcome, Recorded}
 use Rattle.reading.specs.Told.{told}
 use Rattle.reading.specs.Reading.{list-bytes, input-of, reading}

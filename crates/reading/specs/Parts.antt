@@ -3,7 +3,6 @@ use mathlib.Core.Path.{_≡_}
 use mathlib.Core.Logic.{_⊎_}
 use Prim.Native.Nat.{_+_, _*_, _/_, _%_, _^_, _≤_, _<_}
 use lib.ListN.{length, take, drop}
-use Rattle.entries.specs.Entries.{record-entry-size}
 use Rattle.rules.specs.Calls.{opening}
 use Rattle.run.specs.Files.{Releases, refusal-of}
 use Rattle.reading.specs.Types.{Bool, true, false, List, [], _∷_, _++_, ℕ, Release, NoRefusal, RecordEntry, MalformedRecord, JobDone, IntervalEnded, ReleaseSkipped}
