@@ -162,24 +162,29 @@ def judged(all_results, why):
     return ("reason", f"{said}: {why}") if why else ("error", f"{said}: NOT SEEN TO BE WRONG, and it has no line 'why:'")
 
 
-def measured(edit, workshop, bench):
-    """Build what an edit makes of the programs, and run those that it may change."""
+def measured(edit, workshop, bench, briefly=False):
+    """Build what an edit makes of the programs, and run those that it may change, or only as many as it takes to see that it is wrong."""
     files = edits.edited_files(edit, lambda file: workshop.original(edit.crate, file))
     workshop.put(edit.crate, files)
     try:
         driver = workshop.build()
     finally:
         workshop.put(edit.crate, {file: workshop.original(edit.crate, file) for file in files})
-    return [bench.run(driver, program) for program in workshop.reached(edit.crate)]
+    all_results = []
+    for program in workshop.reached(edit.crate):
+        all_results.append(bench.run(driver, program))
+        if briefly and all_results[-1].differ:
+            break
+    return all_results
 
 
-def of_edit(crate, label, text, workshop, bench):
+def of_edit(crate, label, text, workshop, bench, briefly=False):
     """The kind of an edit and what is said of it."""
     try:
         edit = edits.parse(crate, label, text)
         if edits.is_statement(edit, lambda file: workshop.original(crate, file)):
             return "statement", "a statement, and no program"
-        return judged(measured(edit, workshop, bench), edit.why)
+        return judged(measured(edit, workshop, bench, briefly), edit.why)
     except edits.BadEdit as bad:
         return "error", f"BAD EDIT: {bad}"
     except NotBuilt as bad:
@@ -202,12 +207,12 @@ def chosen_edits(names):
     return list(edits.find(ROOT / "crates", names))
 
 
-def measure_all(found, workshop, bench):
+def measure_all(found, workshop, bench, briefly):
     """Print a line for each edit and a summary, and answer whether all is as it should be."""
     width = max((len(f"{crate}/{label}") for crate, label, _ in found), default=0)
     kinds = []
     for crate, label, text in found:
-        kind, said = of_edit(crate, label, text, workshop, bench)
+        kind, said = of_edit(crate, label, text, workshop, bench, briefly)
         kinds.append(kind)
         print(f"{f'{crate}/{label}':{width}}  {said}", flush=True)
     counts = {kind: kinds.count(kind) for kind in ("differs", "reason", "statement", "error")}
@@ -219,7 +224,7 @@ def measure_all(found, workshop, bench):
 def main(arguments=None):
     parser = argparse.ArgumentParser(description="Measure whether the wrong programs of the must-fail edits are wrong.")
     parser.add_argument("names", nargs="*", metavar="NAME", help="a crate, or an edit as CRATE/LABEL; all if there is none")
-    parser.add_argument("--gate", action="store_true", help="those that the gate tries")
+    parser.add_argument("--gate", action="store_true", help="those that the gate tries, each until a program shows that it is wrong")
     parser.add_argument("--count", type=int, default=300, help="how many random and how many damaged inputs each program gets")
     chosen = parser.parse_args(arguments)
     found = list(edits.find(ROOT / "crates", folders=("must-fail",))) if chosen.gate else chosen_edits(chosen.names)
@@ -229,7 +234,7 @@ def main(arguments=None):
         try:
             workshop = Workshop(ROOT, pathlib.Path(folder) / "sources")
             bench = Bench(pathlib.Path(folder) / "runs", chosen.count)
-            good = as_they_stand(workshop, bench) and measure_all(found, workshop, bench)
+            good = as_they_stand(workshop, bench) and measure_all(found, workshop, bench, chosen.gate)
         except NotBuilt as bad:
             sys.exit(f"the programs cannot be built: {bad}")
     return 0 if good else 1
