@@ -70,8 +70,8 @@ fn read_record(
 {
     let found = collect(stored, keys);
     let noted = found.noted;
-    let refusal = found.refusal;
-    match refusal {
+    let fault = found.refusal;
+    match fault {
         Refusal::NoRefusal => {
             if !noted.possible {
                 return Outcome::RefusedInput(Refusal::Alone(18));
@@ -80,8 +80,8 @@ fn read_record(
             sort(&mut keys[..count]);
             read_listed(tasks, &keys[..count], stored, input, out)
         }
-        Refusal::Alone(_) => Outcome::RefusedInput(refusal),
-        Refusal::AtEntry(_, _) => Outcome::RefusedInput(refusal),
+        Refusal::Alone(_) => Outcome::RefusedInput(fault),
+        Refusal::AtEntry(_, _) => Outcome::RefusedInput(fault),
     }
 }
 
