@@ -1,9 +1,12 @@
-//! Times the proved functions, that of records and that which reads them, against plain Rust, in one run: for each input the ratio proved/plain of
-//! the times, its median and spread over the repetitions. Both must give the same number, value and bytes.
+//! Times the proved functions against plain Rust, in one run: that of records, that which reads them, and an instant of a dispatcher that is kept.
+//! For each input the ratio proved/plain of the times, its median and spread over the repetitions. Both must give the same number, value and
+//! bytes, and at each instant the same answer.
 
+#[allow(dead_code, unused_imports)] // of the wrapper only what is timed is used
 #[path = "../link/rust/gateway.rs"]
 mod gateway;
 mod inputs;
+mod instants;
 mod plain;
 
 use gateway::Outcome;
@@ -42,7 +45,7 @@ fn number_and_value(outcome: Outcome) -> (u8, usize) {
     match outcome {
         Outcome::Written(length) => (0, length),
         Outcome::TooShort(needed) => (13, needed),
-        Outcome::Refused { number, place } => (number, place),
+        Outcome::Refused(refusal) => (refusal.number, refusal.place.unwrap_or(0)),
     }
 }
 
@@ -69,31 +72,35 @@ impl Work<'_> {
         self.compare(needed);
         self.compare(needed.saturating_sub(1));
 
-        let once = timed(4, || (self.plain)(&mut out));
-        let turns = (SLICE.as_secs_f64() / once).ceil().max(1.0) as u32;
-        let (mut ratios, mut slow, mut fast) = (Vec::new(), Vec::new(), Vec::new());
-        for _ in 0..REPETITIONS {
-            let p = timed(turns, || (self.proved)(&mut out));
-            let q = timed(turns, || (self.plain)(&mut out));
-            ratios.push(p / q);
-            slow.push(p);
-            fast.push(q);
-        }
-        let times = Times { proved: median(&mut slow), plain: median(&mut fast), ratio: median(&mut ratios) };
-        let each = |seconds: f64| seconds * 1e9 / instants.max(1) as f64;
-        println!(
-            "{:36} {instants:6} {:9.2} {:9.2} {:7.1} {:7.1} {:6.2} {:6.2} .. {:.2}",
-            self.name,
-            times.proved * 1e6,
-            times.plain * 1e6,
-            each(times.proved),
-            each(times.plain),
-            times.ratio,
-            ratios[0],
-            ratios[REPETITIONS - 1],
-        );
-        times
+        alternate(&self.name, instants, &mut out[..], |out| (self.proved)(out), |out| (self.plain)(out))
     }
+}
+
+/// The two timed one after the other, again and again, on what both are lent; printed as one row.
+fn alternate<S: ?Sized, T, U>(name: &str, instants: u64, lent: &mut S, proved: impl Fn(&mut S) -> T, plain: impl Fn(&mut S) -> U) -> Times {
+    let once = timed(4, || plain(lent));
+    let turns = (SLICE.as_secs_f64() / once).ceil().max(1.0) as u32;
+    let (mut ratios, mut slow, mut fast) = (Vec::new(), Vec::new(), Vec::new());
+    for _ in 0..REPETITIONS {
+        let p = timed(turns, || proved(lent));
+        let q = timed(turns, || plain(lent));
+        ratios.push(p / q);
+        slow.push(p);
+        fast.push(q);
+    }
+    let times = Times { proved: median(&mut slow), plain: median(&mut fast), ratio: median(&mut ratios) };
+    let each = |seconds: f64| seconds * 1e9 / instants.max(1) as f64;
+    println!(
+        "{name:36} {instants:6} {:9.2} {:9.2} {:7.1} {:7.1} {:6.2} {:6.2} .. {:.2}",
+        times.proved * 1e6,
+        times.plain * 1e6,
+        each(times.proved),
+        each(times.plain),
+        times.ratio,
+        ratios[0],
+        ratios[REPETITIONS - 1],
+    );
+    times
 }
 
 /// Medians: of both functions' seconds, and of their ratio.
@@ -180,9 +187,36 @@ fn hostile_records() -> f64 {
     worst
 }
 
+/// Instants of a dispatcher that is kept, with nothing around them; the largest ratio.
+fn kept_instants() -> f64 {
+    heading("an instant by itself");
+    let mut worst: f64 = 0.0;
+    for tasks in [4, 32] {
+        for (name, input) in [("with releases", inputs::dense(tasks)), ("mostly without", inputs::sparse(tasks))] {
+            worst = worst.max(measure_instants(&format!("kept, {name}, {tasks} tasks"), &input, tasks).ratio);
+        }
+    }
+    worst
+}
+
+fn measure_instants(name: &str, input: &[u8], tasks: u8) -> Times {
+    let made = instants::calls(name, input, usize::from(tasks));
+    let opened = gateway::Dispatcher::open(&made.entries).expect("it was opened before");
+    let plain_opened = plain::Dispatcher::open(&made.entries);
+    alternate(
+        name,
+        made.calls.len() as u64,
+        &mut (gateway::Told::default(), plain::Told::default()),
+        |told| instants::proved(&opened, black_box(&made.calls), &mut told.0),
+        |told| instants::plain(&plain_opened, black_box(&made.calls), &mut told.1),
+    )
+}
+
 fn main() {
     let worst = records().max(true_records());
     let hostile = hostile_records();
+    let by_itself = kept_instants();
     println!("the largest median ratio is {worst:.2}");
     println!("a hostile record takes at most {hostile:.2} times a true one of its length");
+    println!("the largest median ratio of an instant by itself is {by_itself:.2}");
 }

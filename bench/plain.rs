@@ -19,6 +19,7 @@ enum Unit {
     CopyingOut,
 }
 
+#[derive(Clone)]
 struct State {
     priority: [u8; 32],
     copy_in: [u32; 32],
@@ -51,10 +52,19 @@ struct State {
     instants: u64,
 }
 
+/// What is told of what occurs. An interval ends before the releases of its instant or after them.
+trait Events {
+    fn job(&mut self, task: u8, release: u64, start: u64, completion: u64, blocked: u8);
+    fn interval(&mut self, s: &State, end: u64, promoted: u8, after: bool);
+    fn skipped(&mut self, tasks: u32, time: u64);
+}
+
 /// What becomes of a run's entries.
 trait Entries {
     fn put<const N: usize>(&mut self, bytes: [u8; N]);
+}
 
+impl<T: Entries> Events for T {
     #[inline]
     fn job(&mut self, task: u8, release: u64, start: u64, completion: u64, blocked: u8) {
         let mut e = [16; JOB];
@@ -67,7 +77,7 @@ trait Entries {
     }
 
     #[inline]
-    fn interval(&mut self, s: &State, end: u64, promoted: u8) {
+    fn interval(&mut self, s: &State, end: u64, promoted: u8, _after: bool) {
         let mut e = [17; INTERVAL];
         e[1..9].copy_from_slice(&s.begin.to_le_bytes());
         e[9..17].copy_from_slice(&end.to_le_bytes());
@@ -82,8 +92,12 @@ trait Entries {
     }
 
     #[inline]
-    fn skipped(&mut self, task: u8, time: u64) {
-        self.put(timed(18, task, time));
+    fn skipped(&mut self, tasks: u32, time: u64) {
+        let mut left = tasks;
+        while left != 0 {
+            self.put(timed(18, left.trailing_zeros() as u8, time));
+            left &= left - 1;
+        }
     }
 }
 
@@ -174,7 +188,7 @@ impl State {
     }
 
     #[inline]
-    fn end_interval(&mut self, now: u64, w: &mut impl Entries) {
+    fn end_interval(&mut self, now: u64, after: bool, w: &mut impl Events) {
         self.open = false;
         if self.executed != NONE {
             let limit = self.priority[self.executed as usize];
@@ -203,11 +217,11 @@ impl State {
         }
         self.candidates = 0;
         let promoted = self.promoted;
-        w.interval(self, now, promoted);
+        w.interval(self, now, promoted, after);
     }
 
     #[inline]
-    fn instant(&mut self, now: u64, released: u32, w: &mut impl Entries) {
+    fn instant(&mut self, now: u64, released: u32, w: &mut impl Events) {
         self.instants += 1;
         // a
         if self.open {
@@ -234,15 +248,11 @@ impl State {
         }
         // b
         if self.is_over() {
-            self.end_interval(now, w);
+            self.end_interval(now, false, w);
         }
         // c
         let new = released & !self.pending;
-        let mut skipped = released & self.pending;
-        while skipped != 0 {
-            w.skipped(skipped.trailing_zeros() as u8, now);
-            skipped &= skipped - 1;
-        }
+        w.skipped(released & self.pending, now);
         self.pending |= new;
         self.ready |= new;
         self.candidates |= new & self.marked;
@@ -269,7 +279,7 @@ impl State {
             }
             // f
             if self.is_over() {
-                self.end_interval(now, w);
+                self.end_interval(now, true, w);
             }
         }
         // g
@@ -562,4 +572,76 @@ pub fn read(tasks: &[u8], record: &[u8], out: &mut [u8]) -> (u8, usize, u64) {
         entry.copy_from_slice(&timed(2, (key & 31) as u8, key >> 5));
     }
     (0, needed, state.instants)
+}
+
+/// What an instant tells, as the proved function does.
+#[derive(Clone, Copy, Default, PartialEq, Debug)]
+pub struct Told {
+    /// done, closed and is_due
+    pub flags: [u8; 3],
+    pub skipped: u32,
+    pub due: u64,
+    /// release, execution start and completion; task and blocked intervals
+    pub job: ([u64; 3], [u8; 2]),
+    /// begin and end; the seven bytes of kind 17
+    pub interval: ([u64; 2], [u8; 7]),
+}
+
+impl Events for Told {
+    #[inline]
+    fn job(&mut self, task: u8, release: u64, start: u64, completion: u64, blocked: u8) {
+        self.flags[0] = 1;
+        self.job = ([release, start, completion], [task, blocked]);
+    }
+
+    #[inline]
+    fn interval(&mut self, s: &State, end: u64, promoted: u8, after: bool) {
+        self.flags[1] = if after { 2 } else { 1 };
+        self.interval = ([s.begin, end], [s.half, s.executed, s.work, s.copied_out, s.chosen, s.fate, promoted]);
+    }
+
+    #[inline]
+    fn skipped(&mut self, tasks: u32, _time: u64) {
+        self.skipped = tasks;
+    }
+}
+
+/// A dispatcher that is advanced in place.
+#[derive(Clone)]
+pub struct Dispatcher {
+    state: State,
+    last: Option<u64>,
+}
+
+impl Dispatcher {
+    /// From task entries that are in order.
+    pub fn open(entries: &[u8]) -> Dispatcher {
+        let mut state = opened();
+        assert_eq!(read_table(entries, &mut state), Ok(entries.len()));
+        Dispatcher { state, last: None }
+    }
+
+    /// A function of its own, as a library's is for its caller.
+    #[inline(never)]
+    pub fn instant(&mut self, time: u64, set: u32, told: &mut Told) -> u8 {
+        if set & !self.state.present != 0 {
+            return 16;
+        }
+        if set != 0 && time > LAST_TIME {
+            return 10;
+        }
+        if self.last.is_some_and(|last| time <= last) {
+            return 14;
+        }
+        if self.state.due() < time {
+            return 15;
+        }
+        self.last = Some(time);
+        told.flags[0] = 0;
+        told.flags[1] = 0;
+        self.state.instant(time, set, told);
+        told.due = self.state.due();
+        told.flags[2] = u8::from(told.due != u64::MAX);
+        0
+    }
 }

@@ -1,8 +1,12 @@
 #!/usr/bin/env bash
-# Build the library and the C and the Rust example over it, into target/link.
+# Build the library, and the C programs and the Rust package with its examples over it, into target/link.
 set -eu
 cd "$(dirname "$0")/.."
 link/library.sh
 mkdir -p target/link
-cc -std=c11 -O2 -Wall -Wextra -Werror -o target/link/example_c link/example.c target/staticlib/libgateway.a
-rustc --edition 2024 -C opt-level=3 -D warnings -L target/staticlib -o target/link/example_rust link/rust/example.rs
+for name in example driver session any_bytes; do
+    cc -std=c11 -O2 -Wall -Wextra -Werror -o "target/link/${name}_c" "link/$name.c" target/staticlib/libgateway.a
+done
+cargo build --quiet --offline --release --examples --manifest-path link/rust/Cargo.toml --target-dir target/cargo
+cp target/cargo/release/examples/record target/link/example_rust
+cp target/cargo/release/examples/driver target/link/driver_rust

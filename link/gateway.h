@@ -1,14 +1,5 @@
-/* The functions of the gateway's dispatcher that are exported, for C. Link with libgateway.a.
- *
- * Each writes what was asked for into the front of `out`.
- *
- * It answers 0 where that was written; *told is then its length, and what stands behind it in `out` is as it was.
- * It answers 13 where `out` is too short; *told is then the length needed.
- * It answers another number where what it was handed is refused; *told is then the place of the refused entry, or 0 where
- * the refusal has no place. The README lists the numbers. On a refusal, 13 among them, `out` is as it was.
- *
- * Nothing is asked of the bytes. Each pointer points to as many bytes as the length behind it says, and `told` to a size_t;
- * none is null, not even at length 0, and neither `out` nor `told` overlaps another of them. */
+/* The gateway's dispatcher for C: the record of a whole file, the reading of a stored record, and a dispatcher by instants. Link with
+ * libgateway.a. */
 #ifndef GATEWAY_H
 #define GATEWAY_H
 
@@ -19,6 +10,18 @@
 extern "C" {
 #endif
 
+/* ---- The record of a whole file, and the reading of one.
+ *
+ * Each writes what was asked for into the front of `out`.
+ *
+ * It answers 0 where that was written; *told is then its length, and what stands behind it in `out` is as it was.
+ * It answers 13 where `out` is too short; *told is then the length needed.
+ * It answers another number where what it was handed is refused; *told is then the place of the refused entry, or 0 where
+ * the refusal has no place. The README lists the numbers. On a refusal, 13 among them, `out` is as it was.
+ *
+ * Nothing is asked of the bytes. Each pointer points to as many bytes as the length behind it says, and `told` to a size_t;
+ * none is null, not even at length 0, and neither `out` nor `told` overlaps another of them. */
+
 /* The record of an input: what happens as its releases are served, entry by entry. */
 uint8_t gateway_record(const uint8_t *input, size_t input_length, uint8_t *out, size_t out_length, size_t *told);
 
@@ -27,6 +30,80 @@ uint8_t gateway_record(const uint8_t *input, size_t input_length, uint8_t *out, 
  * `tasks`, that of an entry of the record from the start of `record`. A list takes at most 40,960 bytes. */
 uint8_t gateway_read(const uint8_t *tasks, size_t tasks_length, const uint8_t *record, size_t record_length, uint8_t *out,
                      size_t out_length, size_t *told);
+
+/* ---- The dispatcher by instants: one for each core.
+ *
+ * A dispatcher is plain memory with no pointer in it: it is kept, copied and moved freely. Nothing is asked of what it holds: memory that
+ * no call made gets an answer too. Each call answers 0, or the number of a refusal (the README lists them); one that is refused leaves
+ * *d and *answer as they were. The pointers are not null, and what they point to does not overlap. Calls on one dispatcher come one after
+ * the other; calls on different ones may run at once. */
+
+#define GATEWAY_DISPATCHER_WORDS 100
+
+typedef struct {
+    uint64_t words[GATEWAY_DISPATCHER_WORDS];
+} gateway_dispatcher;
+
+typedef struct {
+    uint64_t release, start, completion;
+    uint8_t task, blocked;
+} gateway_job;
+
+/* 255 is no task: of `task`, the processor's, `copied_out`, `chosen` and `promoted`. `work` is 0 idle, 1 execute, 2 copy in and execute;
+ * `fate`, that of the copy-in, 0 none, 1 done, 2 cancelled. */
+typedef struct {
+    uint64_t begin, end;
+    uint8_t half, task, work, copied_out, chosen, fate, promoted;
+} gateway_interval;
+
+/* What an instant tells. Where `done`, `closed` or `is_due` is 0, `job`, `interval` or `due` is as it was. */
+typedef struct {
+    uint64_t due;
+    uint32_t skipped; /* the set of tasks whose release was skipped: bit n stands for task n */
+    uint8_t done;     /* 1: job is filled in */
+    uint8_t closed;   /* 0 none; interval is filled in: 1 it ended before the releases, 2 after them */
+    uint8_t is_due;   /* 1: due is the next due time */
+    gateway_job job;
+    gateway_interval interval;
+} gateway_answer;
+
+/* What is exported lends each array of a dispatcher and of an answer by itself. The functions below find them. */
+uint8_t gateway_open_parts(const uint8_t *entries, size_t length, uint64_t *times, uint32_t *sets, uint8_t *codes, uint8_t *priority,
+                           uint32_t *columns, uint64_t *release, uint8_t *blocked, size_t *place);
+uint8_t gateway_instant_parts(uint64_t *times, uint32_t *sets, uint8_t *codes, const uint8_t *priority, const uint32_t *columns,
+                              uint64_t *release, uint8_t *blocked, uint64_t time, uint32_t set, uint8_t *flags, uint32_t *skipped,
+                              uint64_t *due, uint64_t *job_times, uint8_t *job_bytes, uint64_t *interval_times, uint8_t *interval_bytes);
+uint8_t gateway_mark_parts(uint32_t *sets, uint8_t task, uint8_t mark);
+
+/* Where they stand: 7 times, 5 sets, 9 codes, then of each task the priority, the blocked intervals, the release and the three lengths. */
+#define GATEWAY_TIMES(d) ((d)->words)
+#define GATEWAY_SETS(d) ((uint32_t *)((d)->words + 7))
+#define GATEWAY_CODES(d) ((uint8_t *)((d)->words + 10))
+#define GATEWAY_PRIORITY(d) ((uint8_t *)((d)->words + 12))
+#define GATEWAY_BLOCKED(d) ((uint8_t *)((d)->words + 16))
+#define GATEWAY_RELEASE(d) ((d)->words + 20)
+#define GATEWAY_COLUMNS(d) ((uint32_t *)((d)->words + 52))
+
+/* Opens a dispatcher from `length` bytes of task entries. *place is the place of the entry that is refused, and 0 where there is none. */
+static inline uint8_t gateway_open(const uint8_t *entries, size_t length, gateway_dispatcher *d, size_t *place)
+{
+    return gateway_open_parts(entries, length, GATEWAY_TIMES(d), GATEWAY_SETS(d), GATEWAY_CODES(d), GATEWAY_PRIORITY(d),
+                              GATEWAY_COLUMNS(d), GATEWAY_RELEASE(d), GATEWAY_BLOCKED(d), place);
+}
+
+/* An instant: the releases of the set at the time. It is to be called at every release and at every due time: 15 otherwise. */
+static inline uint8_t gateway_instant(gateway_dispatcher *d, uint64_t time, uint32_t set, gateway_answer *answer)
+{
+    return gateway_instant_parts(GATEWAY_TIMES(d), GATEWAY_SETS(d), GATEWAY_CODES(d), GATEWAY_PRIORITY(d), GATEWAY_COLUMNS(d),
+                                 GATEWAY_RELEASE(d), GATEWAY_BLOCKED(d), time, set, &answer->done, &answer->skipped, &answer->due,
+                                 &answer->job.release, &answer->job.task, &answer->interval.begin, &answer->interval.half);
+}
+
+/* Changes a task's mark from now on, while it has no pending job: 1 latency-sensitive, 0 not. */
+static inline uint8_t gateway_mark(gateway_dispatcher *d, uint8_t task, uint8_t mark)
+{
+    return gateway_mark_parts(GATEWAY_SETS(d), task, mark);
+}
 
 #ifdef __cplusplus
 }

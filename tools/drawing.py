@@ -2,9 +2,10 @@
 
 From the top: title, legend, the releases, a head for each interval, the processor's row, the promotions, the engine's row, the jobs
 done, the axis. Each thing drawn says in data attributes what it is and when, and has a title, which viewers show on pointing at it:
-where there is no room for a label, nothing is lost.
+where there is no room for a label, nothing is lost. Where no interval is open for long, the axis breaks: the time between is not drawn to scale.
 """
 
+from bisect import bisect_right
 from collections import defaultdict
 from xml.etree import ElementTree
 
@@ -18,6 +19,8 @@ LEAST_WIDTH, MOST_WIDTH = 862, 20_000
 MOST_LEGEND = 1_600
 SHORTEST_PHASE = 44    # what the shortest phase gets, where the limits below allow it
 AVERAGE_INTERVAL = 160  # intervals get no more than this on average, so that one short phase does not stretch a whole run
+LONGEST_IDLE = 320      # idle time that would take more than this is left out
+BREAK = 100             # what stands in its place, or less where there are many
 
 # Heights in pixels.
 HEAD, ROW, BETWEEN, DONE, AXIS = 32, 54, 22, 30, 34
@@ -35,7 +38,7 @@ class Layout:
         times = [release.time for release in run.releases] + [job.completion for job in run.completions]
         times += [time for band in run.bands for time in (band.begin, band.end)]
         self.start, self.end = min(times, default=0), max(times, default=1)
-        self.scale = scale(run, max(1, self.end - self.start))
+        self.place(run)
         self.right = self.x(self.end)
         highest = max((len(at_once) for at_once in by_time(run.releases).values()), default=1)
         self.heads = top + STACKED * min(MOST_STACKED, highest) + 22
@@ -46,19 +49,38 @@ class Layout:
         self.axis = self.done + DONE
         self.bottom = self.axis + AXIS
 
+    def place(self, run):
+        """The spans of time that are drawn, the pixels for each tick and where each span begins."""
+        wanted = scale(run)
+        self.breaks = [(end, begin) for end, begin in idle(run) if (begin - end) * wanted > LONGEST_IDLE]
+        edges = [self.start, *(time for gap in self.breaks for time in gap), max(self.end, self.start + 1)]
+        self.spans = list(zip(edges[::2], edges[1::2]))
+        room = MOST_WIDTH - LEFT - RIGHT
+        self.gap = min(BREAK, room / 2 / max(1, len(self.breaks)))
+        ticks = sum(end - begin for begin, end in self.spans)
+        self.scale = min(wanted, (room - self.gap * len(self.breaks)) / max(1, ticks))
+        self.lefts = [LEFT]
+        for begin, end in self.spans[:-1]:
+            self.lefts.append(self.lefts[-1] + (end - begin) * self.scale + self.gap)
+
     def x(self, time):
-        return LEFT + (time - self.start) * self.scale
+        span = max(0, bisect_right(self.spans, (time, 2 * self.end + 2)) - 1)
+        return self.lefts[span] + (time - self.spans[span][0]) * self.scale
 
     def width(self, begin, end):
         return (end - begin) * self.scale
 
 
-def scale(run, ticks):
-    """Pixels for each tick."""
+def scale(run):
+    """Pixels for each tick, as far as the whole width allows."""
     shortest = min((bar.end - bar.begin for bar in run.bars), default=1)
     busy = sum(band.end - band.begin for band in run.bands) or 1
-    return min(SHORTEST_PHASE / shortest, AVERAGE_INTERVAL * max(1, len(run.bands)) / busy,
-               (MOST_WIDTH - LEFT - RIGHT) / ticks)
+    return min(SHORTEST_PHASE / shortest, AVERAGE_INTERVAL * max(1, len(run.bands)) / busy)
+
+
+def idle(run):
+    """The times between intervals: from the end of one to the begin of the next."""
+    return [(one.end, other.begin) for one, other in zip(run.bands, run.bands[1:]) if one.end < other.begin]
 
 
 def by_time(releases):
@@ -189,17 +211,45 @@ def tick_step(per_tick, last):
         step *= 10
 
 
+def axis_numbers(layout, step):
+    """The ticks that have their number: the multiples of a step, and the begin of each span behind a break, as far as there is room."""
+    found, free = [], 0
+    half = width_of(str(layout.end)) / 2 + 4
+    for place, (begin, end) in enumerate(layout.spans):
+        for time in ([begin] if place else []) + list(range(-(-(begin + bool(place)) // step) * step, min(end, layout.end) + 1, step)):
+            if layout.x(time) - half >= free or not place:
+                found.append(time)
+                free = layout.x(time) + half
+    return set(found)
+
+
 def draw_axis(parent, layout):
     y, step = layout.axis, tick_step(layout.scale, layout.end)
     axis = add(parent, "g", data_kind="axis", data_begin=str(layout.start), data_end=str(layout.end))
-    add(axis, "path", class_="line", d=f"M{LEFT} {shapes.places(y)}H{shapes.places(layout.right)}")
+    lines = ((layout.x(begin), layout.x(min(end, layout.end))) for begin, end in layout.spans)
+    add(axis, "path", class_="line", d="".join(f"M{shapes.places(left)} {shapes.places(y)}H{shapes.places(right)}" for left, right in lines))
     words(axis, LEFT - 12, y + 4, "ticks", "end")
     fine = next(step // parts for parts in (10, 5, 2, 1) if step % parts == 0 and step // parts * layout.scale >= 6)
-    for time in range(-(-layout.start // fine) * fine, layout.end + 1, fine):
-        whole = time % step == 0
-        add(axis, "path", class_="line", d=f"M{shapes.places(layout.x(time))} {shapes.places(y)}v{6 if whole else 3}")
-        if whole:
-            add(axis, "text", str(time), x=layout.x(time), y=y + 19, class_="middle", data_kind="tick", data_time=str(time))
+    numbers = axis_numbers(layout, step)
+    for begin, end in layout.spans:
+        marks = set(range(-(-begin // fine) * fine, min(end, layout.end) + 1, fine))
+        for time in sorted(marks | {number for number in numbers if begin <= number <= end}):
+            whole = time in numbers
+            add(axis, "path", class_="line", d=f"M{shapes.places(layout.x(time))} {shapes.places(y)}v{6 if whole else 3}")
+            if whole:
+                add(axis, "text", str(time), x=layout.x(time), y=y + 19, class_="middle", data_kind="tick", data_time=str(time))
+
+
+def draw_breaks(parent, layout):
+    """A zigzag where the axis breaks, with how many ticks it passes over."""
+    for end, begin in layout.breaks:
+        left = layout.x(end)
+        mark = group(parent, f"idle from {end} to {begin}, {begin - end} ticks", kind="break", begin=end, end=begin)
+        middle = left + layout.gap / 2
+        shapes.axis_break(mark, middle, layout.axis, layout.gap)
+        text = longest_fitting((f"{begin - end} ticks", "idle"), layout.gap - 6, 9)
+        if text:
+            words(mark, middle, layout.axis - 8, text, "middle small")
 
 
 def draw_row_names(parent, layout):
@@ -245,11 +295,13 @@ def draw(run, title):
     for bar in run.bars:  # after all bars, since the next interval's may begin where a copy-in was cancelled
         if bar.cancelled_by is not None:
             draw_cancellation(root, layout, bar)
+    bands = {band.number: band for band in run.bands}
     for promotion in run.promotions:
-        draw_promotion(root, layout, promotion, run.bands[promotion.interval - 1])
+        draw_promotion(root, layout, promotion, bands[promotion.interval])
     draw_releases(root, layout, run.releases)
     draw_completions(root, layout, run.completions)
     draw_axis(root, layout)
+    draw_breaks(root, layout)
     for element in (root, paper):
         element.set("width", shapes.places(width))
         element.set("height", shapes.places(layout.bottom))

@@ -5,7 +5,7 @@
  * `gateway`, `session`, `reader` and `direct` read standard input and write standard output. `exports` calls a function for C: of its input the first byte
  * says which, 0 the record function and 1 that which reads a record, the next 8 are the length of the slice that is lent, and the rest is what
  * the function gets, of two slices the first behind its length in 4 bytes. What it answers, what it tells and the slice with some bytes behind it are
- * written. */
+ * written. `instants` is link/session.c, over the dispatcher by instants. */
 #define _POSIX_C_SOURCE 200809L
 #include "gateway.h"
 
@@ -25,6 +25,7 @@ extern void gateway_main(void);
 extern void session_main(void);
 extern void reader_main(void);
 extern void direct_main(void);
+extern int instants_main(void);
 
 static void fault(const char *what)
 {
@@ -74,10 +75,17 @@ static void exports_main(void)
     put(out, room + BEHIND);
 }
 
+static void instants_start(void)
+{
+    instants_main();
+    fflush(stdout);
+}
+
 static const struct {
     const char *name;
     void (*start)(void);
-} programs[] = {{"gateway", gateway_main}, {"session", session_main}, {"reader", reader_main}, {"exports", exports_main}, {"direct", direct_main}};
+} programs[] = {{"gateway", gateway_main}, {"session", session_main}, {"reader", reader_main},
+                {"exports", exports_main}, {"direct", direct_main},   {"instants", instants_start}};
 
 static void redirect(const char *folder, long number, int flags, int to)
 {

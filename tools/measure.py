@@ -22,7 +22,7 @@ from sim.entries import Refused, parts_of, release_entry
 from sim.files import record
 from sim.reading import read
 from tools import direct, edits, limits
-from tools.unproved import PROGRAMS, NotBuilt, Workshop
+from tools.unproved import RUNS, NotBuilt, Workshop
 
 ROOT = pathlib.Path(__file__).resolve().parents[1]
 
@@ -78,7 +78,9 @@ def exported(files, stored):
 
 
 # The kind of input that a program has, and its inputs at the limits.
-KINDS = {"gateway": ("file", limits.files), "session": ("session", limits.sessions), "reader": ("read", limits.stored_records)}
+KINDS = {
+    "gateway": ("file", limits.files), "session": ("session", limits.sessions), "instants": ("session", limits.sessions),
+    "reader": ("read", limits.stored_records)}
 
 
 @functools.cache
@@ -127,7 +129,7 @@ class Bench:
     def __init__(self, folder, count):
         self.folder, self.expected = folder, {}
         (folder / "outputs").mkdir()
-        for program in PROGRAMS:
+        for program in RUNS:
             (folder / program).mkdir()
             found = cases(program, count)
             for number, (data, _) in enumerate(found):
@@ -194,7 +196,7 @@ def of_edit(crate, label, text, workshop, bench, briefly=False):
 def as_they_stand(workshop, bench):
     """Hold the programs as they stand to the simulator: what differs there is no edit's doing."""
     driver = workshop.build()
-    all_results = [bench.run(driver, program) for program in PROGRAMS]
+    all_results = [bench.run(driver, program) for program in RUNS]
     print(f"the programs as they stand: {summed(all_results).strip()}", flush=True)
     return all(results.differ == 0 for results in all_results)
 

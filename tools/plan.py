@@ -1,4 +1,4 @@
-"""Turn a plan file into the bytes of an input: python3 tools/plan.py PLAN > INPUT
+"""Turn a plan file into the bytes of an input.
 
 A plan file has a line for each entry, in the order of the input:
 
@@ -9,7 +9,15 @@ Blank lines and what stands behind a # do not count. A line that is no entry, or
 with its line number. Whether the entries make an admissible input is for the gateway to say: it refuses by number and place.
 """
 
+import argparse
+import io
+import os
 import sys
+
+if __name__ == "__main__":  # as a program it is found by its path, and the packages beside it are not
+    sys.path.insert(0, os.path.dirname(os.path.dirname(os.path.abspath(__file__))))
+
+from tools import output
 
 # Each entry's kind byte, and the name and width in bytes of each field of its line.
 TASK = (1, (("number", 1), ("priority", 1), ("mark", 1), ("L", 4), ("C", 4), ("U", 4)))
@@ -76,18 +84,48 @@ def line_of(lines, place):
     raise ValueError(f"no entry begins at {place}")
 
 
-def main():
-    if len(sys.argv) != 2:
-        sys.exit(__doc__)
+def read_bytes(path):
+    """A file's bytes, - for standard input. It is read piece by piece, so that a read that fails in the middle is an error and not the end."""
     try:
-        with open(sys.argv[1], encoding="utf-8", errors="replace") as plan:
-            data = input_bytes(plan)
+        descriptor = 0 if path == "-" else os.open(path, os.O_RDONLY)
+        try:
+            pieces = list(iter(lambda: os.read(descriptor, 1 << 16), b""))
+        finally:
+            if path != "-":
+                os.close(descriptor)
     except OSError as error:
-        sys.exit(f"{sys.argv[1]}: {error.strerror}")
+        raise OSError(error.errno, error.strerror, path) from None
+    return b"".join(pieces)
+
+
+def read_lines(path):
+    """A text file's lines; the mark that some editors put in front of a text is none of it."""
+    return io.StringIO(read_bytes(path).decode("utf-8-sig", errors="replace"), newline=None).readlines()
+
+
+def arguments(words):
+    parser = argparse.ArgumentParser(
+        description=__doc__, usage="python3 tools/plan.py PLAN > INPUT", formatter_class=argparse.RawDescriptionHelpFormatter,
+        epilog="status: 0 the input was written, 1 a line is no entry, 2 trouble with files")
+    parser.add_argument("plan", metavar="PLAN", help="a plan file, - for standard input")
+    return parser.parse_args(words)
+
+
+def main(words):
+    try:
+        path = arguments(words).plan
+    except SystemExit as usage:
+        return usage.code
+    try:
+        data = input_bytes(read_lines(path))
+    except OSError as error:
+        output.say(error.filename, error)
+        return output.TROUBLE
     except BadLine as bad:
-        sys.exit(f"{sys.argv[1]}: {bad}")
-    sys.stdout.buffer.write(data)
+        sys.stderr.write(f"{path}: {bad}\n")
+        return 1
+    return output.write(data)
 
 
 if __name__ == "__main__":
-    main()
+    sys.exit(main(sys.argv[1:]))

@@ -1,5 +1,8 @@
-"""Refusals in words, as the tools tell them to people."""
+"""Refusals in words, as the tools tell them to people: with the line of the plan file that they are about, if there is one."""
 
+from tools.plan import line_of
+
+# A plan file meets neither 1 nor 2, since what tools/plan.py writes is never cut short and of no other kind: these are a record's, as is 18.
 REFUSALS = {
     1: "an entry that is cut short",
     2: "an entry of another kind than a job's, an interval's or a skipped release's",
@@ -19,3 +22,8 @@ REFUSALS = {
 
 def in_words(number):
     return f"{REFUSALS[number]} (refusal {number})"
+
+
+def of_plan(plan, number, place):
+    """A refusal of a plan's lines, by its number and its place, which is None where it has none."""
+    return in_words(number) if place is None else f"line {line_of(plan, place)}: {in_words(number)}"

@@ -118,3 +118,10 @@ def promotion_mark(parent, x, y):
 
 def completion_mark(parent, x, y):
     add(parent, "circle", cx=x, cy=y, r=3.5, fill="#1b6e3c")
+
+
+def axis_break(parent, x, y, width):
+    """A zigzag on the axis, within a width."""
+    step = min(6, width / 8)
+    add(parent, "path", class_="thin", d=f"M{places(x - width / 2)} {places(y)}H{places(x - 2 * step)}l{places(step)} -5"
+        f"l{places(2 * step)} 10l{places(step)} -5H{places(x + width / 2)}")

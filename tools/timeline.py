@@ -201,3 +201,21 @@ def timeline(table, releases, lines):
             except BadLines as bad:
                 raise BadLines(f"line {number}: {bad}") from None
     return run
+
+
+def part(run, first, last):
+    """What of a run lies between two ticks: whole intervals that reach into them, with all that happens in those, and releases."""
+    bands = [band for band in run.bands if band.end >= first and band.begin <= last]
+    numbers = {band.number for band in bands}
+    within = [(band.begin, band.end) for band in bands] + [(first, last)]
+
+    def shown(time):
+        return any(begin <= time <= end for begin, end in within)
+
+    if len(bands) == len(run.bands):
+        return run
+    return run._replace(
+        bands=bands, bars=[bar for bar in run.bars if bar.interval in numbers],
+        releases=[release for release in run.releases if shown(release.time)],
+        promotions=[promotion for promotion in run.promotions if promotion.interval in numbers],
+        completions=[job for job in run.completions if shown(job.completion)])

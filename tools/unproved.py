@@ -17,8 +17,10 @@ DRIVER = pathlib.Path(__file__).with_name("driver.c")
 # What is run: three programs, the functions for C, and the calls of tools/direct.py, which are no crate of the repository.
 PROGRAMS = ("gateway", "session", "reader", "exports", "direct")
 
-# The functions for C are two libraries, of which the driver makes one program.
-MODULES = (*PROGRAMS, "exports_reading")
+# The functions for C are three libraries. Of two of them the driver makes one program, and over the third link/session.c is one, which drives a
+# dispatcher by instants.
+MODULES = (*PROGRAMS, "exports_reading", "exports_instants")
+RUNS = (*PROGRAMS, "instants")
 
 
 class NotBuilt(Exception):
@@ -79,7 +81,7 @@ class Workshop:
         self.home = kit_home()
         self.needs = dependencies((self.home / "libs" / "libs.txt").read_text())
         self.needs.update(dependencies((root / "crates.txt").read_text()))
-        self.needs["direct"] = direct.NEEDS
+        self.needs.update(direct=direct.NEEDS, instants=["exports_instants"])
         self.needs["exports"] = [*self.needs["exports"], "exports_reading"]
         for source in (root / "crates").glob("*/src"):
             shutil.copytree(source, folder / source.parent.name / "src")
@@ -89,7 +91,7 @@ class Workshop:
 
     def reached(self, crate):
         """The programs that reach a crate, or are it."""
-        return [program for program in PROGRAMS if crate in ground_up([program], self.needs)]
+        return [program for program in RUNS if crate in ground_up([program], self.needs)]
 
     def original(self, crate, file):
         """A file's text in the repository."""
@@ -124,5 +126,7 @@ class Workshop:
                 words += ["--lib", f"{name}={self._source(name)}"]
         run([own / "bin" / "rattle-cases", *words])
         flags = ["-std=c11", "-Wall", "-Wextra", "-Werror", "-I", self.root / "link"]
-        run(["cc", *flags, "-o", driver, DRIVER, library])
+        instants = self.folder / "instants.o"
+        run(["cc", *flags, "-Dmain=instants_main", "-c", "-o", instants, self.root / "link" / "session.c"])
+        run(["cc", *flags, "-o", driver, DRIVER, instants, library, self.home / "lib" / "libos_c.a"])  # the C of the kit's crate os
         return driver

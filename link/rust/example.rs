@@ -2,8 +2,6 @@
 //! or of a stored record, beside its task entries:   example --read TASKS RECORD [ROOM]
 //! ROOM is the length of the slice that is lent.
 
-mod gateway;
-
 use gateway::Outcome;
 
 const MOST: usize = 1 << 19;
@@ -25,7 +23,7 @@ fn print(what: &str, outcome: Outcome, out: &[u8]) {
     let (number, value, written) = match outcome {
         Outcome::Written(length) => (0, length, length),
         Outcome::TooShort(needed) => (13, needed, 0),
-        Outcome::Refused { number, place } => (number, place, 0),
+        Outcome::Refused(refusal) => (refusal.number, refusal.place.unwrap_or(0), 0),
     };
     println!("number {number}, value {value}, {what} of {written} bytes");
     for line in out[..written].chunks(32) {

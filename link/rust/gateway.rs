@@ -1,4 +1,13 @@
-//! The functions of the gateway's dispatcher that are exported, safe for Rust. Link with libgateway.a.
+//! The gateway's dispatcher, safe for Rust: the record of a whole file, the reading of a stored record, and a dispatcher by instants. Link with
+//! libgateway.a.
+
+#[path = "dispatcher.rs"]
+mod dispatcher;
+#[path = "refusal.rs"]
+mod refusal;
+
+pub use dispatcher::{Answer, Dispatcher, Fate, Interval, Job, Set, Told, Work};
+pub use refusal::Refusal;
 
 mod raw {
     #[link(name = "gateway", kind = "static")]
@@ -30,8 +39,8 @@ pub enum Outcome {
     Written(usize),
     /// The slice is too short for it: it has this length.
     TooShort(usize),
-    /// What was handed in is refused by a number, at the place of an entry (0 where the refusal has none).
-    Refused { number: u8, place: usize },
+    /// What was handed in is refused.
+    Refused(Refusal),
 }
 
 impl Outcome {
@@ -40,7 +49,7 @@ impl Outcome {
         match number {
             0 => Outcome::Written(told),
             13 => Outcome::TooShort(told),
-            number => Outcome::Refused { number, place: told },
+            number => Outcome::Refused(Refusal::at(number, told)),
         }
     }
 }

@@ -398,15 +398,80 @@ class Labels(unittest.TestCase):
         for drawn in (drawn_input(random_run(9)), drawn_input(random_run(5, releases=30, gap=100_000)), eights, twenties):
             (axis,) = drawn.elements("axis")
             marks = [float(re.match(r"M([\d.]+) ", path.get("d")).group(1)) for path in axis.findall(f"{SVG}path")[1:]]
-            gaps = [right - left for left, right in zip(marks, marks[1:])]
-            self.assertGreaterEqual(min(gaps), 5.98)
-            self.assertLessEqual(max(gaps) - min(gaps), 0.02)
+            breaks = [first_path_x(mark) for mark in drawn.elements("break")]
+            for begin, end in zip([0, *breaks], [*breaks, drawn.width]):  # between two breaks all marks are equally far apart, but the first number
+                gaps = [right - left for left, right in zip(marks, marks[1:]) if begin < left and right <= end + 0.02]
+                gaps = gaps[1:] if begin else gaps
+                self.assertGreaterEqual(min(gaps, default=6), 5.98)
+                self.assertLessEqual(max(gaps, default=6) - min(gaps, default=6), 0.02)
             self.assertLessEqual({float(number.get("x")) for number in drawn.elements("tick")}, set(marks))
         self.assertEqual(eights.of_kind("tick", "time"), [(0,), (5,), (10,), (15,), (20,)])
         self.assertEqual(twenties.of_kind("tick", "time"), [(0,), (20,), (40,), (60,)])
 
     def test_the_axis_is_thinned(self):
         self.assertEqual([tick_step(pixels, 1000) for pixels in (44, 30, 12, 4.5, 0.3)], [1, 2, 5, 10, 200])
+
+
+class LongRuns(unittest.TestCase):
+    """Few jobs with long idle time between them, and a part of a long run."""
+
+    FIVE = TASKS + "".join(f"release {250_000_000 * job} {1 + job % 3}\n" for job in range(5))
+
+    def test_five_jobs_over_a_thousand_million_ticks_can_be_seen(self):
+        drawn = Drawn.of_plan(self.FIVE)
+        self.assertEqual(len(drawn.intervals()), 15)
+        self.assertLess(drawn.width, 4000)
+        for bar in drawn.having("data-unit"):
+            self.assertGreater(first_rect(bar)[2], 10)
+        self.assertEqual([begin for begin, _ in drawn.of_kind("break", "begin", "end")], [6, 250_000_007, 500_000_009, 750_000_006])
+        self.assertEqual([end for _, end in drawn.of_kind("break", "begin", "end")], [250_000_000, 500_000_000, 750_000_000, 1_000_000_000])
+        numbers = [time for (time,) in drawn.of_kind("tick", "time")]
+        self.assertEqual(numbers, sorted(numbers))
+        for time in (0, 250_000_000, 500_000_000, 750_000_000, 1_000_000_000):
+            self.assertIn(time, numbers)
+        Labels().assert_apart(drawn)
+
+    def test_what_comes_later_stands_further_right(self):
+        drawn = Drawn.of_plan(self.FIVE)
+        marks = sorted((int(mark.get("data-time")), first_path_x(mark)) for mark in drawn.elements("release"))
+        self.assertEqual([x for _, x in marks], sorted({x for _, x in marks}))
+        boxes = [first_rect(band) for band in drawn.elements("interval")]
+        for (left, _, width, _), (right, _, _, _) in zip(boxes, boxes[1:]):
+            self.assertGreaterEqual(right, left + width - 0.02)
+
+    def test_short_idle_time_is_drawn(self):
+        self.assertEqual(Drawn.of_plan(TASKS + "release 0 1\nrelease 9 1\n").elements("break"), [])
+
+    def test_thousands_of_breaks(self):
+        tasks = "task 1 1 1 2 3 1\n"
+        drawn = Drawn.of_plan(tasks + "".join(f"release {200_000 * job} 1\n" for job in range(4096)))
+        self.assertLessEqual(drawn.width, MOST_WIDTH)
+        self.assertEqual(len(drawn.elements("break")), 4095)
+
+    def test_a_part(self):
+        with tempfile.TemporaryDirectory() as folder:
+            (path,) = written(folder, self.FIVE)
+            drawn = Drawn(picture.picture(path, first=250_000_001, last=500_000_000))
+        self.assertEqual([band[0] for band in drawn.intervals()], [4, 5, 6, 7])
+        self.assertEqual(drawn.of_kind("release", "time", "task"), [(250_000_000, 2), (500_000_000, 3)])
+        self.assertEqual(drawn.of_kind("completion", "task", "time"), [(2, 250_000_007)])
+        with tempfile.TemporaryDirectory() as folder:
+            (path,) = written(folder, A)
+            drawn = Drawn(picture.picture(path, first=13, last=13))
+        self.assertEqual(drawn.intervals(), [(4, 12, 16, 1)])
+        self.assertEqual(drawn.of_kind("completion", "task", "time"), [(1, 13)])
+
+    def test_a_promotion_in_a_part(self):
+        with tempfile.TemporaryDirectory() as folder:
+            (path,) = written(folder, A)
+            drawn = Drawn(picture.picture(path, first=3, last=7))
+        self.assertEqual(drawn.of_kind("promotion", "task", "time", "interval"), [(1, 7, 2)])
+
+    def test_a_part_in_which_nothing_happens(self):
+        with tempfile.TemporaryDirectory() as folder:
+            (path,) = written(folder, self.FIVE)
+            with self.assertRaisesRegex(picture.Unusable, "nothing happens from tick 100 to 200"):
+                picture.picture(path, first=100, last=200)
 
 
 class Command(unittest.TestCase):
@@ -471,11 +536,25 @@ class Command(unittest.TestCase):
                          "line 2: no release cancels the copy-in of task 2 from 2 to 4")
 
     def test_no_such_file(self):
-        self.assertEqual(self.run_main("no.plan"), (1, b"", "no.plan: No such file or directory\n"))
+        self.assertEqual(self.run_main("no.plan"), (2, b"", "no.plan: No such file or directory\n"))
 
     def test_usage(self):
-        for arguments in ((), ("--lines",), ("--lines", "a.plan"), ("a.plan", "b.plan")):
+        for arguments in ((), ("--lines",), ("--lines", "a.plan"), ("a.plan", "b.plan"), ("--from", "x", "a.plan"),
+                          ("--from", "9", "--to", "8", "a.plan"), ("--from", str(2**64), "a.plan")):
             self.assertEqual(self.run_main(*arguments)[0], 2)
+
+    def test_help(self):
+        status, printed, _ = self.run_main("--help")
+        self.assertEqual(status, 0)
+        for word in ("--lines", "--from", "--to", "status"):
+            self.assertIn(word, printed.decode())
+
+    def test_a_byte_order_mark(self):
+        with tempfile.TemporaryDirectory() as folder:
+            path, lines = pathlib.Path(folder, "x.plan"), pathlib.Path(folder, "lines")
+            path.write_text(A, encoding="utf-8-sig")
+            lines.write_text(LINES_A, encoding="utf-8-sig")
+            self.assertEqual(set(Drawn(picture.picture(str(path), str(lines))).bars()), BARS_A)
 
     def test_a_file_name_that_xml_cannot_hold(self):
         with tempfile.TemporaryDirectory() as folder:

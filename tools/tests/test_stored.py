@@ -1,9 +1,8 @@
-"""A stored record turned back into a plan: what the reader is handed, the plan that is printed, and refusals in words."""
+"""A stored record turned back into a plan: what is printed, refusals in words, and ./read, with a toolchain that proves nothing."""
 
+import functools
 import os
 import pathlib
-import subprocess
-import sys
 import tempfile
 import unittest
 
@@ -13,8 +12,7 @@ from sim.reading import read_lines
 from tools import stored
 from tools.plan import input_bytes
 from tools.tests.captured import run_main
-
-ROOT = pathlib.Path(__file__).resolve().parents[2]
+from tools.tests.house import House
 
 TASKS = ["task 1 1 1 2 3 1", "task 2 2 0 2 4 1", "task 3 3 0 2 5 2"]
 RELEASES = ["release 0 3", "release 2 2", "release 3 1", "release 9 2"]
@@ -25,18 +23,16 @@ class Outcome:
     """What becomes of a plan and a record, with the simulator as the reader: a status, what is printed, and what is said, by the files' names."""
 
     def __init__(self, plan, stored_bytes, printed=None):
+        def reader(data):
+            return text(read_lines(data)) if printed is None else printed
+
         with tempfile.TemporaryDirectory() as folder:
-            paths = [os.path.join(folder, name) for name in ("plan", "record", "lines")]
+            paths = [os.path.join(folder, name) for name in ("plan", "record")]
             for path, data in zip(paths, ("".join(f"{line}\n" for line in plan).encode(), stored_bytes)):
                 pathlib.Path(path).write_bytes(data)
-            self.status, given, self.said = run_main(stored.main, "input", *paths[:2])
-            if self.status == 0:
-                lines = text(read_lines(given)) if printed is None else printed
-                pathlib.Path(paths[2]).write_text(lines, encoding="utf-8")
-                self.status, self.printed, said = run_main(stored.main, "plan", *paths)
-                self.said += said
-                self.lines = self.printed.decode().splitlines()
-            self.said = self.said.replace(f"{folder}{os.sep}", "")
+            self.status, self.printed, said = run_main(functools.partial(stored.main, reader=reader), *paths)
+            self.lines = self.printed.decode().splitlines()
+            self.said = said.replace(f"{folder}{os.sep}", "")
 
 
 class Plans(unittest.TestCase):
@@ -106,28 +102,60 @@ class Trouble(unittest.TestCase):
 
 
 class Command(unittest.TestCase):
-    def run_read(self, *arguments):
-        done = subprocess.run([str(ROOT / "read"), *arguments], capture_output=True, text=True, cwd=tempfile.gettempdir(), check=False)
-        return done.returncode, done.stdout, done.stderr
+    """./read itself; what it shares with ./run is tried there."""
 
-    def test_a_file_that_is_not_there(self):
-        plan = str(ROOT / "plans/a.plan")
-        status, printed, said = self.run_read(plan, "/no/record")
+    def setUp(self):
+        folder = tempfile.TemporaryDirectory()
+        self.addCleanup(folder.cleanup)
+        self.house = House(folder.name)
+        self.plan = self.house.plan("".join(f"{line}\n" for line in TASKS))
+        self.record = self.house.folder.parent / "record"
+        self.record.write_bytes(RECORD)
+        self.read(self.plan, str(self.record))  # the first run, which says what it proves
+
+    def read(self, *arguments, **how):
+        return self.house.run(*arguments, command=str(self.house.folder / "read"), **how)
+
+    def test_a_plan(self):
+        self.assertEqual(self.read(self.plan, "record"), (0, "".join(f"{line}\n" for line in TASKS + RELEASES), ""))
+
+    def test_standard_input(self):
+        status, printed, said = self.read("-", "record", text="".join(f"{line}\n" for line in TASKS))
+        self.assertEqual((status, printed.splitlines(), said), (0, TASKS + RELEASES, ""))
+        with open(self.record, "rb") as file:
+            self.assertEqual(self.read(self.plan, "-", stdin=file)[:2], (0, printed))
+        self.assertEqual(self.read("-", "-")[0], 2)
+
+    def test_a_refused_record(self):
+        self.record.write_bytes(RECORD[24:])
+        self.assertEqual(self.read(self.plan, "record"), (1, "", "record: no list of releases of these tasks makes this record (refusal 18)\n"))
+
+    def test_trouble_with_files(self):
+        self.assertEqual(self.read(self.plan, "/no/record"), (2, "", "/no/record: No such file or directory\n"))
+        self.assertEqual(self.read("/no/plan", "record"), (2, "", "/no/plan: No such file or directory\n"))
+        self.assertEqual(self.read("/", "record"), (2, "", "/: Is a directory\n"))
+        with open("/dev/full", "wb") as full:
+            self.assertEqual(self.read(self.plan, "record", stdout=full), (2, "", "standard output: No space left on device\n"))
+
+    def test_what_the_program_says_of_trouble(self):
+        (self.house.folder / "says").touch()
+        self.assertEqual(self.read(self.plan, "record"), (2, "", "reader: standard input: it fails\n"))
+
+    def test_a_program_that_is_not_proved_is_not_run(self):
+        (self.house.folder / "fails").touch()
+        status, printed, said = self.read(self.plan, "record")
         self.assertEqual((status, printed), (2, ""))
-        self.assertTrue(said.endswith("/no/record: No such file or directory\n"), said)
-        self.assertEqual(self.run_read("/no/plan", plan), (2, "", "/no/plan: No such file or directory\n"))
-        self.assertEqual(self.run_read("/", plan), (2, "", "/: Is a directory\n"))
+        self.assertIn("read: reader is not proved, so that it is not run", said)
 
     def test_usage_and_help(self):
-        self.assertEqual(self.run_read(), (2, "", "usage: ./read PLAN RECORD\n"))
-        self.assertEqual(self.run_read("a", "b", "c")[0], 2)
-        status, printed, said = self.run_read("--help")
+        for arguments in ((), ("a",), ("a", "b", "c")):
+            status, printed, said = self.read(*arguments)
+            self.assertEqual((status, printed), (2, ""))
+            self.assertIn("usage: read [-h] PLAN RECORD\n", said)
+        status, printed, said = self.read("--help")
         self.assertEqual((status, said), (0, ""))
-        self.assertIn("Usage: ./read PLAN RECORD\n", printed)
-
-    def test_usage_of_the_tool(self):
-        done = subprocess.run([sys.executable, str(ROOT / "tools/stored.py"), "plan"], capture_output=True, cwd=tempfile.gettempdir(), check=False)
-        self.assertEqual(done.returncode, 2)
+        for word in ("PLAN RECORD", "status: 0"):
+            self.assertIn(word, printed)
 
 
 if __name__ == "__main__":

@@ -1,12 +1,15 @@
 -- What each part of an instant promises: read back, its outcome is that of the rules, whatever stands in the memory that it is not handed.
 use Rattle.dispatcher.specs.Types.{List, ℕ, _≡_, Clock, State, Registers, Tested, Stepped}
 use Rattle.rules.specs.Instant.{steps-c-to-f, at-b, at-g, occurred}
-use Rattle.rules.specs.Calls.{refusal}
+use Rattle.rules.specs.Calls.{refusal, mark-refusal}
 use Rattle.rules.specs.Registers.{phase-in, Arrays, Memory, with-arrays, with-counts, at-tick, state-in}
 use Rattle.rules.specs.Steps.{TestedTo}
 
 abbrev pub Refuses : ℕ → Clock → Registers → ℕ → ℕ → ℕ → Type 0
 Refuses present clock r t set x = (d : State) → d .table .present ≡ present → d .clock ≡ clock → d .phase ≡ phase-in r → x ≡ refusal d t set
+
+abbrev pub MarkRefuses : ℕ → ℕ → ℕ → ℕ → ℕ → Type 0
+MarkRefuses present pending n m x = (d : State) → d .table .present ≡ present → d .jobs .pending ≡ pending → x ≡ mark-refusal d n m
 
 -- steps a and b
 abbrev pub StepsAB : Registers → ℕ → List ℕ → List ℕ → List ℕ → List ℕ → Tested → Type 0

@@ -7,7 +7,6 @@ use rules::Answer;
 use rules::Clock;
 use rules::Closed;
 use rules::Closing;
-use rules::Due;
 use rules::Occurred;
 use rules::Registers;
 use rules::begun;
@@ -15,6 +14,7 @@ use rules::chosen;
 use rules::close;
 use rules::completed;
 use rules::count_blocked;
+use rules::due_tick;
 use rules::due_time;
 use rules::ended;
 use rules::held_over;
@@ -28,7 +28,7 @@ ghost use mathlib.Core.Bool.{not, _&&_};
 ghost use lib.Dec.{eqb, ltb};
 ghost use Rattle.rules.specs.Calls as calls;
 ghost use Rattle.rules.specs.Instant as instant;
-ghost use Rattle.rules.specs.Registers.{arrays};
+ghost use Rattle.rules.specs.Registers.{arrays, phase-in};
 ghost use Rattle.dispatcher.specs.Dispatcher.{state-of, step-of, Answers};
 ghost use Rattle.dispatcher.specs.Promises.{Refuses, StepsAB, StepsCToF, StepsAToG};
 
@@ -41,13 +41,11 @@ fn not_after(clock: Clock, t: u64) -> bool
     }
 }
 
-fn before_now(due: Due, t: u64) -> bool
-    ensures { λ r. ⌜ r ≡ calls.before-now due t ⌝ }
+// Whether a phase ends before `t`. The due time as a plain number is enough for that, and cheaper than the enum.
+fn ends_before(r: Registers, t: u64) -> bool
+    ensures { λ x. ⌜ x ≡ calls.before-now (instant.due (phase-in r)) t ⌝ }
 {
-    match due {
-        Due::Never => false,
-        Due::Tick(u) => u < t,
-    }
+    due_tick(r) < t
 }
 
 // Only a set that is not empty has a last time.
@@ -61,7 +59,7 @@ fn too_late(t: u64, set: u32) -> bool
 }
 
 // 16, 10, 14, 15, in this order; 0 is none.
-fn refusal(present: u32, clock: Clock, r: Registers, t: u64, set: u32) -> u8
+pub fn refusal(present: u32, clock: Clock, r: Registers, t: u64, set: u32) -> u8
     ensures { λ x. ⌜ Refuses present clock r t set x ⌝ }
 {
     if sets::difference(set, present) != 0 {
@@ -73,7 +71,7 @@ fn refusal(present: u32, clock: Clock, r: Registers, t: u64, set: u32) -> u8
     if not_after(clock, t) {
         return 14;
     }
-    if before_now(due_time(r), t) {
+    if ends_before(r, t) {
         return 15;
     }
     0
@@ -93,7 +91,7 @@ fn closing(before: Closed, after: Closed) -> Closing
 }
 
 // Steps a and b: what is left, and the interval that ends before the releases.
-fn steps_a_b(
+pub fn steps_a_b(
     r: Registers,
     t: u64,
     priority: &[u8; 32],
@@ -118,7 +116,7 @@ fn steps_a_b(
 }
 
 // Steps c to f, with the tasks whose release is taken: what is left, and the interval that ends after the releases.
-fn steps_c_to_f(
+pub fn steps_c_to_f(
     r: Registers,
     t: u64,
     new: u32,

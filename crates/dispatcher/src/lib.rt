@@ -3,6 +3,11 @@ mod instant;
 mod mark;
 mod open_tasks;
 
+pub use instant::refusal;
+pub use instant::steps_a_b;
+pub use instant::steps_c_to_f;
+pub use mark::mark_refusal;
+pub use mark::marked_with;
 pub use open_tasks::open;
 use rules::Answer;
 use rules::Clock;

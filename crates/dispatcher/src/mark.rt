@@ -4,34 +4,44 @@ use crate::MarkStep;
 use rules::MarkAnswer;
 use rules::Registers;
 ghost use mathlib.Core.Path.{_≡_};
+ghost use mathlib.Core.Bool.{cond};
+ghost use lib.Dec.{eqb};
+ghost use Rattle.sets.specs.Sets.{insert, remove};
 ghost use Rattle.rules.specs.Calls as calls;
 ghost use Rattle.dispatcher.specs.Dispatcher.{state-of, MarkAnswers};
+ghost use Rattle.dispatcher.specs.Promises.{MarkRefuses};
 
 // 16, 6, 17, in this order; 0 is none.
-fn mark_refusal(d: Dispatcher, task: u8, mark: u8) -> u8
-    ensures { λ r. ⌜ r ≡ calls.mark-refusal (state-of d) task mark ⌝ }
+pub fn mark_refusal(present: u32, pending: u32, task: u8, mark: u8) -> u8
+    ensures { λ r. ⌜ MarkRefuses present pending task mark r ⌝ }
 {
-    if !sets::contains(d.table.present, task) {
+    if !sets::contains(present, task) {
         return 16;
     }
     if mark > 1 {
         return 6;
     }
-    if sets::contains(d.registers.pending, task) {
+    if sets::contains(pending, task) {
         return 17;
     }
     0
+}
+
+// The marked tasks with one task's mark set or taken away.
+pub fn marked_with(marked: u32, task: u8, mark: u8) -> u32
+    ensures { λ r. ⌜ r ≡ cond (eqb mark 1) (insert task marked) (remove task marked) ⌝ }
+{
+    if mark == 1 {
+        return sets::insert(marked, task);
+    }
+    sets::remove(marked, task)
 }
 
 fn with_mark(d: Dispatcher, task: u8, mark: u8) -> Dispatcher
     ensures { λ r. ⌜ state-of r ≡ calls.with-mark (state-of d) task mark ⌝ }
 {
     let r = d.registers;
-    let marked = if mark == 1 {
-        sets::insert(r.marked, task)
-    } else {
-        sets::remove(r.marked, task)
-    };
+    let marked = marked_with(r.marked, task, mark);
     let registers = Registers { marked, ..r };
     Dispatcher { registers, ..d }
 }
@@ -41,7 +51,7 @@ impl Dispatcher {
     pub fn mark(self, task: u8, mark: u8) -> MarkStep
         ensures { λ r. ⌜ MarkAnswers self task mark r ⌝ }
     {
-        let number = mark_refusal(self, task, mark);
+        let number = mark_refusal(self.table.present, self.registers.pending, task, mark);
         if number == 0 {
             return MarkStep {
                 state: with_mark(self, task, mark),

@@ -1,8 +1,8 @@
 // Reads an input on standard input and prints its run, instant by instant: a J, I or S line for each entry of its record, or an R line
-// where the input is refused. No more of a record is kept than one instant leaves.
-use libc::STDIN_FILENO;
-use libc::STDOUT_FILENO;
+// where the input is refused. No more of a record is kept than one instant leaves. A read that fails is no input, and at the first write that
+// fails the program stops; either is said in a line on standard error.
 use lines::Text;
+use streams::Got;
 use table::Refusal;
 use table::TaskPart;
 ghost use Prim.Native.Nat.{_≤_};
@@ -19,11 +19,17 @@ const LINES: usize = 16384;
 // As many instants as no run has.
 const INSTANTS: usize = 32 * 4096 + 32;
 
-// Prints the first `count` bytes of `bytes`.
-fn print(bytes: &[u8], count: usize)
+// How many bytes are kept to be printed, and whether nothing failed until now.
+struct Kept {
+    len: usize,
+    good: bool,
+}
+
+// Prints the first `count` bytes of `bytes`, and answers whether that was possible.
+fn print(bytes: &[u8], count: usize) -> bool
     requires { ⌜ count ≤ length (now bytes) ⌝ }
 {
-    io::write_all(STDOUT_FILENO, &bytes[..count]);
+    streams::write(b"gateway: standard output", &bytes[..count])
 }
 
 fn print_text(text: Text, out: &mut [u8]) {
@@ -32,25 +38,29 @@ fn print_text(text: Text, out: &mut [u8]) {
 }
 
 // Prints the `len` bytes of `out` where there may be no room behind them for the lines of one instant, and answers how many are kept.
-fn make_room(out: &[u8], len: usize) -> usize
+fn make_room(out: &[u8], len: usize) -> Kept
     requires { ⌜ len ≤ length (now out) ⌝ }
-    ensures { λ r. ⌜ r ≤ len ⌝ }
+    ensures { λ r. ⌜ r .len ≤ len ⌝ }
 {
     if out.len() - len < 1024 {
-        print(out, len);
-        return 0;
+        let good = print(out, len);
+        return Kept { len: 0, good };
     }
-    len
+    Kept { len, good: true }
 }
 
 // The lines of an instant's entries behind the `len` bytes of `out`.
-fn gather(entries: &[u8], out: &mut [u8], len: usize) -> usize
+fn gather(entries: &[u8], out: &mut [u8], len: usize) -> Kept
     requires { ⌜ len ≤ length (now out) ⌝ }
-    ensures { λ r. ⌜ r ≤ length (now (out .entry)) ⌝ }
+    ensures { λ r. ⌜ r .len ≤ length (now (out .entry)) ⌝ }
 {
-    let start = make_room(out, len);
+    let room = make_room(out, len);
+    let start = room.len;
     let filled = record_lines::fill(entries, 0, &mut out[start..]);
-    start + filled.len
+    Kept {
+        len: start + filled.len,
+        good: room.good,
+    }
 }
 
 fn print_run(input: &[u8], part: TaskPart, out: &mut [u8])
@@ -77,7 +87,11 @@ fn print_run(input: &[u8], part: TaskPart, out: &mut [u8])
             break;
         }
         let size = x.size;
-        len = gather(&entries[..size], out, len);
+        let kept = gather(&entries[..size], out, len);
+        if !kept.good {
+            return;
+        }
+        len = kept.len;
         r = x.registers;
         at += x.read;
         left -= 1;
@@ -96,16 +110,19 @@ fn answer(input: &[u8], out: &mut [u8]) {
 }
 
 // Reads as much of an input as there is room for, which is enough.
-fn read(input: &mut [u8]) -> usize
+fn read(input: &mut [u8]) -> Got
     requires { ⌜ file-most ≤ length (now input) ⌝ }
-    ensures { λ r. ⌜ Counts r (now (input .exit)) ⌝ }
+    ensures { λ r. ⌜ Counts (r .count) (now (input .exit)) ⌝ }
 {
-    io::read_full(STDIN_FILENO, input)
+    streams::read_full(b"gateway: standard input", input)
 }
 
 fn main() {
     let mut input = [0u8; INPUT];
     let mut out = [0u8; LINES];
-    let count = read(&mut input);
-    answer(&input[..count], &mut out);
+    let got = read(&mut input);
+    if got.good {
+        let count = got.count;
+        answer(&input[..count], &mut out);
+    }
 }

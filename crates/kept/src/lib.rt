@@ -1,7 +1,9 @@
 // The dispatcher advanced where it is kept: the driver keeps one for each core and lends it.
 ghost use Rattle.dispatcher.specs.Dispatcher.{Advances};
+ghost use Rattle.kept.specs.Kept.{MarksKept};
 use dispatcher::Dispatcher;
 use rules::Answer;
+use rules::MarkAnswer;
 
 // An instant of the dispatcher behind `d`. On a refusal what stands there is as it was.
 pub fn advance(d: &mut Dispatcher, time: u64, set: u32) -> Answer
@@ -9,6 +11,16 @@ pub fn advance(d: &mut Dispatcher, time: u64, set: u32) -> Answer
 {
     let cur = *d;
     let s = cur.instant(time, set);
+    *d = s.state;
+    s.answer
+}
+
+// A mark call on the dispatcher behind `d`. On a refusal what stands there is as it was.
+pub fn mark(d: &mut Dispatcher, task: u8, mark: u8) -> MarkAnswer
+    ensures { λ r. ⌜ MarksKept (now (d .entry)) task mark r (now (d .exit)) ⌝ }
+{
+    let cur = *d;
+    let s = cur.mark(task, mark);
     *d = s.state;
     s.answer
 }

@@ -1,13 +1,13 @@
 // Reads task entries and a stored record on standard input and prints the releases that made the record, an L line for each, or an R line
 // where one of the two is refused. The input is 4 bytes, lowest first, with the length of the task entries; the task entries; then the record
-// until the input ends. An X line alone says that there was nothing to read: the length or the task entries are cut short, or a read failed.
+// until the input ends. An X line alone says that there was nothing to read: the length or the task entries are cut short. At the first read or
+// write that fails the program stops, and says so in a line on standard error.
 use entries::Entry;
 use entries::RELEASE_SIZE;
 use entries::RecordEntry;
-use libc::STDIN_FILENO;
-use libc::STDOUT_FILENO;
 use lines::Text;
 use record::Outcome;
+use streams::Got;
 use table::Refusal;
 ghost use Prim.Native.Nat.{_+_, _≤_};
 ghost use mathlib.Core.Path.{_≡_};
@@ -33,10 +33,10 @@ const LINES: usize = 16384;
 // As many times as no input fills the buffer. A proved loop has to end, and nothing says that the input does.
 const TURNS: usize = 1099511627776;
 
-// How many bytes stand at the front of a buffer, and whether a read failed. Where none did and there is room behind them, the input has ended.
-struct Filled {
-    end: usize,
-    failed: bool,
+// How many bytes are kept to be printed, and whether no write failed.
+struct Kept {
+    len: usize,
+    good: bool,
 }
 
 // The place behind some whole entries, and the number by which the entry there is refused: 0 where there is none.
@@ -45,11 +45,11 @@ struct Stop {
     number: u8,
 }
 
-// Prints the first `count` bytes of `bytes`.
-fn print(bytes: &[u8], count: usize)
+// Prints the first `count` bytes of `bytes`, and answers whether that was possible.
+fn print(bytes: &[u8], count: usize) -> bool
     requires { ⌜ count ≤ length (now bytes) ⌝ }
 {
-    io::write_all(STDOUT_FILENO, &bytes[..count]);
+    streams::write(b"reader: standard output", &bytes[..count])
 }
 
 fn print_text(text: Text) {
@@ -58,25 +58,30 @@ fn print_text(text: Text) {
     print(&out, n);
 }
 
-// The line of a refusal; where there is none nothing could be read.
+// The line of a refusal, if there is one.
 fn print_refusal(refusal: Refusal) {
     match refusal {
-        Refusal::NoRefusal => print_text(lines::cut_short_line()),
+        Refusal::NoRefusal => {}
         Refusal::Alone(_) => print_text(lines::refused_input_line(refusal)),
         Refusal::AtEntry(_, _) => print_text(lines::refused_input_line(refusal)),
     }
 }
 
 // Puts a text behind the `len` bytes of `out`, which are printed first where there may be no room behind them.
-fn gather(out: &mut [u8], len: usize, text: Text) -> usize
+fn gather(out: &mut [u8], len: usize, text: Text) -> Kept
     requires { ⌜ len ≤ length (now out) ⌝ }
-    ensures { λ r. ⌜ r ≤ length (now (out .entry)) ⌝ }
+    ensures { λ r. ⌜ r .len ≤ length (now (out .entry)) ⌝ }
 {
     if out.len() - len < 192 {
-        print(out, len);
-        return lines::put(text, out);
+        let good = print(out, len);
+        let put = lines::put(text, out);
+        return Kept { len: put, good };
     }
-    len + lines::put(text, &mut out[len..])
+    let put = lines::put(text, &mut out[len..]);
+    Kept {
+        len: len + put,
+        good: true,
+    }
 }
 
 // The line of the release entry at a place of a list.
@@ -87,44 +92,33 @@ fn listed_at(list: &[u8], at: usize) -> Text {
     lines::listed_line(release.task, release.time)
 }
 
-// Prints the releases in the first `size` bytes of a list.
+// Prints the releases in the first `size` bytes of a list, as far as they can be printed.
 fn print_list(list: &[u8], size: usize, out: &mut [u8]) {
     let mut len = 0;
     let mut at = 0;
     while at < size && RELEASE_SIZE <= list.len() - at {
         let line = listed_at(list, at);
-        len = gather(out, len, line);
+        let kept = gather(out, len, line);
+        if !kept.good {
+            return;
+        }
+        len = kept.len;
         at += RELEASE_SIZE;
     }
     print(out, len);
 }
 
-// Reads once behind the `kept` bytes at the front of `input`.
-fn refill(input: &mut [u8], kept: usize) -> Filled
+// Reads behind the `kept` bytes at the front of `input` until it is full, the input ends or a read fails, and answers how many bytes are there
+// then. Where no read failed and there is room behind them, the input has ended.
+fn fill(input: &mut [u8], kept: usize) -> Got
     requires { ⌜ kept ≤ length (now input) ⌝ }
-    ensures { λ r. ⌜ (kept ≤ r .end) × (r .end ≤ length (now (input .entry))) ⌝ }
+    ensures { λ r. ⌜ (kept ≤ r .count) × (r .count ≤ length (now (input .entry))) ⌝ }
 {
-    let got = libc::read(STDIN_FILENO, &mut input[kept..]);
-    Filled {
-        end: kept + io::count(got, &input[kept..]),
-        failed: got < 0,
+    let got = streams::read_full(b"reader: standard input", &mut input[kept..]);
+    Got {
+        count: kept + got.count,
+        good: got.good,
     }
-}
-
-// Reads behind the `kept` bytes at the front of `input` until it is full, the input ends or a read fails.
-fn fill(input: &mut [u8], kept: usize) -> Filled
-    requires { ⌜ kept ≤ length (now input) ⌝ }
-    ensures { λ r. ⌜ r .end ≤ length (now (input .entry)) ⌝ }
-{
-    let mut end = kept;
-    while end < input.len() {
-        let filled = refill(input, end);
-        if filled.end == end {
-            return filled;
-        }
-        end = filled.end;
-    }
-    Filled { end, failed: false }
 }
 
 // Moves the bytes from `from` up to `end` to the front, and answers how many there are.
@@ -141,18 +135,23 @@ fn keep(input: &mut [u8], from: usize, end: usize) -> usize
     n
 }
 
-// Whether `count` bytes are there of which the first `have` have been read. They are dropped.
-fn are_there(input: &mut [u8], count: usize, have: usize) -> bool {
+// Prints a refusal where `count` bytes are there, of which the first `have` have been read, and the line of what is cut short where they
+// are not. The bytes are dropped.
+fn print_if_there(input: &mut [u8], count: usize, have: usize, refusal: Refusal) {
     let mut left = if have < count { count - have } else { 0 };
     while left > 0 {
-        let filled = fill(input, 0);
-        let got = filled.end;
-        if filled.failed || got == 0 {
-            return false;
+        let got = fill(input, 0);
+        if !got.good {
+            return;
         }
-        left = if got < left { left - got } else { 0 };
+        let more = got.count;
+        if more == 0 {
+            print_text(lines::cut_short_line());
+            return;
+        }
+        left = if more < left { left - more } else { 0 };
     }
-    true
+    print_refusal(refusal);
 }
 
 // The place behind the whole entries of a record from `from` on.
@@ -211,12 +210,12 @@ fn refusal_of_long(input: &mut [u8], start: usize) -> Refusal
             return Refusal::Alone(18);
         }
         let kept = keep(input, stop.at, end);
-        let filled = fill(input, kept);
-        if filled.failed {
+        let got = fill(input, kept);
+        if !got.good {
             return Refusal::NoRefusal;
         }
         from = 0;
-        end = filled.end;
+        end = got.count;
         turns -= 1;
     }
     Refusal::Alone(18)
@@ -243,25 +242,24 @@ fn answer(tasks: &[u8], stored: &[u8], list: &mut [u8], out: &mut [u8]) {
 fn drive(input: &mut [u8], list: &mut [u8], out: &mut [u8])
     requires { ⌜ length (now input) ≡ 524820 ⌝ }
 {
-    let filled = fill(input, 0);
-    let end = filled.end;
-    if filled.failed || end < LENGTH {
-        print_refusal(Refusal::NoRefusal);
+    let got = fill(input, 0);
+    if !got.good {
+        return;
+    }
+    let end = got.count;
+    if end < LENGTH {
+        print_text(lines::cut_short_line());
         return;
     }
     let size = words::get_u32(input, 0) as usize;
     if size > TASKS {
         let refusal = refusal_of_tasks(&input[LENGTH..LENGTH + TASKS], list);
-        if are_there(input, LENGTH + size, end) {
-            print_refusal(refusal);
-        } else {
-            print_refusal(Refusal::NoRefusal);
-        }
+        print_if_there(input, LENGTH + size, end, refusal);
         return;
     }
     let start = LENGTH + size;
     if end < start {
-        print_refusal(Refusal::NoRefusal);
+        print_text(lines::cut_short_line());
         return;
     }
     if end < input.len() {

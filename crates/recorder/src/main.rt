@@ -1,7 +1,7 @@
 // Reads an input on standard input and writes the bytes of its record to standard output, instant by instant: none where the input is
-// refused. No more of a record is kept than its buffer holds.
-use libc::STDIN_FILENO;
-use libc::STDOUT_FILENO;
+// refused, and then the R line on standard error says why. No more of a record is kept than its buffer holds. A read that fails is no input,
+// and at the first write that fails the program stops; either is said in a line on standard error.
+use streams::Got;
 use table::Refusal;
 use table::TaskPart;
 ghost use Prim.Native.Nat.{_+_, _≤_};
@@ -18,24 +18,30 @@ const ENTRIES: usize = 16384;
 // As many instants as no run has.
 const INSTANTS: usize = 32 * 4096 + 32;
 
-// Writes the first `count` bytes of `bytes`.
-fn print(bytes: &[u8], count: usize)
+// How many bytes are kept to be written, and whether nothing failed until now.
+struct Kept {
+    len: usize,
+    good: bool,
+}
+
+// Writes the first `count` bytes of `bytes`, and answers whether that was possible.
+fn print(bytes: &[u8], count: usize) -> bool
     requires { ⌜ count ≤ length (now bytes) ⌝ }
 {
-    io::write_all(STDOUT_FILENO, &bytes[..count]);
+    streams::write(b"recorder: standard output", &bytes[..count])
 }
 
 // Writes the `len` bytes of `out` where there may be no room behind them for what one instant leaves, and answers how many are kept.
-fn make_room(out: &[u8], len: usize) -> usize
+fn make_room(out: &[u8], len: usize) -> Kept
     requires { ⌜ len ≤ length (now out) ⌝ }
     requires { ⌜ 371 ≤ length (now out) ⌝ }
-    ensures { λ r. ⌜ r + 371 ≤ length (now (out .entry)) ⌝ }
+    ensures { λ r. ⌜ r .len + 371 ≤ length (now (out .entry)) ⌝ }
 {
     if out.len() - len < run::MOST {
-        print(out, len);
-        return 0;
+        let good = print(out, len);
+        return Kept { len: 0, good };
     }
-    len
+    Kept { len, good: true }
 }
 
 fn write_run(input: &[u8], part: TaskPart, out: &mut [u8])
@@ -61,7 +67,11 @@ fn write_run(input: &[u8], part: TaskPart, out: &mut [u8])
         if x.time == u64::MAX {
             break;
         }
-        len = make_room(out, len + x.size);
+        let kept = make_room(out, len + x.size);
+        if !kept.good {
+            return;
+        }
+        len = kept.len;
         r = x.registers;
         at += x.read;
         left -= 1;
@@ -69,27 +79,38 @@ fn write_run(input: &[u8], part: TaskPart, out: &mut [u8])
     print(out, len);
 }
 
+// Says on standard error why nothing is written.
+fn say(refusal: Refusal, out: &mut [u8]) {
+    let count = lines::put(lines::refused_input_line(refusal), out);
+    streams::say(b"recorder: the input is refused: ", &out[..count]);
+}
+
 fn answer(input: &[u8], out: &mut [u8])
     requires { ⌜ 371 ≤ length (now out) ⌝ }
 {
     let part = run::check_file(input);
     let refusal = part.refusal;
-    if let Refusal::NoRefusal = refusal {
-        write_run(input, part, out);
+    match refusal {
+        Refusal::NoRefusal => write_run(input, part, out),
+        Refusal::Alone(_) => say(refusal, out),
+        Refusal::AtEntry(_, _) => say(refusal, out),
     }
 }
 
 // Reads as much of an input as there is room for, which is enough.
-fn read(input: &mut [u8]) -> usize
+fn read(input: &mut [u8]) -> Got
     requires { ⌜ file-most ≤ length (now input) ⌝ }
-    ensures { λ r. ⌜ Counts r (now (input .exit)) ⌝ }
+    ensures { λ r. ⌜ Counts (r .count) (now (input .exit)) ⌝ }
 {
-    io::read_full(STDIN_FILENO, input)
+    streams::read_full(b"recorder: standard input", input)
 }
 
 fn main() {
     let mut input = [0u8; INPUT];
     let mut out = [0u8; ENTRIES];
-    let count = read(&mut input);
-    answer(&input[..count], &mut out);
+    let got = read(&mut input);
+    if got.good {
+        let count = got.count;
+        answer(&input[..count], &mut out);
+    }
 }

@@ -1,10 +1,10 @@
 // Drives a dispatcher from standard input. The input is 4 bytes, lowest first, with the length of the opening bytes; the opening
-// bytes, which are task entries; then call entries until the input ends. The lines of the opening and of each call are printed.
+// bytes, which are task entries; then call entries until the input ends. The lines of the opening and of each call are printed. At the first
+// read or write that fails the program stops, and says so in a line on standard error.
 use call_entries::CallEntry;
 use dispatcher::Dispatcher;
-use libc::STDIN_FILENO;
-use libc::STDOUT_FILENO;
 use lines::Text;
+use streams::Got;
 use table::Refusal;
 ghost use Prim.Native.Nat.{_≤_, _<_, min};
 ghost use mathlib.Core.Path.{_≡_};
@@ -14,23 +14,39 @@ ghost use Rattle.rules.specs.Cut.{opening-most};
 // As many opening bytes as are enough, which is proved: rules/specs/Cut, `OpensFromFront`.
 const OPENING: usize = 33 * entries::TASK_SIZE;
 
-// How many of the opening bytes were read to the front of the input, and whether all of them were there.
+// How many of the opening bytes were read to the front of the input, whether all of them were there, and whether no read failed.
 struct Head {
     kept: usize,
     whole: bool,
+    good: bool,
 }
 
-// The dispatcher after the whole calls at the start of a slice, and how many bytes they took.
+// Whether all bytes were there, and whether no read failed.
+struct Skipped {
+    whole: bool,
+    good: bool,
+}
+
+// How many bytes are kept to be printed, and whether no write failed.
+struct Kept {
+    len: usize,
+    good: bool,
+}
+
+// The dispatcher after the whole calls at the start of a slice, how many bytes they took, and whether no write failed.
 struct Served {
     state: Dispatcher,
     taken: usize,
+    good: bool,
 }
 
-// The dispatcher after a part of the input, how many bytes at the front of the input are no whole call yet, and whether to go on.
+// The dispatcher after a part of the input, how many bytes at the front of the input are no whole call yet, whether to go on, and whether
+// no read or write failed.
 struct Progress {
     state: Dispatcher,
     kept: usize,
     more: bool,
+    good: bool,
 }
 
 fn least(a: usize, b: usize) -> usize
@@ -39,54 +55,71 @@ fn least(a: usize, b: usize) -> usize
     if a < b { a } else { b }
 }
 
-// Prints the first `count` bytes of `bytes`.
-fn print(bytes: &[u8], count: usize)
+// Prints the first `count` bytes of `bytes`, and answers whether that was possible.
+fn print(bytes: &[u8], count: usize) -> bool
     requires { ⌜ count ≤ length (now bytes) ⌝ }
 {
-    io::write_all(STDOUT_FILENO, &bytes[..count]);
+    streams::write(b"session: standard output", &bytes[..count])
 }
 
-fn print_text(text: Text) {
+fn print_text(text: Text) -> bool {
     let mut out = [0u8; 192];
     let n = lines::put(text, &mut out);
-    print(&out, n);
+    print(&out, n)
 }
 
-// Reads up to `count` bytes to the front of `to`, fewer only where the input ends.
-fn read(to: &mut [u8], count: usize) -> usize
+// Reads up to `count` bytes to the front of `to`, fewer only where the input ends or a read fails.
+fn read(to: &mut [u8], count: usize) -> Got
     requires { ⌜ count ≤ length (now to) ⌝ }
-    ensures { λ r. ⌜ r ≤ count ⌝ }
+    ensures { λ r. ⌜ r .count ≤ count ⌝ }
 {
-    io::read_full(STDIN_FILENO, &mut to[..count])
+    streams::read_full(b"session: standard input", &mut to[..count])
 }
 
-// Reads `count` bytes and drops them, and answers whether they were there.
-fn skip(space: &mut [u8], count: usize) -> bool {
+// Reads `count` bytes and drops them, and answers whether they were there and no read failed.
+fn skip(space: &mut [u8], count: usize) -> Skipped {
     let mut left = count;
     while left > 0 {
         let most = least(left, space.len());
         let got = read(space, most);
-        if got == 0 {
-            return false;
+        if got.count == 0 {
+            return Skipped {
+                whole: false,
+                good: got.good,
+            };
         }
-        left -= got;
+        if !got.good {
+            return Skipped {
+                whole: false,
+                good: false,
+            };
+        }
+        left -= got.count;
     }
-    true
+    Skipped {
+        whole: true,
+        good: true,
+    }
 }
 
 // Puts a text behind the `len` bytes of `out`, which are printed first where there may be no room behind them.
-fn gather(out: &mut [u8], len: usize, text: Text) -> usize
+fn gather(out: &mut [u8], len: usize, text: Text) -> Kept
     requires { ⌜ len ≤ length (now out) ⌝ }
-    ensures { λ r. ⌜ r ≤ length (now (out .entry)) ⌝ }
+    ensures { λ r. ⌜ r .len ≤ length (now (out .entry)) ⌝ }
 {
     if out.len() - len < 192 {
-        print(out, len);
-        return lines::put(text, out);
+        let good = print(out, len);
+        let put = lines::put(text, out);
+        return Kept { len: put, good };
     }
-    len + lines::put(text, &mut out[len..])
+    let put = lines::put(text, &mut out[len..]);
+    Kept {
+        len: len + put,
+        good: true,
+    }
 }
 
-// Serves the whole calls at the start of `s`, with `out` to gather their lines in.
+// Serves the whole calls at the start of `s`, with `out` to gather their lines in, as far as they can be printed.
 fn serve(d: Dispatcher, s: &[u8], out: &mut [u8]) -> Served
     ensures { λ r. ⌜ r .taken ≤ length (now (s .entry)) ⌝ }
 {
@@ -101,13 +134,25 @@ fn serve(d: Dispatcher, s: &[u8], out: &mut [u8]) -> Served
         }
         let answered = call_entries::answer(state, entry);
         let text = answered.text;
-        len = gather(out, len, text);
+        let kept = gather(out, len, text);
+        if !kept.good {
+            return Served {
+                state,
+                taken: at,
+                good: false,
+            };
+        }
+        len = kept.len;
         let next = answered.state;
         state = next;
         at += size;
     }
-    print(out, len);
-    Served { state, taken: at }
+    let good = print(out, len);
+    Served {
+        state,
+        taken: at,
+        good,
+    }
 }
 
 // Moves the bytes from `from` up to `end` to the front, and answers how many there are.
@@ -125,12 +170,15 @@ fn keep(input: &mut [u8], from: usize, end: usize) -> usize
 }
 
 // Reads once behind the `kept` bytes at the front of `input`, and answers how many bytes are there then.
-fn refill(input: &mut [u8], kept: usize) -> usize
+fn refill(input: &mut [u8], kept: usize) -> Got
     requires { ⌜ kept ≤ length (now input) ⌝ }
-    ensures { λ r. ⌜ (kept ≤ r) × (r ≤ length (now (input .entry))) ⌝ }
+    ensures { λ r. ⌜ (kept ≤ r .count) × (r .count ≤ length (now (input .entry))) ⌝ }
 {
-    let got = libc::read(STDIN_FILENO, &mut input[kept..]);
-    kept + io::count(got, &input[kept..])
+    let got = streams::read_once(b"session: standard input", &mut input[kept..]);
+    Got {
+        count: kept + got.count,
+        good: got.good,
+    }
 }
 
 // Whether the bytes are a call's that more of the input may make whole, or none.
@@ -147,12 +195,14 @@ fn turn(input: &mut [u8], out: &mut [u8], kept: usize, d: Dispatcher) -> Progres
     requires { ⌜ kept ≤ length (now input) ⌝ }
     ensures { λ r. ⌜ r .kept ≤ length (now (input .entry)) ⌝ }
 {
-    let end = refill(input, kept);
+    let got = refill(input, kept);
+    let end = got.count;
     if end == kept {
         return Progress {
             state: d,
             kept,
             more: false,
+            good: got.good,
         };
     }
     let served = serve(d, &input[..end], out);
@@ -163,6 +213,7 @@ fn turn(input: &mut [u8], out: &mut [u8], kept: usize, d: Dispatcher) -> Progres
         state,
         kept: left,
         more,
+        good: served.good,
     }
 }
 
@@ -175,6 +226,9 @@ fn run(input: &mut [u8], out: &mut [u8], d: Dispatcher) {
     let mut turns = u64::MAX;
     while more && turns > 0 {
         let t = turn(input, out, kept, state);
+        if !t.good {
+            return;
+        }
         let next = t.state;
         state = next;
         kept = t.kept;
@@ -198,28 +252,39 @@ fn read_opening(input: &mut [u8], space: &mut [u8]) -> Head
     requires { ⌜ opening-most ≤ length (now input) ⌝ }
     ensures { λ r. ⌜ r .kept ≤ opening-most ⌝ }
 {
-    if read(input, 4) < 4 {
+    let first = read(input, 4);
+    if first.count < 4 {
         return Head {
             kept: 0,
             whole: false,
+            good: first.good,
         };
     }
     let size = words::get_u32(input, 0) as usize;
     let kept = enough(size);
-    if read(input, kept) < kept {
+    let got = read(input, kept);
+    if got.count < kept {
         return Head {
             kept: 0,
             whole: false,
+            good: got.good,
         };
     }
-    let whole = skip(space, size - kept);
-    Head { kept, whole }
+    let rest = skip(space, size - kept);
+    Head {
+        kept,
+        whole: rest.whole,
+        good: rest.good,
+    }
 }
 
 fn drive(input: &mut [u8], out: &mut [u8])
     requires { ⌜ opening-most ≤ length (now input) ⌝ }
 {
     let head = read_opening(input, out);
+    if !head.good {
+        return;
+    }
     if !head.whole {
         print_text(lines::cut_short_line());
         return;
@@ -227,7 +292,9 @@ fn drive(input: &mut [u8], out: &mut [u8])
     let kept = head.kept;
     let opening = guarantees::open(&input[..kept]);
     let refusal = opening.refusal;
-    print_text(lines::opening_lines(refusal));
+    if !print_text(lines::opening_lines(refusal)) {
+        return;
+    }
     if let Refusal::NoRefusal = refusal {
         let state = opening.state;
         run(input, out, state);

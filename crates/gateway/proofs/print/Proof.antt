@@ -5,14 +5,17 @@ use borrow.Author.Needs.{needs}
 use Rattle.gateway.proofs.print.Statement.{statement}
 use Rattle.gateway.proofs.print.Tie as tie
 
-slice-aggregate-write-all : tie.Need-slice-aggregate-write-all
-slice-aggregate-write-all c = let a = c .before .before .args in sym (length-take-le (a .count) (a .bytes .now) (c .before .before .pre))
+slice-aggregate-write : tie.Need-slice-aggregate-write
+slice-aggregate-write c = search needs
 
-write-all-requires : tie.Need-write-all-requires
-write-all-requires c κs = search needs
+slice-aggregate-write-2 : tie.Need-slice-aggregate-write-2
+slice-aggregate-write-2 c = let a = c .before .before .before .args in sym (length-take-le (a .count) (a .bytes .now) (c .before .before .before .pre))
+
+write-requires : tie.Need-write-requires
+write-requires c κs = search needs
 
 returns : tie.Need-returns
 returns c = search needs
 
 pub print-spec : {M : Type 1} → statement M
-print-spec = tie.close (tie.spec slice-aggregate-write-all write-all-requires returns)
+print-spec = tie.close (tie.spec slice-aggregate-write slice-aggregate-write-2 write-requires returns)

@@ -35,8 +35,8 @@ part-put-end c = search needs
 put-requires-2 : tie.Need-put-requires-2
 put-requires-2 c κs = search needs
 
-add-result : tie.Need-add-result
-add-result c =
+add-t8 : tie.Need-add-t8
+add-t8 c =
     let a = c .before .before .before .before .before .before .args in
     let within = le-trans (le-of-eq (c .before .before .put2 .ensures .0)) (room-fits _ _) in
     let o = a .out .now in
@@ -65,6 +65,6 @@ gather-spec =
     part-put-start
     part-put-end
     put-requires-2
-    add-result
+    add-t8
     same-length-2
     returns-2)

@@ -26,19 +26,25 @@ listed-at-requires c κs = search needs
 gather-requires : tie.Need-gather-requires Inv-loop μ-loop
 gather-requires c κs = search needs
 
+same-length : tie.Need-same-length Inv-loop μ-loop
+same-length c = search needs
+
+returns : tie.Need-returns Inv-loop μ-loop
+returns c = search needs
+
 add-at : tie.Need-add-at Inv-loop μ-loop
 add-at c = search needs
 
 loop-less : tie.Need-loop-less Inv-loop μ-loop
 loop-less c =
-    let v = c .before .before .before .before .before in
+    let v = c .before .before .before .before .before .before .before in
     let s = v .before .before .before .before .before .args .list .now in
     let left = leb-true 10 (length s - v .before .before .loop .at) (v .if1 .taken) in
     omega (arith, left)
 
 loop-again : tie.Need-loop-again Inv-loop μ-loop
 loop-again c =
-    let v = c .before .before .before .before .before in
+    let v = c .before .before .before .before .before .before .before in
     let s = v .before .before .before .before .before .args .list .now in
     let left = leb-true 10 (length s - v .before .before .loop .at) (v .if1 .taken) in
     (omega (arith, left), search needs, search needs)
@@ -46,11 +52,11 @@ loop-again c =
 print-requires : tie.Need-print-requires Inv-loop μ-loop
 print-requires c κs = search needs
 
-same-length : tie.Need-same-length Inv-loop μ-loop
-same-length c = search needs
+same-length-2 : tie.Need-same-length-2 Inv-loop μ-loop
+same-length-2 c = search needs
 
-returns : tie.Need-returns Inv-loop μ-loop
-returns c = search needs
+returns-2 : tie.Need-returns-2 Inv-loop μ-loop
+returns-2 c = search needs
 
 pub print-list-spec : {M : Type 1} → statement M
 print-list-spec =
@@ -62,9 +68,11 @@ print-list-spec =
     sub-if1
     listed-at-requires
     gather-requires
+    same-length
+    returns
     add-at
     loop-less
     loop-again
     print-requires
-    same-length
-    returns)
+    same-length-2
+    returns-2)

@@ -10,7 +10,10 @@ slice-relend-prefix-read-full : tie.Need-slice-relend-prefix-read-full
 slice-relend-prefix-read-full c = search needs
 
 slice-aggregate-read-full : tie.Need-slice-aggregate-read-full
-slice-aggregate-read-full c = let a = c .before .before .args in sym (length-take-le (a .count) (a .to .now) (c .before .before .pre))
+slice-aggregate-read-full c = search needs
+
+slice-aggregate-read-full-2 : tie.Need-slice-aggregate-read-full-2
+slice-aggregate-read-full-2 c = let a = c .before .before .before .args in sym (length-take-le (a .count) (a .to .now) (c .before .before .before .pre))
 
 read-full-requires : tie.Need-read-full-requires
 read-full-requires c κs = search needs
@@ -19,14 +22,15 @@ same-length : tie.Need-same-length
 same-length c = search needs
 
 returns : tie.Need-returns
-returns c = let s = c .before .before .before .before .before in omega (arith, length-take-le (s .args .count) (s .args .to .now) (s .pre))
+returns c = let s = c .before .before .before .before .before .before in omega (arith, length-take-le (s .args .count) (s .args .to .now) (s .pre))
 
 pub read-spec : {M : Type 1} → statement M
 read-spec =
     tie.close
     (tie.spec
-    slice-relend-prefix-read-full
     slice-aggregate-read-full
+    slice-relend-prefix-read-full
+    slice-aggregate-read-full-2
     read-full-requires
     same-length
     returns)

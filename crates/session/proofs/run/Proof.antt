@@ -20,12 +20,21 @@ loop-holds c = search needs
 turn-requires : tie.Need-turn-requires Inv-loop μ-loop
 turn-requires c κs = search needs
 
+same-length : tie.Need-same-length Inv-loop μ-loop
+same-length c = search needs
+
+same-length-2 : tie.Need-same-length-2 Inv-loop μ-loop
+same-length-2 c = search needs
+
+returns : tie.Need-returns Inv-loop μ-loop
+returns c = search needs
+
 sub-turns : tie.Need-sub-turns Inv-loop μ-loop
 sub-turns c = search needs
 
 loop-less : tie.Need-loop-less Inv-loop μ-loop
 loop-less c =
-    let tests = c .before .before .before .before .before .before .before .before in
+    let tests = c .before .before .before .before .before .before .before .before .before .before in
     omega (arith, ltb-true 0 (tests .before .before .loop .turns) (tests .if1 .taken))
 
 loop-again : tie.Need-loop-again Inv-loop μ-loop
@@ -37,15 +46,6 @@ cut-short-line-requires c κs = search needs
 print-text-requires : tie.Need-print-text-requires Inv-loop μ-loop
 print-text-requires c κs = search needs
 
-same-length : tie.Need-same-length Inv-loop μ-loop
-same-length c = search needs
-
-same-length-2 : tie.Need-same-length-2 Inv-loop μ-loop
-same-length-2 c = search needs
-
-returns : tie.Need-returns Inv-loop μ-loop
-returns c = search needs
-
 same-length-3 : tie.Need-same-length-3 Inv-loop μ-loop
 same-length-3 c = search needs
 
@@ -55,6 +55,15 @@ same-length-4 c = search needs
 returns-2 : tie.Need-returns-2 Inv-loop μ-loop
 returns-2 c = search needs
 
+same-length-5 : tie.Need-same-length-5 Inv-loop μ-loop
+same-length-5 c = search needs
+
+same-length-6 : tie.Need-same-length-6 Inv-loop μ-loop
+same-length-6 c = search needs
+
+returns-3 : tie.Need-returns-3 Inv-loop μ-loop
+returns-3 c = search needs
+
 pub run-spec : {M : Type 1} → statement M
 run-spec =
     tie.close
@@ -63,14 +72,17 @@ run-spec =
     μ-loop
     loop-holds
     turn-requires
+    same-length
+    same-length-2
+    returns
     sub-turns
     loop-less
     loop-again
     cut-short-line-requires
     print-text-requires
-    same-length
-    same-length-2
-    returns
     same-length-3
     same-length-4
-    returns-2)
+    returns-2
+    same-length-5
+    same-length-6
+    returns-3)

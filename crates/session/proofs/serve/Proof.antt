@@ -31,21 +31,21 @@ gather-requires c κs = search needs
 
 add-at : tie.Need-add-at Inv-loop μ-loop
 add-at c =
-    let v = c .before .before .before .before .before .before .before .before in
+    let v = c .before .before .before .before .before .before .before .before .before .before in
     let l = v .before .before .loop in
     let fits = size-fits (v .before .before .before .before .before .args .s .now) (l .at) (v .call-size .ensures) (v .before .call-at .ensures) in
     omega arith
 
 loop-less : tie.Need-loop-less Inv-loop μ-loop
 loop-less c =
-    let v = c .before .before .before .before .before .before .before .before in
+    let v = c .before .before .before .before .before .before .before .before .before .before in
     let l = v .before .before .loop in
     let fits = size-fits (v .before .before .before .before .before .args .s .now) (l .at) (v .call-size .ensures) (v .before .call-at .ensures) in
     omega arith
 
 loop-again : tie.Need-loop-again Inv-loop μ-loop
 loop-again c =
-    let v = c .before .before .before .before .before .before .before .before in
+    let v = c .before .before .before .before .before .before .before .before .before .before in
     let l = v .before .before .loop in
     let fits = size-fits (v .before .before .before .before .before .args .s .now) (l .at) (v .call-size .ensures) (v .before .call-at .ensures) in
     (search needs, search needs, omega arith)
@@ -59,6 +59,12 @@ same-length c = search needs
 returns : tie.Need-returns Inv-loop μ-loop
 returns c = search needs
 
+same-length-2 : tie.Need-same-length-2 Inv-loop μ-loop
+same-length-2 c = search needs
+
+returns-2 : tie.Need-returns-2 Inv-loop μ-loop
+returns-2 c = search needs
+
 pub serve-spec : {M : Type 1} → statement M
 serve-spec =
     tie.close
@@ -70,9 +76,11 @@ serve-spec =
     call-size-requires
     answer-requires
     gather-requires
+    same-length
+    returns
     add-at
     loop-less
     loop-again
     print-requires
-    same-length
-    returns)
+    same-length-2
+    returns-2)

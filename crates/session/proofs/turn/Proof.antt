@@ -27,7 +27,7 @@ serve-requires c κs = search needs
 keep-requires : tie.Need-keep-requires
 keep-requires c κs =
     let filled = c .before .before .before .before .before .before .before .before .before .refill in
-    (omega (arith, length-take-le (filled .result) (filled .last .0) (omega arith)), omega arith)
+    (omega (arith, length-take-le (filled .result .count) (filled .last .0) (omega arith)), omega arith)
 
 slice-reshare-prefix-unfinished : tie.Need-slice-reshare-prefix-unfinished
 slice-reshare-prefix-unfinished c = search needs

@@ -26,19 +26,16 @@ returns-3 : tie.Need-returns-3
 unfolding refusal unknown
 returns-3 c d present clock phase = simp (present, clock, phase, ← c .before .before .before .before .before .difference .ensures, eq-eqb _ _ (c .before .before .before .before .if1 .left), ← c .before .before .before .too-late .ensures, c .before .before .if2 .left, ← c .before .not-after .ensures, c .if3 .taken)
 
-due-requires : tie.Need-due-requires
-due-requires c κs = search needs
-
-before-now-requires : tie.Need-before-now-requires
-before-now-requires c κs = search needs
+ends-before-requires : tie.Need-ends-before-requires
+ends-before-requires c κs = search needs
 
 returns-4 : tie.Need-returns-4
 unfolding refusal unknown
-returns-4 c d present clock phase = simp (present, clock, phase, ← c .before .before .before .before .before .before .before .before .difference .ensures, eq-eqb _ _ (c .before .before .before .before .before .before .before .if1 .left), ← c .before .before .before .before .before .before .too-late .ensures, c .before .before .before .before .before .if2 .left, ← c .before .before .before .before .not-after .ensures, c .before .before .before .if3 .left, ← c .before .before .due .ensures, ← c .before .before-now .ensures, c .if4 .taken)
+returns-4 c d present clock phase = simp (present, clock, phase, ← c .before .before .before .before .before .before .before .difference .ensures, eq-eqb _ _ (c .before .before .before .before .before .before .if1 .left), ← c .before .before .before .before .before .too-late .ensures, c .before .before .before .before .if2 .left, ← c .before .before .before .not-after .ensures, c .before .before .if3 .left, ← c .before .ends-before .ensures, c .if4 .taken)
 
 returns-5 : tie.Need-returns-5
 unfolding refusal unknown
-returns-5 c d present clock phase = simp (present, clock, phase, ← c .before .before .before .before .before .before .before .before .difference .ensures, eq-eqb _ _ (c .before .before .before .before .before .before .before .if1 .left), ← c .before .before .before .before .before .before .too-late .ensures, c .before .before .before .before .before .if2 .left, ← c .before .before .before .before .not-after .ensures, c .before .before .before .if3 .left, ← c .before .before .due .ensures, ← c .before .before-now .ensures, c .if4 .left)
+returns-5 c d present clock phase = simp (present, clock, phase, ← c .before .before .before .before .before .before .before .difference .ensures, eq-eqb _ _ (c .before .before .before .before .before .before .if1 .left), ← c .before .before .before .before .before .too-late .ensures, c .before .before .before .before .if2 .left, ← c .before .before .before .not-after .ensures, c .before .before .if3 .left, ← c .before .ends-before .ensures, c .if4 .left)
 
 pub refusal-spec : {M : Type 1} → statement M
 refusal-spec =
@@ -50,7 +47,6 @@ refusal-spec =
     returns-2
     not-after-requires
     returns-3
-    due-requires
-    before-now-requires
+    ends-before-requires
     returns-4
     returns-5)

@@ -2,7 +2,6 @@
 use borrow.Author.Tests.{not-true, not-false, le-ltb, lt-ltb}
 use borrow.Author.Needs.{needs}
 use Rattle.rules.specs.Calls.{mark-refusal}
-use Rattle.rules.specs.Registers.{state-in}
 use Rattle.dispatcher.proofs.mark.mark_refusal.Statement.{statement}
 use Rattle.dispatcher.proofs.mark.mark_refusal.Tie as tie
 
@@ -10,23 +9,23 @@ contains-requires : tie.Need-contains-requires
 contains-requires c κs = search needs
 
 returns : tie.Need-returns
-unfolding mark-refusal state-in
-returns c = simp (← c .before .contains .ensures, not-true (c .before .contains .result) (c .if1 .taken))
+unfolding mark-refusal
+returns c d present pending = simp (present, pending, ← c .before .contains .ensures, not-true (c .before .contains .result) (c .if1 .taken))
 
 returns-2 : tie.Need-returns-2
-unfolding mark-refusal state-in
-returns-2 c = simp (← c .before .before .contains .ensures, not-false (c .before .before .contains .result) (c .before .if1 .left), lt-ltb _ _ (c .if2 .taken))
+unfolding mark-refusal
+returns-2 c d present pending = simp (present, pending, ← c .before .before .contains .ensures, not-false (c .before .before .contains .result) (c .before .if1 .left), lt-ltb _ _ (c .if2 .taken))
 
 contains-requires-2 : tie.Need-contains-requires-2
 contains-requires-2 c κs = search needs
 
 returns-3 : tie.Need-returns-3
-unfolding mark-refusal state-in
-returns-3 c = simp (← c .before .before .before .before .contains .ensures, not-false (c .before .before .before .before .contains .result) (c .before .before .before .if1 .left), le-ltb _ _ (c .before .before .if2 .left), ← c .before .contains2 .ensures, c .if3 .taken)
+unfolding mark-refusal
+returns-3 c d present pending = simp (present, pending, ← c .before .before .before .before .contains .ensures, not-false (c .before .before .before .before .contains .result) (c .before .before .before .if1 .left), le-ltb _ _ (c .before .before .if2 .left), ← c .before .contains2 .ensures, c .if3 .taken)
 
 returns-4 : tie.Need-returns-4
-unfolding mark-refusal state-in
-returns-4 c = simp (← c .before .before .before .before .contains .ensures, not-false (c .before .before .before .before .contains .result) (c .before .before .before .if1 .left), le-ltb _ _ (c .before .before .if2 .left), ← c .before .contains2 .ensures, c .if3 .left)
+unfolding mark-refusal
+returns-4 c d present pending = simp (present, pending, ← c .before .before .before .before .contains .ensures, not-false (c .before .before .before .before .contains .result) (c .before .before .before .if1 .left), le-ltb _ _ (c .before .before .if2 .left), ← c .before .contains2 .ensures, c .if3 .left)
 
 pub mark-refusal-spec : {M : Type 1} → statement M
 mark-refusal-spec =

@@ -1,0 +1,46 @@
+-- `recorder::say` is safe and ends. Assumes nothing.
+use mathlib.Core.Path.{sym}
+use native.Mathlib.Omega.{arith}
+use native.Mathlib.Nat.{le-of-eq, le-trans}
+use lib.Seq.{length-take-le}
+use Rattle.lines.proofs.Laws.{room-fits}
+use borrow.Author.Needs.{needs}
+use Rattle.recorder.proofs.say.Statement.{statement}
+use Rattle.recorder.proofs.say.Tie as tie
+
+refused-input-line-requires : tie.Need-refused-input-line-requires
+refused-input-line-requires c κs = search needs
+
+put-requires : tie.Need-put-requires
+put-requires c κs = search needs
+
+slice-aggregate-say : tie.Need-slice-aggregate-say
+slice-aggregate-say c = search needs
+
+slice-reshare-prefix-say : tie.Need-slice-reshare-prefix-say
+slice-reshare-prefix-say c = le-trans (le-of-eq (c .before .before .before .put .ensures .0)) (le-trans (room-fits _ _) (omega arith))
+
+slice-aggregate-say-2 : tie.Need-slice-aggregate-say-2
+slice-aggregate-say-2 c = sym (length-take-le _ _ (le-trans (le-of-eq (c .before .before .before .before .put .ensures .0)) (le-trans (room-fits _ _) (omega arith))))
+
+say-requires : tie.Need-say-requires
+say-requires c κs = search needs
+
+same-length : tie.Need-same-length
+same-length c = search needs
+
+returns : tie.Need-returns
+returns c = search needs
+
+pub say-spec : {M : Type 1} → statement M
+say-spec =
+    tie.close
+    (tie.spec
+    refused-input-line-requires
+    put-requires
+    slice-aggregate-say
+    slice-reshare-prefix-say
+    slice-aggregate-say-2
+    say-requires
+    same-length
+    returns)

@@ -1,0 +1,72 @@
+// Standard input and output of the programs. A call that fails is told apart from one that moved fewer bytes: it is said in one line on
+// standard error, with what the caller names, and the caller is told to stop.
+use libc::STDIN_FILENO;
+use libc::STDOUT_FILENO;
+ghost use Prim.Native.Nat.{_≤_};
+ghost use lib.ListN.{length};
+ghost use Rattle.io.specs.Counts.{Counts};
+
+// How many bytes a read put at the front of what it was lent, and whether it came to the end of what was asked for without a failure.
+pub struct Got {
+    pub count: usize,
+    pub good: bool,
+}
+
+// One read. No bytes and no failure is the end of the input.
+pub fn read_once(who: &[u8], to: &mut [u8]) -> Got
+    ensures { λ r. ⌜ Counts (r .count) (now (to .exit)) ⌝ }
+{
+    let got = libc::read(STDIN_FILENO, to);
+    if got < 0 {
+        os::fail(who);
+    }
+    let count = io::count(got, to);
+    Got {
+        count,
+        good: got >= 0,
+    }
+}
+
+// One read behind the first `done` bytes of `to`, counted with them.
+fn read_behind(who: &[u8], to: &mut [u8], done: usize) -> Got
+    requires { ⌜ done ≤ length (now to) ⌝ }
+    ensures { λ r. ⌜ (done ≤ r .count) × (r .count ≤ length (now (to .entry))) ⌝ }
+{
+    let got = read_once(who, &mut to[done..]);
+    Got {
+        count: done + got.count,
+        good: got.good,
+    }
+}
+
+// Reads until `to` is full or the input ends. Where a read fails, what came before it is no input.
+pub fn read_full(who: &[u8], to: &mut [u8]) -> Got
+    ensures { λ r. ⌜ Counts (r .count) (now (to .exit)) ⌝ }
+{
+    let mut done = 0;
+    let mut good = true;
+    while done < to.len() {
+        let got = read_behind(who, to, done);
+        if got.count == done {
+            good = got.good;
+            break;
+        }
+        done = got.count;
+    }
+    Got { count: done, good }
+}
+
+// Writes all of `bytes`, and answers whether that was possible.
+pub fn write(who: &[u8], bytes: &[u8]) -> bool {
+    let good = io::write_all(STDOUT_FILENO, bytes);
+    if !good {
+        os::fail(who);
+    }
+    good
+}
+
+// Writes a line of what is refused to standard error.
+pub fn say(who: &[u8], line: &[u8]) {
+    io::write_all(libc::STDERR_FILENO, who);
+    io::write_all(libc::STDERR_FILENO, line);
+}

@@ -1,0 +1,113 @@
+//! The wrapper as its users see it: `cargo test` in link/rust.
+
+use gateway::{Dispatcher, Fate, Job, Outcome, Refusal, Work};
+
+fn tasks(entries: &[[u32; 6]]) -> Vec<u8> {
+    let mut bytes = Vec::new();
+    for &[number, priority, mark, copy_in, execution, copy_out] in entries {
+        bytes.extend([1, number as u8, priority as u8, mark as u8]);
+        for length in [copy_in, execution, copy_out] {
+            bytes.extend(length.to_le_bytes());
+        }
+    }
+    bytes
+}
+
+/// The tasks of document 01's plans.
+fn plan() -> Vec<u8> {
+    tasks(&[[1, 1, 1, 2, 3, 1], [2, 2, 0, 2, 4, 1], [3, 3, 0, 2, 5, 2]])
+}
+
+#[test]
+fn plan_a_by_instants() {
+    let mut d = Dispatcher::open(&plan()).unwrap();
+    let (mut jobs, mut intervals) = (Vec::new(), Vec::new());
+    let mut releases = [(0, 1 << 3), (2, 1 << 2), (3, 1 << 1)].into_iter().peekable();
+    let mut due = None;
+    while let Some(now) = [due, releases.peek().map(|release| release.0)].into_iter().flatten().min() {
+        let set = releases.next_if(|release| release.0 == now).map_or(0, |release| release.1);
+        let answer = d.instant(now, set).unwrap();
+        jobs.extend(answer.done);
+        intervals.extend(answer.closed);
+        due = answer.due;
+    }
+    assert_eq!(
+        jobs,
+        [
+            Job { task: 3, release: 0, start: 2, completion: 9, blocked: 0 },
+            Job { task: 1, release: 3, start: 9, completion: 13, blocked: 1 },
+            Job { task: 2, release: 2, start: 12, completion: 17, blocked: 1 },
+        ]
+    );
+    let spans: Vec<_> = intervals.iter().map(|i| (i.begin, i.end, i.task, i.fate, i.promoted)).collect();
+    assert_eq!(spans[1], (2, 7, Some(3), Fate::Cancelled, Some(1)));
+    assert_eq!(spans[4], (16, 17, None, Fate::None, None));
+    assert_eq!(intervals[2].work, Work::CopyInAndExecute);
+    assert_eq!(d.pending(), 0);
+}
+
+/// The release entries of plan A.
+fn releases() -> Vec<u8> {
+    [(0u64, 3), (2, 2), (3, 1)].iter().flat_map(|&(time, task)| [2, task].into_iter().chain(time.to_le_bytes())).collect()
+}
+
+fn recorded() -> Vec<u8> {
+    let mut out = vec![0; 1 << 10];
+    let Outcome::Written(length) = gateway::record(&[plan(), releases()].concat(), &mut out) else {
+        panic!("plan A is refused");
+    };
+    out.truncate(length);
+    out
+}
+
+#[test]
+fn a_record_is_read_back() {
+    let (record, mut out) = (recorded(), vec![0; 64]);
+    assert_eq!(gateway::read(&plan(), &record, &mut out), Outcome::Written(30));
+    assert_eq!(out[..30], releases());
+    assert_eq!(gateway::read(&plan(), &record, &mut out[..29]), Outcome::TooShort(30));
+}
+
+#[test]
+fn a_record_that_no_list_makes() {
+    let (record, mut out) = (recorded(), vec![7; 64]);
+    let no_list = Refusal { number: 18, place: None };
+    assert_eq!(gateway::read(&plan(), &record[24..], &mut out), Outcome::Refused(no_list));
+    assert_eq!(no_list.to_string(), "no list of releases of these tasks makes this record (refusal 18)");
+    let cut = Refusal { number: 1, place: Some(24) };
+    assert_eq!(gateway::read(&plan(), &record[..30], &mut out), Outcome::Refused(cut));
+    assert_eq!(out, [7; 64]);
+}
+
+#[test]
+fn refusals_in_words() {
+    assert_eq!(Dispatcher::open(&[]).unwrap_err(), Refusal { number: 12, place: None });
+    let twice = tasks(&[[1, 1, 1, 2, 3, 1], [1, 2, 0, 2, 4, 1]]);
+    let refusal = Dispatcher::open(&twice).unwrap_err();
+    assert_eq!(refusal.to_string(), "a task number over 31 or given before (refusal 4) at byte 16");
+    let error: Box<dyn std::error::Error> = refusal.into();
+    assert!(error.to_string().contains("given before"));
+}
+
+#[test]
+fn a_refused_call_changes_nothing() {
+    let mut d = Dispatcher::open(&plan()).unwrap();
+    d.instant(5, 1 << 1).unwrap();
+    let before = d.clone();
+    for (time, set, number) in [(5, 0, 14), (8, 0, 15), (6, 1 << 9, 16), (1_000_000_001, 1 << 1, 10)] {
+        assert_eq!(d.instant(time, set).unwrap_err().number, number);
+        assert_eq!(format!("{d:?}"), format!("{before:?}"));
+    }
+    assert_eq!(d.mark(1, false).unwrap_err().number, 17);
+    assert_eq!(d.mark(9, true).unwrap_err().number, 16);
+    assert_eq!(d.instant(7, 0), before.clone().instant(7, 0));
+}
+
+#[test]
+fn marks() {
+    let mut d = Dispatcher::open(&plan()).unwrap();
+    assert_eq!(d.marked(), 1 << 1);
+    d.mark(2, true).unwrap();
+    d.mark(1, false).unwrap();
+    assert_eq!(d.marked(), 1 << 2);
+}
