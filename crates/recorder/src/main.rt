@@ -79,10 +79,16 @@ fn write_run(input: &[u8], part: TaskPart, out: &mut [u8])
     print(out, len);
 }
 
+// Writes a line to standard error, behind who says it.
+fn tell(who: &[u8], line: &[u8]) {
+    io::write_all(libc::STDERR_FILENO, who);
+    io::write_all(libc::STDERR_FILENO, line);
+}
+
 // Says on standard error why nothing is written.
 fn say(refusal: Refusal, out: &mut [u8]) {
     let count = lines::put(lines::refused_input_line(refusal), out);
-    streams::say(b"recorder: the input is refused: ", &out[..count]);
+    tell(b"recorder: the input is refused: ", &out[..count]);
 }
 
 fn answer(input: &[u8], out: &mut [u8])

@@ -2,6 +2,8 @@
 // standard error, with what the caller names, and the caller is told to stop.
 use libc::STDIN_FILENO;
 use libc::STDOUT_FILENO;
+ghost use mathlib.Core.Path.{_≡_};
+ghost use mathlib.Core.Bool.{true};
 ghost use Prim.Native.Nat.{_≤_};
 ghost use lib.ListN.{length};
 ghost use Rattle.io.specs.Counts.{Counts};
@@ -56,17 +58,16 @@ pub fn read_full(who: &[u8], to: &mut [u8]) -> Got
     Got { count: done, good }
 }
 
-// Writes all of `bytes`, and answers whether that was possible.
-pub fn write(who: &[u8], bytes: &[u8]) -> bool {
+// Writes all of `bytes`, and answers whether that was possible: always, where there is nothing to write.
+pub fn write(who: &[u8], bytes: &[u8]) -> bool
+    ensures { λ r. ⌜ (length (now (bytes .entry)) ≡ 0 → r ≡ true) ⌝ }
+{
+    if bytes.len() == 0 {
+        return true;
+    }
     let good = io::write_all(STDOUT_FILENO, bytes);
     if !good {
         os::fail(who);
     }
     good
-}
-
-// Writes a line of what is refused to standard error.
-pub fn say(who: &[u8], line: &[u8]) {
-    io::write_all(libc::STDERR_FILENO, who);
-    io::write_all(libc::STDERR_FILENO, line);
 }

@@ -14,17 +14,17 @@ refused-input-line-requires c κs = search needs
 put-requires : tie.Need-put-requires
 put-requires c κs = search needs
 
-slice-aggregate-say : tie.Need-slice-aggregate-say
-slice-aggregate-say c = search needs
+slice-aggregate-tell : tie.Need-slice-aggregate-tell
+slice-aggregate-tell c = search needs
 
-slice-reshare-prefix-say : tie.Need-slice-reshare-prefix-say
-slice-reshare-prefix-say c = le-trans (le-of-eq (c .before .before .before .put .ensures .0)) (le-trans (room-fits _ _) (omega arith))
+slice-reshare-prefix-tell : tie.Need-slice-reshare-prefix-tell
+slice-reshare-prefix-tell c = le-trans (le-of-eq (c .before .before .before .put .ensures .0)) (le-trans (room-fits _ _) (omega arith))
 
-slice-aggregate-say-2 : tie.Need-slice-aggregate-say-2
-slice-aggregate-say-2 c = sym (length-take-le _ _ (le-trans (le-of-eq (c .before .before .before .before .put .ensures .0)) (le-trans (room-fits _ _) (omega arith))))
+slice-aggregate-tell-2 : tie.Need-slice-aggregate-tell-2
+slice-aggregate-tell-2 c = sym (length-take-le _ _ (le-trans (le-of-eq (c .before .before .before .before .put .ensures .0)) (le-trans (room-fits _ _) (omega arith))))
 
-say-requires : tie.Need-say-requires
-say-requires c κs = search needs
+tell-requires : tie.Need-tell-requires
+tell-requires c κs = search needs
 
 same-length : tie.Need-same-length
 same-length c = search needs
@@ -38,9 +38,9 @@ say-spec =
     (tie.spec
     refused-input-line-requires
     put-requires
-    slice-aggregate-say
-    slice-reshare-prefix-say
-    slice-aggregate-say-2
-    say-requires
+    slice-aggregate-tell
+    slice-reshare-prefix-tell
+    slice-aggregate-tell-2
+    tell-requires
     same-length
     returns)
