@@ -265,11 +265,12 @@ impl State {
         }
         if self.open {
             // d
-            if self.engine == Unit::CopyingIn && new & self.marked != 0 {
+            if new & self.marked != 0 && self.chosen != NONE && self.fate < 2 {
                 let n = self.highest(new & self.marked);
                 if self.priority[n as usize] < self.priority[self.chosen as usize] {
                     self.engine = Unit::Free;
-                    self.fate = 2;
+                    // under way (0) it is cancelled (2), and done (1) it is thrown out (3)
+                    self.fate += 2;
                     self.ready |= 1 << self.chosen;
                 }
             }

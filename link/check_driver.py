@@ -20,7 +20,7 @@ GATEWAY = ROOT / "target/bin/gateway"
 
 def merged(rng):
     """The task entries, and for each of some cores its releases (time, task)."""
-    tasks = generate.some_tasks(rng, rng.randint(1, 6), generate.small_length)
+    tasks = generate.some_tasks(rng, rng.randint(1, 6), generate.small_length, rng.choice((1, generate.STRETCH)))
     numbers = [task[1] for task in tasks]
     cores = rng.sample(range(64), rng.randint(1, 5))
     span = rng.choice((20, 100, 1000))
@@ -87,11 +87,11 @@ def long_stream(driver, seed):
 
 
 def marks(driver):
-    """A mark that was changed is handed over to the new dispatcher."""
+    """A mark that was changed is handed over to the new dispatcher: plans A and B in turn, with the mark of task 1 from a call."""
     tasks = task_entry(1, 1, 0, 2, 3, 1) + task_entry(2, 2, 0, 2, 4, 1) + task_entry(3, 3, 0, 2, 5, 2)
-    releases = [(0, 3), (2, 2), (3, 1)]
     text, expected = "7 0 mark 1 1\n", []
-    for begin in (0, 900_000_000, 1_800_000_000):
+    for begin, last in ((0, 3), (900_000_000, 4), (1_800_000_000, 3), (2_700_000_000, 4)):
+        releases = [(0, 3), (2, 2), (last, 1)]
         text += "".join(f"7 {begin + time} {task}\n" for time, task in releases)
         data = task_entry(1, 1, 1, 2, 3, 1) + tasks[16:] + b"".join(release_entry(*release) for release in releases)
         expected += [later(line, begin) for line in gateway_lines(data)]

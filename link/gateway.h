@@ -50,7 +50,7 @@ typedef struct {
 } gateway_job;
 
 /* 255 is no task: of `task`, the processor's, `copied_out`, `chosen` and `promoted`. `work` is 0 idle, 1 execute, 2 copy in and execute;
- * `fate`, that of the copy-in, 0 none, 1 done, 2 cancelled. */
+ * `fate`, that of the copy-in, 0 none, 1 done, 2 cancelled under way, 3 done and then thrown out. */
 typedef struct {
     uint64_t begin, end;
     uint8_t half, task, work, copied_out, chosen, fate, promoted;

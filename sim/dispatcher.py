@@ -16,7 +16,10 @@ LAST_RELEASE_TIME = 1_000_000_000
 IDLE, EXECUTE, COPY_IN_AND_EXECUTE = 0, 1, 2
 
 # The fate of an interval's copy-in.
-NO_COPY_IN, COPY_IN_DONE, COPY_IN_CANCELLED = 0, 1, 2
+NO_COPY_IN, COPY_IN_DONE, COPY_IN_CANCELLED, COPY_IN_THROWN_OUT = 0, 1, 2, 3
+
+# What becomes of a chosen copy-in that gives way: one under way, which has no fate yet, and one that is done.
+GIVES_WAY = {NO_COPY_IN: COPY_IN_CANCELLED, COPY_IN_DONE: COPY_IN_THROWN_OUT}
 
 # The phases of a job.
 COPY_IN, EXECUTION, COPY_OUT = "copy-in", "execution", "copy-out"
@@ -206,14 +209,14 @@ class Dispatcher:
         return taken
 
     def _step_d(self, taken):
-        """d. A marked release of higher priority cancels the engine's copy-in under way (R3)."""
+        """d. A marked release of higher priority cancels the open interval's copy-in under way (R3), or throws out a finished one."""
         interval = self.interval
-        if interval is None or interval.engine is None or interval.engine.name != COPY_IN:
+        if interval is None or interval.chosen is None or interval.fate not in GIVES_WAY:
             return
-        victim = interval.engine.job
+        victim = interval.chosen
         if any(job.task.mark and is_higher(job, victim) for job in taken):
             interval.engine = None
-            interval.fate = COPY_IN_CANCELLED
+            interval.fate = GIVES_WAY[interval.fate]
             self.ready.add(victim)
 
     def _step_e(self, now):

@@ -1,7 +1,8 @@
 """Random files and sessions. The same generator state gives the same bytes.
 
-Most tables have few tasks and lengths of 1 to 5, so that ends of phases and releases fall on the same
-ticks. Releases and calls are mostly found by following a dispatcher: at its due time, or just before.
+Most tables have few tasks and lengths of 1 to 5, half of them longer executions, so that ends of phases and
+releases fall on the same ticks. Releases and calls are mostly found by following a dispatcher: at its due time,
+or just before.
 """
 
 from sim.dispatcher import LAST_RELEASE_TIME, Dispatcher, members
@@ -14,6 +15,12 @@ LAST_TICK = 2**64 - 1
 
 # No input that is refused holds its first refusal behind this many bytes.
 LONGEST_CHECKED = 41_488
+
+# How often an instant has a release to which a copy-in gives way, where there is one: by chance alone few do, fewest when it is done.
+RIVAL_CHANCE = 0.35
+
+# How much longer than copies the executions of some tables are, so that copies are done before their interval ends.
+STRETCH = 4
 
 # Values at and beside the limits of the fields of each size.
 BOUNDARIES = {
@@ -33,13 +40,13 @@ def large_length(rng, _):
     return rng.choice((1, rng.randint(1, 100), rng.randint(1, LENGTH_LIMIT), LENGTH_LIMIT))
 
 
-def some_tasks(rng, count, lengths):
-    """Task entries in any order: numbers, priorities and marks shuffled."""
+def some_tasks(rng, count, lengths, stretch=1):
+    """Task entries in any order: numbers, priorities and marks shuffled. A stretch makes executions longer than copies."""
     numbers = rng.sample(range(LAST_TASK + 1), count)
     priorities = rng.sample(range(256), count)
     marked = rng.choice((0, 0.3, 0.5, 0.5, 0.8, 1))
     top = rng.choice((1, 2, 3, 5, 5))
-    return [task_entry(number, priority, int(rng.random() < marked), *(lengths(rng, top) for _ in range(3)))
+    return [task_entry(number, priority, int(rng.random() < marked), *(lengths(rng, most) for most in (top, stretch * top, top)))
             for number, priority in zip(numbers, priorities)]
 
 
@@ -48,7 +55,7 @@ def random_tasks(rng):
     count, lengths = rng.choices(((rng.randint(1, 5), small_length), (rng.randint(6, 31), small_length),
                                   (LAST_TASK + 1, small_length), (rng.randint(1, LAST_TASK + 1), large_length)),
                                  weights=(14, 2, 2, 3))[0]
-    return some_tasks(rng, count, lengths)
+    return some_tasks(rng, count, lengths, rng.choice((1, STRETCH)))
 
 
 def longest_length(tasks):
@@ -83,9 +90,24 @@ def _known_set(rng, dispatcher, density):
     return released
 
 
+def _rivals(dispatcher):
+    """Free marked tasks that are higher than what the open interval copies in: it gives way to the first that is released, and a higher one
+    behind that may be promoted."""
+    chosen = dispatcher.interval.chosen if dispatcher.interval is not None else None
+    if chosen is None:
+        return []
+    return [task.number for task in dispatcher.table.values()
+            if task.mark and task.priority < chosen.task.priority and task.number not in dispatcher.pending]
+
+
 def served_instant(rng, dispatcher, gap, density):
     time = min(_served_time(rng, dispatcher, gap), LAST_TICK)
-    released = _known_set(rng, dispatcher, density) if time <= LAST_RELEASE_TIME else 0
+    if time > LAST_RELEASE_TIME:
+        return time, 0
+    released = _known_set(rng, dispatcher, density)
+    rivals = _rivals(dispatcher)
+    if rivals and rng.random() < RIVAL_CHANCE:
+        released |= 1 << rng.choice(rivals)
     return time, released
 
 

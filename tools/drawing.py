@@ -6,12 +6,12 @@ where there is no room for a label, nothing is lost. Where no interval is open f
 """
 
 from bisect import bisect_right
-from collections import defaultdict
+from collections import Counter, defaultdict
 from xml.etree import ElementTree
 
 from tools import legend, shapes
 from tools.shapes import add, longest_fitting, width_of, words
-from tools.timeline import ENGINE, PROCESSOR
+from tools.timeline import CANCELLED, ENGINE, PROCESSOR, THROWN_OUT
 
 # Widths in pixels.
 LEFT, RIGHT = 84, 30
@@ -122,12 +122,10 @@ def draw_bar(parent, layout, bar, colours):
     """A phase of a job on its unit's row."""
     x, width = layout.x(bar.begin), layout.width(bar.begin, bar.end)
     y = {PROCESSOR: layout.processor, ENGINE: layout.engine}[bar.unit] + BAR_TOP
-    cancelled = bar.cancelled_by is not None
-    fate = "cancelled" if cancelled else "done"
-    box = group(parent, f"task {bar.task}, {bar.kind} on the {bar.unit}, {bar.begin} to {bar.end}, {fate}", unit=bar.unit,
-                kind=bar.kind, task=bar.task, begin=bar.begin, end=bar.end, interval=bar.interval, fate=fate)
-    shapes.bar(box, x, y, width, bar.kind, colours[bar.task], cancelled)
-    room = width - (12 if cancelled else 4)  # the cross stands over a cancelled bar's end
+    box = group(parent, f"task {bar.task}, {bar.kind} on the {bar.unit}, {bar.begin} to {bar.end}, {bar.fate}", unit=bar.unit,
+                kind=bar.kind, task=bar.task, begin=bar.begin, end=bar.end, interval=bar.interval, fate=bar.fate)
+    shapes.bar(box, x, y, width, bar.kind, colours[bar.task], bar.fate)
+    room = width - (4 if bar.winner is None else 12)  # the mark of a copy-in that gave way may stand over its end
     text = longest_fitting((f"{SHORT_NAMES[bar.kind]} {bar.task}", str(bar.task)), room)
     if text:
         words(box, x + room / 2 + 2, y + 19, text, "middle strong")
@@ -135,11 +133,17 @@ def draw_bar(parent, layout, bar, colours):
 
 # Marks.
 
-def draw_cancellation(parent, layout, bar):
-    """A cross at the end of the copy-in that was cancelled."""
-    mark = group(parent, f"the release of task {bar.cancelled_by} at {bar.end} cancels the copy-in of task {bar.task}",
-                 kind="cancellation", task=bar.task, time=bar.end, by=bar.cancelled_by)
-    shapes.cross(mark, layout.x(bar.end), layout.engine + BAR_TOP + shapes.BAR_HEIGHT / 2)
+def draw_giving_way(parent, layout, bar):
+    """A mark at the tick on which a copy-in was cancelled, or thrown out: then it had ended, on that tick or before."""
+    time, winner = bar.winner
+    kind, verb = {CANCELLED: ("cancellation", "cancels"), THROWN_OUT: ("throw-out", "throws out")}[bar.fate]
+    mark = group(parent, f"the release of task {winner} at {time} {verb} the copy-in of task {bar.task}",
+                 kind=kind, task=bar.task, time=time, by=winner)
+    y = layout.engine + BAR_TOP + shapes.BAR_HEIGHT / 2
+    if bar.fate == CANCELLED:
+        shapes.cross(mark, layout.x(time), y)
+    else:
+        shapes.thrown_out(mark, layout.x(bar.end), layout.x(time), y)
 
 
 def draw_promotion(parent, layout, promotion, band):
@@ -264,11 +268,12 @@ def count(number, one, several=None):
 
 def summary(run, layout):
     skipped = sum(release.skipped for release in run.releases)
-    cancelled = sum(bar.cancelled_by is not None for bar in run.bars)
+    fates = Counter(bar.fate for bar in run.bars)
     return ", ".join((
         f"ticks {layout.start} to {layout.end}", count(len(run.table), "task"),
         f"{count(len(run.releases), 'release')} ({skipped} skipped)", count(len(run.bands), "interval"),
-        count(cancelled, "copy-in cancelled", "copy-ins cancelled"), count(len(run.promotions), "job promoted", "jobs promoted"),
+        count(fates[CANCELLED], "copy-in cancelled", "copy-ins cancelled"), *([f"{fates[THROWN_OUT]} thrown out"] if fates[THROWN_OUT] else []),
+        count(len(run.promotions), "job promoted", "jobs promoted"),
         count(len(run.completions), "job done", "jobs done")))
 
 
@@ -282,7 +287,7 @@ def draw(run, title):
     colours = shapes.task_colours(run.table)
     width = max(LEAST_WIDTH, Layout(run, 0).right + RIGHT)
     key = add(root, "g")
-    top = 66 + legend.draw(key, 20, 60, min(width, MOST_LEGEND) - 40, legend.items(run.table, colours))
+    top = 66 + legend.draw(key, 20, 60, min(width, MOST_LEGEND) - 40, legend.items(run, colours))
     layout = Layout(run, top)
     description.text = f"Timeline of the processor and the copy engine: {summary(run, layout)}."
     words(root, 20, 28, title, "heading")
@@ -292,9 +297,9 @@ def draw(run, title):
         draw_band(root, layout, band)
     for bar in run.bars:
         draw_bar(root, layout, bar, colours)
-    for bar in run.bars:  # after all bars, since the next interval's may begin where a copy-in was cancelled
-        if bar.cancelled_by is not None:
-            draw_cancellation(root, layout, bar)
+    for bar in run.bars:  # after all bars, since the next interval's may begin where a copy-in gave way
+        if bar.winner is not None:
+            draw_giving_way(root, layout, bar)
     bands = {band.number: band for band in run.bands}
     for promotion in run.promotions:
         draw_promotion(root, layout, promotion, bands[promotion.interval])

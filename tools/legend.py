@@ -2,17 +2,21 @@
 
 from tools import shapes
 from tools.shapes import add, words
+from tools.timeline import CANCELLED, DONE, THROWN_OUT
 
 SWATCH = 36
 GREY = ("#b9b9b9", "#ececec", "#444444")
 
 
-def bar_sample(kind, cancelled=False):
+def bar_sample(kind, fate=DONE):
     def draw(parent, x, y):
+        width = 12 if fate == THROWN_OUT else 26
         scaled = add(parent, "g", transform=f"translate({shapes.places(x)} {shapes.places(y - 9)}) scale(1 0.6)")
-        shapes.bar(scaled, 0, 0, 26, kind, GREY, cancelled)
-        if cancelled:
-            shapes.cross(parent, x + 26, y)
+        shapes.bar(scaled, 0, 0, width, kind, GREY, fate)
+        if fate == CANCELLED:
+            shapes.cross(parent, x + width, y)
+        if fate == THROWN_OUT:
+            shapes.thrown_out(parent, x + width, x + 26, y)
     return draw
 
 
@@ -36,11 +40,19 @@ def task_sample(colours):
     return draw
 
 
-SHAPES = (
+PHASES = (
     (bar_sample("copy-in"), "copy-in (in)"),
     (bar_sample("execution"), "execution (run)"),
     (bar_sample("copy-out"), "copy-out (out)"),
-    (bar_sample("copy-in", cancelled=True), "copy-in cancelled"),
+)
+
+# How a copy-in gives way: shown where one does.
+GAVE_WAY = (
+    (CANCELLED, (bar_sample("copy-in", CANCELLED), "copy-in cancelled")),
+    (THROWN_OUT, (bar_sample("copy-in", THROWN_OUT), "copy thrown out")),
+)
+
+MARKS = (
     (lambda parent, x, y: shapes.promotion_mark(parent, x + 13, y), "job promoted"),
     (release_sample(False), "release of task n"),
     (release_sample(True), "release skipped"),
@@ -55,9 +67,12 @@ def task_text(task):
     return f"task {task.number}: priority {task.priority}{mark}, L {task.copy_in}, C {task.execution}, U {task.copy_out}"
 
 
-def items(table, colours):
+def items(run, colours):
     """Two groups, each to begin on a row of its own: the shapes, and the tasks by number."""
-    return SHAPES, tuple((task_sample(colours[number]), task_text(table[number])) for number in sorted(table))
+    fates = {bar.fate for bar in run.bars}
+    gave_way = tuple(item for fate, item in GAVE_WAY if fate in fates)
+    tasks = tuple((task_sample(colours[number]), task_text(run.table[number])) for number in sorted(run.table))
+    return PHASES + gave_way + MARKS, tasks
 
 
 def draw(parent, left, top, width, groups, row=24):

@@ -1,5 +1,5 @@
 """Inputs at the limits of document 01, beside the random ones: a cut at each byte, each field at and beside its limits, exactly as many
-releases as there may be and one more, times at the end of what a number holds."""
+releases as there may be and one more, times at the end of what a number holds, a release on each tick around a copy-in."""
 
 from sim.dispatcher import LAST_RELEASE_TIME
 from sim.entries import SKIPPED, encode, release_entry, task_entry, two_parts
@@ -44,8 +44,13 @@ def crowded(count):
     return TABLE + b"".join(release_entry(time, 1) for time in range(count))
 
 
+def around_a_copy():
+    """A marked release on each tick behind the choice of a lower copy-in, over its end, to the end of its interval and one more."""
+    return [TABLE + b"".join(release_entry(*pair) for pair in (*PAIRS[:2], (time, 1))) for time in range(3, 9)]
+
+
 def files():
-    found = cuts(TABLE + b"".join(RELEASES))
+    found = cuts(TABLE + b"".join(RELEASES)) + around_a_copy()
     found += [TABLE + other + RELEASES[0] for other in other_tasks()]
     found += [TABLE + other for other in other_releases()]
     found += [TABLE + RELEASES[0] + TASKS[0], TASKS[0] + bytes([3]) + RELEASES[0]]

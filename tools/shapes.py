@@ -3,9 +3,12 @@
 import colorsys
 from xml.etree import ElementTree
 
+from tools.timeline import CANCELLED, DONE, THROWN_OUT
+
 BAR_HEIGHT = 30
+RING = 6  # the radius of the mark of a copy that was thrown out
 HALF_COLOURS = ("#e6effb", "#fbf0dc")
-MARK_COLOUR = "#b00020"  # cancelled and promoted: what a latency-sensitive release brought about
+MARK_COLOUR = "#b00020"  # cancelled, thrown out and promoted: what a latency-sensitive release brought about
 
 STYLE = """
 text { font-family: sans-serif; font-size: 11px; fill: #1a1a1a; }
@@ -78,19 +81,30 @@ def definitions(root):
     add(pattern, "line", x1=0, y1=0, x2=0, y2=6, stroke=MARK_COLOUR, stroke_width=1.6, stroke_opacity=0.55)
 
 
-def bar(parent, x, y, width, kind, colours, cancelled=False):
-    """A phase: execution in full colour, copies pale, copy-out with a dashed edge; hatched if cancelled."""
+def bar(parent, x, y, width, kind, colours, fate=DONE):
+    """A phase: execution in full colour, copies pale, copy-out with a dashed edge; hatched if cancelled, crossed out if thrown out."""
     full, pale, edge = colours
     dashes = {"stroke_dasharray": "4 2"} if kind == "copy-out" else {}
     box = {"x": x, "y": y, "width": width, "height": BAR_HEIGHT}
     add(parent, "rect", **box, fill=full if kind == "execution" else pale, stroke=edge,
         stroke_width=min(1, width / 4), **dashes)
-    if cancelled:
+    if fate == CANCELLED:
         add(parent, "rect", **box, fill="url(#hatch)")
+    if fate == THROWN_OUT:
+        across = f"M{places(x)} {places(y)}l{places(width)} {BAR_HEIGHT}m0 -{BAR_HEIGHT}l{places(-width)} {BAR_HEIGHT}"
+        add(parent, "path", d=across, fill="none", stroke=MARK_COLOUR, stroke_width=min(1.6, width / 4), stroke_opacity=0.55)
 
 
 def cross(parent, x, y):
     add(parent, "path", class_="cross", d=f"M{places(x - 5)} {places(y - 5)}l10 10m0 -10l-10 10")
+
+
+def thrown_out(parent, end, x, y):
+    """A cross in a ring where a finished copy was thrown out, with a line to it from the copy's end."""
+    if x - end > RING:
+        add(parent, "path", d=f"M{places(end)} {places(y)}H{places(x - RING)}", stroke=MARK_COLOUR, stroke_dasharray="3 2", fill="none")
+    add(parent, "circle", cx=x, cy=y, r=RING, fill="#ffffff", stroke=MARK_COLOUR, stroke_width=1.5)
+    add(parent, "path", class_="cross", d=f"M{places(x - 3)} {places(y - 3)}l6 6m0 -6l-6 6")
 
 
 def release_arrow(parent, x, y, skipped):

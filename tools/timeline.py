@@ -7,11 +7,15 @@ document 01's instant list. Lines that cannot be the run of the plan are named b
 from bisect import bisect_right
 from typing import NamedTuple, Optional
 
-from sim.dispatcher import COPY_IN, COPY_IN_AND_EXECUTE, COPY_IN_CANCELLED, COPY_OUT, EXECUTION, IDLE, NO_COPY_IN
-from sim.dispatcher import IntervalClosed, JobDone
+from sim.dispatcher import COPY_IN_CANCELLED, COPY_IN_DONE, COPY_IN_THROWN_OUT, NO_COPY_IN
+from sim.dispatcher import COPY_IN, COPY_IN_AND_EXECUTE, COPY_OUT, EXECUTION, IDLE, IntervalClosed, JobDone
 
 PROCESSOR, ENGINE = "processor", "engine"
 LAST_TICK = 2**64 - 1
+
+# What became of a phase; only the engine's copy-ins are not always done.
+DONE, CANCELLED, THROWN_OUT = "done", "cancelled", "thrown out"
+FATES = {COPY_IN_DONE: DONE, COPY_IN_CANCELLED: CANCELLED, COPY_IN_THROWN_OUT: THROWN_OUT}
 
 
 class BadLines(Exception):
@@ -31,15 +35,22 @@ class Band(NamedTuple):
     half: int
 
 
+class Winner(NamedTuple):
+    """The release to which a copy-in gave way."""
+    time: int
+    task: int
+
+
 class Bar(NamedTuple):
     """A phase on one of the two units."""
     unit: str
     kind: str
     task: int
     begin: int
-    end: int
+    end: int  # of a copy-in that was cancelled, when that was; one that was thrown out had come to its end
     interval: int
-    cancelled_by: Optional[int] = None  # the task whose release cancelled this copy-in
+    fate: str = DONE
+    winner: Optional[Winner] = None
 
 
 class Release(NamedTuple):
@@ -67,7 +78,7 @@ class Timeline(NamedTuple):
 
 SHAPES = {"J": JobDone, "I": IntervalClosed, "S": Skip}
 TASKS = ("task", "executed", "copied_out", "chosen", "promoted")
-LIMITS = {"half": 1, "work": 2, "fate": 2, "blocked": 255}
+LIMITS = {"half": 1, "work": 2, "fate": 3, "blocked": 255}
 
 
 def parse_field(name, word, table):
@@ -121,25 +132,38 @@ def engine_bars(interval, number, table, taken):
         start += table[interval.copied_out].copy_out
         bars.append(Bar(ENGINE, COPY_OUT, interval.copied_out, interval.begin, start, number))
     if interval.chosen is not None:
-        end, by = start + table[interval.chosen].copy_in, None
-        if interval.fate == COPY_IN_CANCELLED:
-            end, by = cancelling(table[interval.chosen], start, end, table, taken)
-        bars.append(Bar(ENGINE, COPY_IN, interval.chosen, start, end, number, by))
+        bars.append(copyin_bar(interval, number, start, table, taken))
     return bars
 
 
-def cancelling(chosen, start, end, table, taken):
-    """The tick and the task of the release that cancelled a copy-in: the first marked one of higher priority under way.
+def copyin_bar(interval, number, start, table, taken):
+    """The engine's copy-in, to its end or to its cancelling. Its fate follows from the release to which it gave way."""
+    chosen, fate = table[interval.chosen], FATES[interval.fate]
+    end = start + chosen.copy_in
+    winner = winner_over(chosen, start, max(end, interval.end), table, taken)
+    under_way = winner is not None and winner.time < end
+    if fate == CANCELLED and not under_way:
+        raise BadLines(f"no release cancels the copy-in of task {chosen.number} from {start} to {end}")
+    if fate == THROWN_OUT and (winner is None or under_way):
+        raise BadLines(f"no release throws out the copy-in of task {chosen.number}, which ends at {end}")
+    if fate == DONE and winner is not None:
+        raise BadLines(f"the copy-in of task {chosen.number} is done, and yet gives way to the release of task {winner.task} at {winner.time}")
+    return Bar(ENGINE, COPY_IN, chosen.number, start, winner.time if fate == CANCELLED else end, number, fate, winner)
 
-    Strictly between start and end: the choice (step e) comes after the cancelling (step d) of its own instant, and a copy-in that
-    ends (step a) does so before the releases of that instant.
+
+def winner_over(chosen, start, end, table, taken):
+    """The release to which a copy-in gives way: the first marked one of higher priority strictly between its start and an end.
+
+    Strictly, since the choice (step e) comes after the releases of its own instant, and an interval that ends at step b does so
+    before them.
     """
-    for time, number in taken[bisect_right(taken, (start, max(table))):]:
+    for at in range(bisect_right(taken, (start, max(table))), len(taken)):
+        time, number = taken[at]
         if time >= end:
             break
         if table[number].mark and table[number].priority < chosen.priority:
-            return time, number
-    raise BadLines(f"no release cancels the copy-in of task {chosen.number} from {start} to {end}")
+            return Winner(time, number)
+    return None
 
 
 def interval_bars(interval, number, table, taken):

@@ -68,7 +68,10 @@ pub enum Work {
 pub enum Fate {
     None,
     Done,
+    /// A release came while it was under way, and it gave way.
     Cancelled,
+    /// A release came when it was done, and it gave way: its job is to be copied in again.
+    ThrownOut,
 }
 
 /// An interval that has ended; `task` is the processor's.
@@ -262,7 +265,7 @@ impl Told {
             work: [Work::Idle, Work::Execute, Work::CopyInAndExecute][usize::from(work.min(2))],
             copied_out: task(copied_out),
             chosen: task(chosen),
-            fate: [Fate::None, Fate::Done, Fate::Cancelled][usize::from(fate.min(2))],
+            fate: [Fate::None, Fate::Done, Fate::Cancelled, Fate::ThrownOut][usize::from(fate.min(3))],
             promoted: task(promoted),
             after_releases: self.flags[1] == 2,
         }

@@ -1,6 +1,6 @@
 //! The wrapper as its users see it: `cargo test` in link/rust.
 
-use gateway::{Dispatcher, Fate, Job, Outcome, Refusal, Work};
+use gateway::{Dispatcher, Fate, Interval, Job, Outcome, Refusal, Work};
 
 fn tasks(entries: &[[u32; 6]]) -> Vec<u8> {
     let mut bytes = Vec::new();
@@ -18,11 +18,11 @@ fn plan() -> Vec<u8> {
     tasks(&[[1, 1, 1, 2, 3, 1], [2, 2, 0, 2, 4, 1], [3, 3, 0, 2, 5, 2]])
 }
 
-#[test]
-fn plan_a_by_instants() {
+/// The jobs and the intervals of a plan with three releases: of 3 at 0, of 2 at 2, and of 1 at a time.
+fn run(last: u64) -> (Vec<Job>, Vec<Interval>) {
     let mut d = Dispatcher::open(&plan()).unwrap();
     let (mut jobs, mut intervals) = (Vec::new(), Vec::new());
-    let mut releases = [(0, 1 << 3), (2, 1 << 2), (3, 1 << 1)].into_iter().peekable();
+    let mut releases = [(0, 1 << 3), (2, 1 << 2), (last, 1 << 1)].into_iter().peekable();
     let mut due = None;
     while let Some(now) = [due, releases.peek().map(|release| release.0)].into_iter().flatten().min() {
         let set = releases.next_if(|release| release.0 == now).map_or(0, |release| release.1);
@@ -31,6 +31,13 @@ fn plan_a_by_instants() {
         intervals.extend(answer.closed);
         due = answer.due;
     }
+    assert_eq!(d.pending(), 0);
+    (jobs, intervals)
+}
+
+#[test]
+fn plan_a_by_instants() {
+    let (jobs, intervals) = run(3);
     assert_eq!(
         jobs,
         [
@@ -43,7 +50,14 @@ fn plan_a_by_instants() {
     assert_eq!(spans[1], (2, 7, Some(3), Fate::Cancelled, Some(1)));
     assert_eq!(spans[4], (16, 17, None, Fate::None, None));
     assert_eq!(intervals[2].work, Work::CopyInAndExecute);
-    assert_eq!(d.pending(), 0);
+}
+
+#[test]
+fn plan_b_by_instants() {
+    let ((jobs_a, intervals_a), (jobs, intervals)) = (run(3), run(4));
+    assert_eq!(intervals[1], Interval { fate: Fate::ThrownOut, ..intervals_a[1] });
+    assert_eq!(intervals[2..], intervals_a[2..]);
+    assert_eq!(jobs, [jobs_a[0], Job { release: 4, ..jobs_a[1] }, jobs_a[2]]);
 }
 
 /// The release entries of plan A.

@@ -68,7 +68,7 @@ def check(test, history):
         _check_promotion(test, history, index)
     for index, job in executing.items():
         _check_copy_out(test, history, index, job)
-        _check_order(test, history, index, job)
+        check_order(test, history, index, job)
 
 
 def _check_halves_and_times(test, history):
@@ -144,7 +144,11 @@ def _marked_here(history, index):
 
 
 def _check_end(test, history, index, job):
-    """R6 and R3: an interval ends at the later of its units' ends; a cancelled copy at its cancelling."""
+    """R6 and R3: an interval ends at the later of its units' ends; a cancelled copy at its cancelling.
+
+    A copy-in gives way to the first marked release of higher priority that comes behind its choice and belongs to its interval:
+    under way it is cancelled, and one that has ended, on that very tick or before, is thrown out.
+    """
     interval = history.intervals[index]
     processor = interval.begin
     if job is not None:
@@ -155,10 +159,10 @@ def _check_end(test, history, index, job):
     if interval.chosen is not None:
         chosen = history.table[interval.chosen]
         engine = choice + chosen.copy_in
-        cancellings = [each.release for each in _marked_here(history, index)
-                       if choice < each.release < engine and each.task.priority < chosen.priority]
-        test.assertEqual(interval.fate, 2 if cancellings else 1)
-        engine = min(cancellings, default=engine)
+        gives_way = min((each.release for each in _marked_here(history, index)
+                         if choice < each.release and each.task.priority < chosen.priority), default=None)
+        test.assertEqual(interval.fate, 1 if gives_way is None else 2 if gives_way < engine else 3)
+        engine = gives_way if interval.fate == 2 else engine
     test.assertEqual(interval.end, max(processor, engine))
     # Only a choice or a cancelling of this very instant leaves the end to step f.
     late = interval.end == engine and (choice == engine or interval.fate == 2)
@@ -166,7 +170,7 @@ def _check_end(test, history, index, job):
 
 
 def _check_promotion(test, history, index):
-    """R4: with no copy-in done, the highest marked job released in the interval, since all of them are ready."""
+    """R4: with no copy-in done that stayed, the highest marked job released in the interval, since all of them are ready."""
     interval = history.intervals[index]
     marked = [job.task for job in _marked_here(history, index)] if interval.fate != 1 else []
     best = min(marked, key=lambda task: task.priority, default=None)
@@ -179,28 +183,17 @@ def _check_copy_out(test, history, index, job):
     test.assertEqual(job.done.completion, history.intervals[index].end + job.task.copy_out)
 
 
-def _finished_lower_copy(history, job):
-    """Whether the engine had finished a lower copy-in in the first interval when this job came."""
-    first = history.intervals[job.first]
-    if first.fate != 1 or history.table[first.chosen].priority <= job.task.priority:
-        return False
-    end = first.begin + history.table[first.chosen].copy_in
-    if first.copied_out is not None:
-        end += history.table[first.copied_out].copy_out
-    return end <= job.release
-
-
-def _check_order(test, history, index, job):
-    """From a job's third interval on (a marked one's second, with one exception) nobody lower executes."""
+def check_order(test, history, index, job):
+    """From a job's third interval on, and a marked one's second, the processor executes, and nobody lower."""
     test.assertLess(job.first, index)
+    firm = 1 if job.task.mark else 2
     lower = []
     for at in range(job.first, index):
         executed = history.intervals[at].executed
         is_lower = executed is not None and history.table[executed].priority > job.task.priority
         lower.append(is_lower)
-        firm = 1 if job.task.mark and not _finished_lower_copy(history, job) else 2
         if at - job.first >= firm:
             test.assertIsNotNone(executed)
             test.assertFalse(is_lower)
     test.assertEqual(job.done.blocked, sum(lower))
-    test.assertLessEqual(job.done.blocked, 2)
+    test.assertLessEqual(job.done.blocked, firm)

@@ -1,5 +1,8 @@
 """Document 01's plans: its three tasks, and the releases (time, task) of each plan."""
 
+from unittest import mock
+
+from sim.dispatcher import COPY_IN_CANCELLED, NO_COPY_IN
 from sim.entries import release_entry, task_entry
 
 TASK_1 = task_entry(1, 1, 1, 2, 3, 1)
@@ -30,6 +33,11 @@ def plan_file(*pairs, tasks=TASKS):
 
 def plan(name):
     return plan_file(*PLANS[name])
+
+
+def finished_copies_stay():
+    """The rule before 2/13, as long as the context lasts."""
+    return mock.patch.dict("sim.dispatcher.GIVES_WAY", {NO_COPY_IN: COPY_IN_CANCELLED}, clear=True)
 
 
 def task_set(*numbers):

@@ -8,7 +8,8 @@ from sim.entries import Refused
 from sim.files import read_file, released_sets, run
 from sim.generate import make_call, random_calls, random_file, random_tasks
 from sim.sessions import INSTANT
-from sim.tests.history import History, check
+from sim.tests.history import History, check, check_order
+from sim.tests.plans import finished_copies_stay, plan
 
 FILES = 400
 LISTS = 400
@@ -52,6 +53,24 @@ class RandomRuns(unittest.TestCase):
             calls = random_calls(rng, tasks, rng.choice((10, 60, 200)), drained=True)
             with self.subTest(seed=seed):
                 check(self, list_history(tasks, calls))
+
+
+class MarkedJobs(unittest.TestCase):
+    """Plan B's marked job: a lower one executes in its first interval only."""
+
+    def check_order(self, history):
+        [job] = [job for job in history.jobs if job.task.mark]
+        [index] = [index for index, interval in enumerate(history.intervals) if interval.executed == job.task.number]
+        check_order(self, history, index, job)
+
+    def test_plan_b(self):
+        self.check_order(file_history(plan("B")))
+
+    def test_where_finished_copies_stay_it_does_not_hold(self):
+        with finished_copies_stay():
+            history = file_history(plan("B"))
+        with self.assertRaises(AssertionError):
+            self.check_order(history)
 
 
 if __name__ == "__main__":

@@ -5,7 +5,7 @@ import functools
 import random
 import unittest
 
-from sim.entries import Refused
+from sim.entries import Refused, parts_of
 from sim.files import instant_entries, read_file, run
 from sim.generate import LONGEST_CHECKED, damaged_file, damaged_session, random_file, random_session
 from sim.generate_records import LONGEST_KEPT, damaged_stored, longer_than_kept, random_stored
@@ -31,6 +31,20 @@ class SameSeed(unittest.TestCase):
             for seed in range(20):
                 self.assertEqual(make(random.Random(seed)), make(random.Random(seed)))
             self.assertGreater(len({make(random.Random(seed)) for seed in range(20)}), 15)
+
+
+class ThrownOut(unittest.TestCase):
+    """Copies that are finished and then thrown out come often enough to be compared."""
+
+    def having(self, make, lines):
+        """How many inputs have one."""
+        return sum(any(line[0] == "I" and line.split()[8] == "3" for line in lines(data)) for data in made(make))
+
+    def test_one_input_in_ten_has_one(self):
+        for make, lines in ((random_file, file_lines), (random_session, session_lines),
+                            (random_stored, lambda data: record_lines(parts_of(data)[1]))):
+            with self.subTest(make=make.__name__):
+                self.assertGreater(self.having(make, lines), SEEDS / 10)
 
 
 class FileCoverage(unittest.TestCase):
@@ -64,11 +78,11 @@ class FileCoverage(unittest.TestCase):
                 letters = [line[0] for line in record_lines(b"".join(instant_entries(time, answer)))]
                 skip_first += letters[-2:] == ["S", "I"]
         self.assertEqual(closings, {None, "b", "f"})
-        self.assertEqual(fates, {0, 1, 2})
+        self.assertEqual(fates, {0, 1, 2, 3})
         self.assertEqual(works, {0, 1, 2})
         self.assertEqual(blocked, {0, 1, 2})
         self.assertGreater(promotions, 100)
-        self.assertGreater(skip_first, 100)
+        self.assertGreater(skip_first, 50)
         self.assertIn(0, releases)
         self.assertTrue({1, 5, 1_000_000} <= lengths)
 

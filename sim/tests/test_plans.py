@@ -1,4 +1,4 @@
-"""Plans A to G with F': every number that document 01 states, and the whole run worked out by hand."""
+"""Plans A to G with F': every number that document 01 states, of plan B what 2/13 states, and the whole run worked out by hand."""
 
 import unittest
 
@@ -20,13 +20,13 @@ I 16 17 0 - 0 2 - 0 -
 
 PLAN_B = """\
 I 0 2 0 - 0 - 3 1 -
-I 2 7 1 3 1 - 2 1 -
+I 2 7 1 3 1 - 2 3 1
 J 3 0 2 9 0
-I 7 11 0 2 1 3 1 1 -
-J 2 2 7 12 1
-I 11 14 1 1 1 2 - 0 -
-J 1 4 11 15 2
-I 14 15 0 - 0 1 - 0 -
+I 7 12 0 1 2 3 2 1 -
+J 1 4 9 13 1
+I 12 16 1 2 1 1 - 0 -
+J 2 2 12 17 1
+I 16 17 0 - 0 2 - 0 -
 """
 
 PLAN_C = """\
@@ -114,8 +114,12 @@ class StatedNumbers(unittest.TestCase):
         self.assertEqual(len(file_lines(plan("A"))), 8)
         self.assertEqual(len(record(plan("A"))), 201)
 
-    def test_plan_b_job_1_starts_at_11_completes_at_15_blocked_2(self):
-        self.assertIn("J 1 4 11 15 2", lines_of("J", "B"))
+    def test_plan_b_prints_as_a_does_but_for_the_copy_of_2_and_the_release_of_1(self):
+        lines_a, lines_b = (file_lines(plan(name)) for name in "AB")
+        self.assertTrue(lines_b[1].endswith(" 2 3 1"))
+        lines_a[1] = lines_a[1].removesuffix(" 2 2 1") + " 2 3 1"
+        lines_a[4] = lines_a[4].replace("J 1 3 ", "J 1 4 ")
+        self.assertEqual(lines_b, lines_a)
 
     def test_plan_c_intervals_and_completion(self):
         spans = [tuple(line.split()[1:3]) for line in lines_of("I", "C")]

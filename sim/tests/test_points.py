@@ -2,7 +2,7 @@
 
 import unittest
 
-from sim.dispatcher import COPY_IN_CANCELLED, Dispatcher
+from sim.dispatcher import COPY_IN_CANCELLED, COPY_IN_DONE, Dispatcher
 from sim.entries import Refused, release_entry, task_entry
 from sim.files import record
 from sim.lines import file_lines
@@ -209,14 +209,98 @@ class Promotion(unittest.TestCase):
         self.assertEqual(lines[:4], ["I 0 9 0 - 0 - 1 1 -", "I 9 18 1 1 1 - 4 2 0", "J 1 0 9 19 0",
                                      "I 18 28 0 0 2 1 4 1 -"])
 
-    def test_an_interval_that_copied_in_promotes_nobody(self):
-        # Plan B: marked job 1 is released and ready at the end, but the copy-in of 2 was done.
-        self.assertEqual(fields("I", plan("B"))[1][6:], ["2", "1", "-"])
+    def test_an_interval_whose_copy_stays_promotes_nobody(self):
+        # Marked job 2 is released at 12 and ready at the end of 9-18, but the copy-in of 1, which is higher, was done at 11.
+        self.assertEqual(self.second_interval((9, 1), (12, 2))[6:], ["1", "1", "-"])
+
+
+class FinishedCopies(unittest.TestCase):
+    """2/13: a marked release that is taken throws out a lower-priority copy-in that the engine has finished in the open interval.
+
+    With (0, 4) first, the second interval, 2-7, executes task 4, and what it copies in is done at 4.
+    """
+
+    TABLE = (task_entry(1, 1, 1, 2, 3, 1) + task_entry(2, 2, 1, 2, 4, 1) + task_entry(3, 3, 0, 2, 5, 2)
+             + task_entry(4, 4, 0, 2, 5, 2))
+
+    def intervals(self, *pairs):
+        return fields("I", plan_file((0, 4), *pairs, tasks=self.TABLE))
+
+    def copy_in(self, *pairs):
+        """Of the second interval: its end, the task chosen, its fate, and the task promoted."""
+        _, end, *_, chosen, fate, promoted = self.intervals(*pairs)[1]
+        return int(end), chosen, fate, promoted
+
+    def test_on_each_tick_from_the_choice_to_the_end_of_the_interval(self):
+        found = {time: self.copy_in((2, 3), (time, 2)) for time in range(3, 9)}
+        cancelled, thrown_out, stays = (7, "3", "2", "2"), (7, "3", "3", "2"), (7, "3", "1", "-")
+        self.assertEqual(found, {3: cancelled, 4: thrown_out, 5: thrown_out, 6: thrown_out, 7: stays, 8: stays})
+
+    def test_thrown_out_and_promoted(self):
+        self.assertEqual(self.copy_in((2, 3), (5, 2)), (7, "3", "3", "2"))
+        self.assertEqual(self.intervals((2, 3), (5, 2))[2], ["7", "13", "0", "2", "2", "4", "3", "1", "-"])
+
+    def test_another_higher_release_of_the_interval_is_promoted(self):
+        # 2 throws out the copy of 3; 1 comes later and is higher. The next interval copies in 2, the one behind it 3.
+        found = self.intervals((2, 3), (4, 2), (5, 1))
+        self.assertEqual(found[1][6:], ["3", "3", "1"])
+        self.assertEqual([each[3:8] for each in found[2:5]], [["1", "2", "4", "2", "1"], ["2", "1", "1", "3", "1"], ["3", "1", "2", "-", "0"]])
+
+    def test_a_lower_release_behind_it_is_not(self):
+        self.assertEqual(self.copy_in((2, 3), (4, 1), (5, 2)), (7, "3", "3", "1"))
+
+    def test_both_at_once(self):
+        self.assertEqual(self.copy_in((2, 3), (5, 1), (5, 2)), (7, "3", "3", "1"))
+
+    def test_a_marked_copy_is_thrown_out_too_and_is_not_promoted(self):
+        # The job of 2 was released in this interval, is marked and is ready again; 1 is higher.
+        self.assertEqual(self.copy_in((2, 2), (5, 1)), (7, "2", "3", "1"))
+
+    def test_a_higher_copy_stays(self):
+        self.assertEqual(self.copy_in((2, 1), (5, 2)), (7, "1", "1", "-"))
+
+    def test_an_unmarked_release_throws_out_nothing(self):
+        self.assertEqual(fields("I", plan_file((0, 1), (2, 3), (4, 2)))[1], ["2", "5", "1", "1", "1", "-", "3", "1", "-"])
+
+    def test_the_mark_at_the_release_counts(self):
+        dispatcher = Dispatcher.open(self.TABLE)
+        dispatcher.mark(2, 0)
+        for time, numbers in ((0, [4]), (2, [3]), (4, [2])):
+            dispatcher.instant(time, task_set(*numbers))
+        self.assertEqual(dispatcher.instant(7, 0).interval, (2, 7, 1, 4, 1, None, 3, COPY_IN_DONE, None))
+
+    def test_a_skipped_release_throws_out_nothing(self):
+        # At 5 job 2 is executing and the copy of 3 is done; its release is skipped.
+        lines = file_lines(plan_file((0, 2), (2, 3), (5, 2), tasks=self.TABLE))
+        self.assertEqual(lines[1:3], ["S 2 5", "I 2 6 1 2 1 - 3 1 -"])
+
+    def test_a_copy_of_the_interval_before_stays(self):
+        # The interval 2-7 ends at step b of 7 and the release of 1 belongs to the next, which executes 3.
+        self.assertEqual([each[3:] for each in self.intervals((2, 3), (7, 1))[1:3]],
+                         [["4", "1", "-", "3", "1", "-"], ["3", "1", "4", "1", "1", "-"]])
+        self.assertIn("J 1 7 12 16 1", file_lines(plan_file((0, 4), (2, 3), (7, 1), tasks=self.TABLE)))
+
+    def test_no_second_choice_after_it(self):
+        # The engine stays free until 7, though 3 and 2 are ready from 5 on.
+        dispatcher = Dispatcher.open(self.TABLE)
+        for time, numbers in ((0, [4]), (2, [3]), (4, []), (5, [2])):
+            answer = dispatcher.instant(time, task_set(*numbers))
+        self.assertEqual(answer.due, 7)
+        self.assertEqual(dispatcher.instant(6, 0).due, 7)
+
+    def test_one_job_may_be_thrown_out_twice(self):
+        # 2 throws out 3 and is promoted; in 7-13 the engine copies in 3 again, and 1 throws it out once more.
+        found = self.intervals((2, 3), (5, 2), (11, 1))
+        self.assertEqual([each[6:] for each in found[1:3]], [["3", "3", "2"], ["3", "3", "1"]])
+
+    def test_blocked_by_whole_intervals(self):
+        # Job 3 waits in 2-7 and 7-13, of which the first executes a lower job.
+        self.assertIn("J 3 2 13 20 1", file_lines(plan_file((0, 4), (2, 3), (5, 2), tasks=self.TABLE)))
 
 
 class ReadingsThatTempt(unittest.TestCase):
-    def test_a_copy_that_ends_on_the_tick_of_the_release_stays(self):
-        self.assertEqual(fields("I", plan("B"))[1], ["2", "7", "1", "3", "1", "-", "2", "1", "-"])
+    def test_a_copy_that_ends_on_the_tick_of_the_release_is_thrown_out_and_not_cancelled(self):
+        self.assertEqual(fields("I", plan("B"))[1], ["2", "7", "1", "3", "1", "-", "2", "3", "1"])
 
     def test_the_release_that_cuts_an_interval_short_belongs_to_it(self):
         self.assertEqual(fields("I", plan("D"))[0], ["0", "1", "0", "-", "0", "-", "2", "2", "1"])

@@ -8,7 +8,7 @@ from sim.files import read_file, record
 from sim.generate import random_file
 from sim.generate_records import record_entries
 from sim.reading import read, read_lines
-from sim.tests.plans import PLANS, TASK_1, TASKS, plan
+from sim.tests.plans import PLANS, TASK_1, TASKS, finished_copies_stay, plan
 
 LIMIT = 1_000_000_000
 
@@ -140,6 +140,19 @@ class NoListYields(unittest.TestCase):
     def test_every_byte_counts(self):
         for at in set(range(len(A))) - set(STARTS):
             self.refused(A[:at] + bytes([A[at] ^ 64]) + A[at + 1:])
+
+    def test_another_fate(self):
+        stored = record(plan("B"))
+        at = 24 + 22  # of the second interval
+        self.assertEqual(stored[at], 3)
+        for fate in (0, 1, 2, 4, 255):
+            self.refused(stored[:at] + bytes([fate]) + stored[at + 1:])
+
+    def test_a_record_of_the_rule_by_which_finished_copies_stayed(self):
+        with finished_copies_stay():
+            stored = record(plan("B"))
+            self.assertEqual(read(TASKS, stored), PLANS["B"])
+        self.refused(stored)
 
     def test_the_table_of_another_plan(self):
         self.refused(A, tasks=TASKS[:32])

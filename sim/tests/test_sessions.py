@@ -34,6 +34,11 @@ class ServedCalls(unittest.TestCase):
         calls = [instant(0, 3), instant(2, 2), instant(3, 1)] + [instant(time) for time in (7, 9, 11, 12, 13, 16, 17)]
         self.assertEqual(lines(*calls), PLAN_A_BY_INSTANTS)
 
+    def test_plan_b_up_to_the_promotion(self):
+        # At 4 the copy-in of 2 ends and is thrown out: what is due next is the end of the execution of 3.
+        self.assertEqual(lines(instant(0, 3), instant(2, 2), instant(4, 1), instant(7)),
+                         ["O", "A 0 2", "I 0 2 0 - 0 - 3 1 -", "A 0 4", "A 0 7", "I 2 7 1 3 1 - 2 3 1", "A 0 9"])
+
     def test_instants_between_change_nothing_else(self):
         self.assertEqual(lines(instant(0, 1), instant(1), instant(2)),
                          ["O", "A 0 2", "A 0 2", "I 0 2 0 - 0 - 1 1 -", "A 0 5"])

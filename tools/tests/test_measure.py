@@ -149,6 +149,10 @@ class Inputs(unittest.TestCase):
         lines = {EXPECTED["file"](data).split()[1] for data in limits.files() if EXPECTED["file"](data).startswith(b"R")}
         self.assertEqual({int(number) for number in lines}, set(range(1, 13)))
 
+    def test_the_limits_have_a_release_on_each_side_of_a_copy_in(self):
+        fates = [EXPECTED["file"](data).split(b"\n")[1].split()[8] for data in limits.around_a_copy()]
+        self.assertEqual(fates, [b"2", b"3", b"3", b"3", b"1", b"1"])
+
     def test_the_limits_meet_every_answer_of_the_reader(self):
         words = [EXPECTED["read"](data).split() for data in limits.stored_records()]
         said = {None if not each else int(each[1]) if each[0] == b"R" else each[0] for each in words}

@@ -17,6 +17,7 @@ from sim.files import read_file, record, released_sets
 from sim.lines import record_lines, text
 from tools import picture
 from tools.drawing import MOST_WIDTH, draw, stack, tick_step
+from tools.shapes import RING
 from tools.tests.captured import run_main
 from tools.timeline import timeline
 
@@ -38,10 +39,11 @@ I 16 17 0 - 0 2 - 0 -
 """
 
 # (unit, kind, task, begin, end, interval, fate), by hand from the lines of document 01 and the lengths L, C and U.
+CANCELLED_A = ("engine", "copy-in", 2, 2, 3, 2, "cancelled")
 BARS_A = {
     ("engine", "copy-in", 3, 0, 2, 1, "done"),
     ("processor", "execution", 3, 2, 7, 2, "done"),
-    ("engine", "copy-in", 2, 2, 3, 2, "cancelled"),
+    CANCELLED_A,
     ("processor", "copy-in", 1, 7, 9, 3, "done"),
     ("processor", "execution", 1, 9, 12, 3, "done"),
     ("engine", "copy-out", 3, 7, 9, 3, "done"),
@@ -50,17 +52,9 @@ BARS_A = {
     ("engine", "copy-out", 1, 12, 13, 4, "done"),
     ("engine", "copy-out", 2, 16, 17, 5, "done"),
 }
-BARS_B = {
-    ("engine", "copy-in", 3, 0, 2, 1, "done"),
-    ("processor", "execution", 3, 2, 7, 2, "done"),
-    ("engine", "copy-in", 2, 2, 4, 2, "done"),
-    ("processor", "execution", 2, 7, 11, 3, "done"),
-    ("engine", "copy-out", 3, 7, 9, 3, "done"),
-    ("engine", "copy-in", 1, 9, 11, 3, "done"),
-    ("processor", "execution", 1, 11, 14, 4, "done"),
-    ("engine", "copy-out", 2, 11, 12, 4, "done"),
-    ("engine", "copy-out", 1, 14, 15, 5, "done"),
-}
+# In plan B the copy-in of 2 comes to its end.
+THROWN_OUT_B = ("engine", "copy-in", 2, 2, 4, 2, "thrown out")
+BARS_B = BARS_A - {CANCELLED_A} | {THROWN_OUT_B}
 
 
 class Drawn:
@@ -89,6 +83,16 @@ class Drawn:
     def bars(self):
         return [(bar.get("data-unit"), bar.get("data-kind"), *(int(bar.get(f"data-{name}")) for name in
                  ("task", "begin", "end", "interval")), bar.get("data-fate")) for bar in self.having("data-unit")]
+
+    def crossed_out(self):
+        """The fates of the bars with lines from corner to corner."""
+        found = []
+        for bar in self.having("data-unit"):
+            left, top, width, height = first_rect(bar)
+            lines = [tuple(map(float, re.findall(r"-?[\d.]+", path.get("d")))) for path in bar.findall(f"{SVG}path")]
+            if lines == [(left, top, width, height, 0, -height, -width, height)]:
+                found.append(bar.get("data-fate"))
+        return found
 
     def intervals(self):
         return self.of_kind("interval", "number", "begin", "end", "half")
@@ -159,6 +163,7 @@ class PlanA(unittest.TestCase):
         self.assertEqual(self.drawn.of_kind("cancellation", "task", "time", "by"), [(2, 3, 1)])
         hatched = [bar for bar in self.drawn.having("data-unit") if any(rect.get("fill") == "url(#hatch)" for rect in bar)]
         self.assertEqual([bar.get("data-fate") for bar in hatched], ["cancelled"])
+        self.assertEqual(self.drawn.elements("throw-out") + self.drawn.crossed_out(), [])
 
     def test_1_is_promoted_at_the_end_of_interval_2(self):
         self.assertEqual(self.drawn.of_kind("promotion", "task", "time", "interval"), [(1, 7, 2)])
@@ -256,12 +261,72 @@ class PlanB(unittest.TestCase):
         self.assertEqual(set(self.drawn.bars()), BARS_B)
 
     def test_intervals(self):
-        self.assertEqual(self.drawn.intervals(), [(1, 0, 2, 0), (2, 2, 7, 1), (3, 7, 11, 0), (4, 11, 14, 1), (5, 14, 15, 0)])
+        self.assertEqual(self.drawn.intervals(), [(1, 0, 2, 0), (2, 2, 7, 1), (3, 7, 12, 0), (4, 12, 16, 1), (5, 16, 17, 0)])
 
     def test_marks(self):
         self.assertEqual(self.drawn.of_kind("release", "time", "task"), [(0, 3), (2, 2), (4, 1)])
-        self.assertEqual(self.drawn.of_kind("completion", "task", "time", "blocked"), [(3, 9, 0), (2, 12, 1), (1, 15, 2)])
-        self.assertEqual(self.drawn.elements("cancellation") + self.drawn.elements("promotion"), [])
+        self.assertEqual(self.drawn.of_kind("completion", "task", "time", "blocked"), [(3, 9, 0), (1, 13, 1), (2, 17, 1)])
+        self.assertEqual(self.drawn.of_kind("promotion", "task", "time", "interval"), [(1, 7, 2)])
+        self.assertEqual(self.drawn.elements("cancellation"), [])
+
+    def test_the_copy_in_of_2_is_thrown_out_at_4_by_1(self):
+        self.assertEqual(self.drawn.of_kind("throw-out", "task", "time", "by"), [(2, 4, 1)])
+        (mark,) = self.drawn.elements("throw-out")
+        self.assertEqual(mark.find(f"{SVG}title").text, "the release of task 1 at 4 throws out the copy-in of task 2")
+        self.assertEqual(self.drawn.crossed_out(), ["thrown out"])
+
+    def test_description(self):
+        self.assertIn("0 copy-ins cancelled, 1 thrown out, 1 job promoted", self.drawn.root.find(f"{SVG}desc").text)
+
+
+class ThrownOut(unittest.TestCase):
+    """A copy-in that ended before it was thrown out: its bar is whole, and a line leads to the mark at the tick of the release."""
+
+    @classmethod
+    def setUpClass(cls):
+        cls.drawn = Drawn.of_plan(A.replace("release 3 1", "release 6 1"))
+
+    def test_the_bar_comes_to_its_end(self):
+        self.assertIn(THROWN_OUT_B, self.drawn.bars())
+        self.assertEqual(self.drawn.of_kind("throw-out", "task", "time", "by"), [(2, 6, 1)])
+
+    def test_the_mark_stands_at_the_tick_of_the_release(self):
+        (mark,), x = self.drawn.elements("throw-out"), self.drawn.x_by_time()
+        self.assertAlmostEqual(float(mark.find(f"{SVG}circle").get("cx")), x(6), places=1)
+        line, cross = mark.findall(f"{SVG}path")
+        self.assertAlmostEqual(first_path_x(mark), x(4), places=1)
+        self.assertAlmostEqual(float(line.get("d").partition("H")[2]), x(6) - RING, places=1)
+        self.assertEqual(cross.get("class"), "cross")
+
+    def test_it_looks_like_neither_a_copy_that_is_done_nor_a_cancelled_one(self):
+        drawn = Drawn.of_plan(TASKS + "release 0 3\nrelease 2 2\nrelease 3 1\nrelease 20 3\nrelease 22 2\nrelease 24 1\n")
+        looks = {bar.get("data-fate"): [element.tag.removeprefix(SVG) for element in bar if element.tag != f"{SVG}title"]
+                 for bar in drawn.having("data-unit") if bar.get("data-kind") == "copy-in"}
+        self.assertEqual(looks, {"done": ["rect", "text"], "cancelled": ["rect", "rect", "text"], "thrown out": ["rect", "path", "text"]})
+        self.assertEqual(drawn.crossed_out(), ["thrown out"])
+
+    def test_the_legend_tells_how_copies_gave_way_where_they_did(self):
+        cancelled, thrown_out = "copy-in cancelled", "copy thrown out"
+        for releases, expected in (("", []), ("release 3 1\n", [cancelled]), ("release 4 1\n", [thrown_out]), ("release 7 1\n", []),
+                                   ("release 3 1\nrelease 20 3\nrelease 22 2\nrelease 24 1\n", [cancelled, thrown_out])):
+            drawn = Drawn.of_plan(TASKS + "release 0 3\nrelease 2 2\n" + releases)
+            self.assertEqual([label for label, _ in drawn.texts() if label in (cancelled, thrown_out)], expected)
+            Labels().assert_apart(drawn)
+
+    def test_the_first_release_that_could_is_the_one(self):
+        """The releases of 3, which is unmarked, of 4, which is lower, and of 1, which is skipped, throw out nothing; that of 0 comes too late."""
+        tasks = ("task 0 0 1 1 1 1\ntask 1 1 1 1 20 1\ntask 2 5 0 2 1 1\ntask 3 4 0 1 1 1\ntask 4 6 1 1 1 1\ntask 5 2 1 1 1 1\n")
+        drawn = Drawn.of_plan(tasks + "release 0 1\nrelease 1 2\nrelease 4 1\nrelease 5 3\nrelease 6 4\nrelease 7 5\nrelease 8 0\n")
+        self.assertEqual(drawn.of_kind("skipped", "time", "task"), [(4, 1)])
+        self.assertIn(("engine", "copy-in", 2, 1, 3, 2, "thrown out"), drawn.bars())
+        self.assertEqual(drawn.of_kind("throw-out", "task", "time", "by"), [(2, 7, 5)])
+        self.assertEqual(drawn.of_kind("promotion", "task", "time", "interval")[0], (0, 21, 2))
+
+    def test_in_a_part(self):
+        with tempfile.TemporaryDirectory() as folder:
+            (path,) = written(folder, A.replace("release 3 1", "release 6 1"))
+            drawn = Drawn(picture.picture(path, first=3, last=6))
+        self.assertEqual(drawn.of_kind("throw-out", "task", "time", "by"), [(2, 6, 1)])
 
 
 class OtherPlans(unittest.TestCase):
@@ -353,8 +418,8 @@ class RandomRuns(unittest.TestCase):
         for seed in (2, 9, 12):
             drawn = self.assert_sound(random_run(seed))
             self.assertGreater(len(drawn.intervals()), 200)
-            self.assertGreater(len(drawn.elements("cancellation")), 0)
-            self.assertGreater(len(drawn.elements("promotion")), 0)
+            for kind in ("cancellation", "throw-out", "promotion"):
+                self.assertGreater(len(drawn.elements(kind)), 0)
             self.assertGreater(drawn.width, 10_000)
 
     def test_random_files(self):
@@ -523,6 +588,9 @@ class Command(unittest.TestCase):
                 ("I 2 7 1 3 1 - 2 2 1", "I 2 7 1 - 1 - 2 2 1", "line 2: the processor's task and its work do not fit"),
                 ("I 2 7 1 3 1 - 2 2 1", "I 2 7 1 3 1 - 2 0 1", "line 2: the chosen task and its fate do not fit"),
                 ("I 2 7 1 3 1 - 2 2 1", "I 2 7 1 3 1 - 1 2 1", "line 2: no release cancels the copy-in of task 1 from 2 to 4"),
+                ("I 2 7 1 3 1 - 2 2 1", "I 2 7 1 3 1 - 2 3 1", "line 2: no release throws out the copy-in of task 2, which ends at 4"),
+                ("I 2 7 1 3 1 - 2 2 1", "I 2 7 1 3 1 - 2 4 1", "line 2: fate is 4, over 3"),
+                ("I 7 12 0 1 2 3 2 1", "I 7 12 0 1 2 3 2 3", "line 4: no release throws out the copy-in of task 2, which ends at 11"),
                 ("I 7 12", "I 7 13", "line 4: the interval from 7 ends at 13, its phases at 12"),
                 ("I 12 16", "I 11 15", "line 6: the interval begins at 11, before the end of the one before"),
                 ("J 1 3 9", "S 1 4\nJ 1 3 9", "line 5: the plan has no release of task 1 at 4"),
@@ -530,10 +598,16 @@ class Command(unittest.TestCase):
                 ("J 1 3 9", "J 1 3 14", "line 5: a job's release, execution start and completion do not rise")):
             self.assertEqual(self.refused(A, LINES_A.replace(old, new)), expected)
 
-    def test_a_release_on_the_tick_on_which_a_copy_in_ends_cancels_nothing(self):
-        """Plan B with lines that say it did."""
-        self.assertEqual(self.refused(A.replace("release 3 1", "release 4 1"), "I 0 2 0 - 0 - 3 1 -\nI 2 7 1 3 1 - 2 2 1\n"),
-                         "line 2: no release cancels the copy-in of task 2 from 2 to 4")
+    def test_other_fates_of_the_copy_in_of_plan_b(self):
+        """A release on the tick on which a copy-in ends does not cancel it, and it does not stay."""
+        for fate, expected in (("2", "no release cancels the copy-in of task 2 from 2 to 4"),
+                               ("1", "the copy-in of task 2 is done, and yet gives way to the release of task 1 at 4")):
+            lines = f"I 0 2 0 - 0 - 3 1 -\nI 2 7 1 3 1 - 2 {fate} 1\n"
+            self.assertEqual(self.refused(A.replace("release 3 1", "release 4 1"), lines), f"line 2: {expected}")
+
+    def test_a_release_on_the_tick_on_which_an_interval_ends_throws_out_nothing(self):
+        self.assertEqual(self.refused(A.replace("release 3 1", "release 7 1"), "I 0 2 0 - 0 - 3 1 -\nI 2 7 1 3 1 - 2 3 1\n"),
+                         "line 2: no release throws out the copy-in of task 2, which ends at 4")
 
     def test_no_such_file(self):
         self.assertEqual(self.run_main("no.plan"), (2, b"", "no.plan: No such file or directory\n"))
@@ -584,9 +658,17 @@ class Documents(unittest.TestCase):
             self.assertEqual(kept, picture.picture(str(ROOT / f"plans/{name}.plan")),
                              f"python3 tools/picture.py plans/{name}.plan > docs/plan-{name}.svg makes it anew")
 
+    def lines(self, name):
+        return record_lines(record(picture.input_bytes((ROOT / f"plans/{name}.plan").read_text(encoding="utf-8").splitlines())))
+
     def test_lines_of_document_01(self):
-        data = picture.input_bytes((ROOT / "plans/a.plan").read_text(encoding="utf-8").splitlines())
-        self.assertEqual(text(record_lines(record(data))), LINES_A)
+        self.assertEqual(text(self.lines("a")), LINES_A)
+
+    def test_lines_in_the_readme(self):
+        """All of plan A, and of plan B those that are not plan A's."""
+        readme, lines_a = (ROOT / "README.md").read_text(encoding="utf-8"), self.lines("a")
+        for lines in (lines_a, [line for line in self.lines("b") if line not in lines_a]):
+            self.assertIn("\n\n" + "".join(f"    {line}\n" for line in lines) + "\n", readme)
 
 
 if __name__ == "__main__":

@@ -43,6 +43,10 @@ class Plans(unittest.TestCase):
     def test_what_is_printed_makes_the_same_record(self):
         self.assertEqual(record(input_bytes(Outcome(TASKS, RECORD).lines)), RECORD)
 
+    def test_a_record_with_a_copy_thrown_out(self):
+        releases = [RELEASES[0], RELEASES[1], "release 4 1"]
+        self.assertEqual(Outcome(TASKS, record(input_bytes(TASKS + releases))).lines, TASKS + releases)
+
     def test_comments_are_left_out_and_the_tasks_stay_in_order(self):
         outcome = Outcome(["# a table", TASKS[2] + "  # the slow one", "", TASKS[0], TASKS[1]], RECORD)
         self.assertEqual(outcome.lines, [TASKS[2], TASKS[0], TASKS[1]] + RELEASES)

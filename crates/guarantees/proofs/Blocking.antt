@@ -16,7 +16,7 @@ use Rattle.guarantees.proofs.Highest.{Best}
 use Rattle.guarantees.proofs.Walk.{with-marks}
 use Rattle.guarantees.proofs.Cases.{held-at, copyin-cases, a-cases, b-cases, d-cases, e-cases, g-cases}
 use Rattle.guarantees.proofs.Steps.{best-of, settles, c-new, NewAt, processor-task-same}
-use Rattle.guarantees.proofs.Waiting.{NotLower, Bound, Old, rule-old, held-task, next-task, up-next, runs, Left, closed, ready-at, fate-at, a-waiting, c-waiting, d-waiting, e-waiting}
+use Rattle.guarantees.proofs.Waiting.{NotLower, Bound, Old, rule-old, held-task, held-is, next-task, up-next, runs, Left, closed, ready-at, fate-at, a-waiting, c-waiting, d-waiting, e-waiting}
 
 -- ---- the counts of a list
 
@@ -152,7 +152,7 @@ module _ (pr : List ℕ) (n : ℕ) (small : n < 32) where
   waiting-awaits ready NoneChosen h = inl h
   waiting-awaits ready (Copying c until) h = inl h
   waiting-awaits ready (Loaded c) h = ⊎-elim (λ e. inr e) (λ m. inl m) (insert-out c ready n h)
-  waiting-awaits ready (Cancelled c) h = inl h
+  waiting-awaits ready (Cancelled c fate) h = inl h
 
   higher-lower : (d : State) (s : ℕ) (r : MaybeTask) → member n (higher d r s) ≡ true → (member n s ≡ true) × (NotLower (d .table .priority) n r → ⊥)
   unfolding higher-than
@@ -171,7 +171,7 @@ module _ (pr : List ℕ) (n : ℕ) (small : n < 32) where
   promoted-awaits ready NoneChosen NoTask f x = x
   promoted-awaits ready (Copying c until) NoTask f x = ⊎-elim (λ m. inl m) (λ e. absurd (false≢true e)) x
   promoted-awaits ready (Loaded c) NoTask f x = x
-  promoted-awaits ready (Cancelled c) NoTask f x = x
+  promoted-awaits ready (Cancelled c fate) NoTask f x = x
 
   pub promoted-ready : (d : State) (i : Interval) (c : CopyIn) → is-task n (promoted d i c) ≡ true → member n (d .jobs .ready) ≡ true
   unfolding promoted
@@ -191,7 +191,7 @@ module _ (pr : List ℕ) (n : ℕ) (small : n < 32) where
       go NoneChosen e = picked (highest-of d (intersection (i .candidates) (d .jobs .ready))) (best-of d (intersection (i .candidates) (d .jobs .ready))) e
       go (Copying m until) e = absurd (false≢true e)
       go (Loaded m) e = absurd (false≢true e)
-      go (Cancelled m) e = picked (highest-of d (intersection (i .candidates) (d .jobs .ready))) (best-of d (intersection (i .candidates) (d .jobs .ready))) e
+      go (Cancelled m fate) e = picked (highest-of d (intersection (i .candidates) (d .jobs .ready))) (best-of d (intersection (i .candidates) (d .jobs .ready))) e
 
   module _ (d : State) (t : ℕ) (i : Interval) (e : d .phase ≡ Within i) (o : over i ≡ true) (h : Bounded d) where
     far-within : Awaits (d .jobs .ready) (held-task (i .copyin)) → Far (count d) (Waits d) (In (processor-task (i .processor)))
@@ -280,7 +280,7 @@ module _ (pr : List ℕ) (n : ℕ) (small : n < 32) where
         place = ap place e;
         awaits = λ x.
             subst (λ (p : Phase). Awaits (d .jobs .ready) (up-next p)) (sym e)
-            (⊎-elim (λ y. ⊎-elim (λ z. inr (ap (λ (c : CopyIn). is-task n (held-task c)) s ∙ z)) (λ z. inl z) (insert-out c (d .jobs .ready) n y))
+            (⊎-elim (λ y. ⊎-elim (λ z. inr (ap (is-task n) (held-is (i .copyin) c s) ∙ z)) (λ z. inl z) (insert-out c (d .jobs .ready) n y))
             (λ y. absurd (false≢true y)) x);
       })
 

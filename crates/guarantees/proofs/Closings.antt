@@ -5,13 +5,13 @@ use native.Mathlib.Omega.{arith}
 use Rattle.rules.specs.With.{at-clock}
 use Rattle.rules.specs.Order.{highest-of}
 use Rattle.rules.specs.Instant.{step-a, step-b, step-c, step-d, step-e, step-g, close, close-stage, entry-with, interval-entry, closing, occurred, over, with-candidates, cancel, choose, begin, wanted, ended as ended-by, processor-task, copyout-task, copyout-at, at-a, at-b, at-e, at-f, at-g, new-at, fresh-stage}
-use Rattle.guarantees.specs.History.{Event, Comes, Begins, Ends, history, happens, processor-events-in, finish-events-in, completion-events, end-events, take-events, begin-events, start-events}
+use Rattle.guarantees.specs.History.{Event, Comes, Begins, Ends, history, happens, processor-events-in, finish-events-in, completion-events, end-events, take-events, giving-events-in, begin-events, start-events}
 use Rattle.guarantees.specs.Queries.{NoneOpen, Latest, latest-by, each}
 use Rattle.guarantees.specs.Entries.{answers, Completion, completed-in, done, completions, Ended, of-entry, closed-in, closed, ended}
 use Rattle.guarantees.proofs.Walk.{walk-told}
 use Rattle.guarantees.proofs.Cases.{held-at, copyout-cases, d-cases, e-cases}
 use Rattle.guarantees.proofs.Steps.{processor-task-same}
-use Rattle.guarantees.proofs.Events.{by-processor, by-finishes, by-completes, by-ends, by-takes, by-begins, by-starts, tail-of, happens-parts, front-parts, tail-parts}
+use Rattle.guarantees.proofs.Events.{by-processor, by-finishes, by-completes, by-gives, by-ends, by-takes, by-begins, by-starts, tail-of, happens-parts, front-parts, tail-parts}
 use Rattle.guarantees.proofs.Order.{situation-of, situation-e}
 
 -- ---- the open interval
@@ -73,6 +73,10 @@ front-ended d t x ys =
 takes-ended : (new marks t : ℕ) (x : Latest) (ys : List Event) → ended x (take-events 32 new marks t ++ ys) ≡ ended x ys
 unfolding ended
 takes-ended new marks t x ys = by-takes (As x ys) 32 new marks t (λ n l m es e. e) ys refl
+
+gives-ended : (p q : Phase) (x : Latest) (ys : List Event) → ended x (giving-events-in p q ++ ys) ≡ ended x ys
+unfolding ended
+gives-ended p q x ys = by-gives (As x ys) (λ n es e. e) p q ys refl
 
 -- some events, with what they say of an interval closed
 record Closes (x : Latest) (c : Closed) (p : Phase) (es : List Event) : Type 0 where
@@ -203,11 +207,10 @@ module _ (d : State) (t set : ℕ) where
       comes es = unfold ended in refl
 
       tail-is : (ys : List Event) → tail-of d t set ++ ys
-          ≡ end-events t (at-e d t set .phase) (at-f d t set .state .phase)
-          ++ ((begin-events t (at-f d t set .state .phase) (at-g d t set .phase) ++ start-events t (at-f d t set .state .phase) (at-g d t set .phase)) ++ ys)
-      tail-is ys =
-          unfold tail-of in append-assoc (end-events t (at-e d t set .phase) (at-f d t set .state .phase))
-          (begin-events t (at-f d t set .state .phase) (at-g d t set .phase) ++ start-events t (at-f d t set .state .phase) (at-g d t set .phase)) ys
+          ≡ giving-events-in (at-b d t .state .phase) (at-e d t set .phase)
+          ++ (end-events t (at-e d t set .phase) (at-f d t set .state .phase)
+          ++ ((begin-events t (at-f d t set .state .phase) (at-g d t set .phase) ++ start-events t (at-f d t set .state .phase) (at-g d t set .phase)) ++ ys))
+      tail-is ys = unfold tail-of in simp append-assoc
 
       closing-so : closing (at-b d t .closed) (at-f d t set .closed) ≡ occurred d t set .closed
       closing-so = unfold occurred in refl
@@ -225,6 +228,7 @@ module _ (d : State) (t set : ℕ) where
           ∙ ap (λ (z : List Ended). closed-of (at-b d t .closed) ++ z)
           (takes-ended (new-at d t set) (d .marked) t (b .next) (tail-of d t set ++ ys)
           ∙ ap (ended (b .next)) (tail-is ys)
+          ∙ gives-ended (at-b d t .state .phase) (at-e d t set .phase) (b .next) (ends-f ++ (begins ++ ys))
           ∙ f .says (begins ++ ys)
           ∙ ap (λ (z : List Ended). closed-of (at-f d t set .closed) ++ z) (g .says ys))
           ∙ closing-is (at-b d t .closed) (at-f d t set .closed) one-closes (ended (g .next) ys)
@@ -281,6 +285,7 @@ happens-completions d t set h =
     ∙ completes-so (at-a d t .done) (ends-b ++ rest)
     ∙ ap (λ (z : List Completion). completed-in (at-a d t .done) ++ z)
     (skip-ends (at-a d t .state .phase) (at-b d t .state .phase) rest ∙ skip-takes (tail-of d t set ++ h) ∙ ap completions (tail-parts d t set h)
+    ∙ skip-gives (at-b d t .state .phase) (at-e d t set .phase) (end-events t (at-e d t set .phase) (at-f d t set .state .phase) ++ (begins ++ (starts ++ h)))
     ∙ skip-ends (at-e d t set .phase) (at-f d t set .state .phase) (begins ++ (starts ++ h)) ∙ skip-begins (at-f d t set .state .phase) (at-g d t set .phase))
     ∙ ap (λ (o : Done). completed-in o ++ completions h) (sym (done-so d t set))
   where
@@ -294,6 +299,9 @@ happens-completions d t set h =
 
     skip-takes : (zs : List Event) → completions (take-events 32 (new-at d t set) (d .marked) t ++ zs) ≡ completions zs
     skip-takes zs = unfold each in by-takes (Same zs) 32 (new-at d t set) (d .marked) t (λ n l m es e. e) zs refl
+
+    skip-gives : (p q : Phase) (zs : List Event) → completions (giving-events-in p q ++ zs) ≡ completions zs
+    skip-gives p q zs = unfold each in by-gives (Same zs) (λ n es e. e) p q zs refl
 
     skip-begins : (p q : Phase) → completions (begin-events t p q ++ (start-events t p q ++ h)) ≡ completions h
     skip-begins p q = unfold each in by-begins (Same h) t (λ r l es e. e) p q (start-events t p q ++ h) (by-starts (Same h) t (λ n es e. e) p q h refl)

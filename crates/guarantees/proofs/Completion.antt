@@ -37,7 +37,7 @@ copyin-rests Unchosen o h e u = clash (copying-out o) e u
 copyin-rests NoneChosen o h e u = refl
 copyin-rests (Copying n until) o h e u = absurd (let z : _≡_ {A = ℕ} 0 1 = cc in omega arith)
 copyin-rests (Loaded n) o h e u = refl
-copyin-rests (Cancelled n) o h e u = refl
+copyin-rests (Cancelled n fate) o h e u = refl
 
 at-rest : (p : Phase) → due p ≡ Never → DecidedAt p → OpenAt p → (next : Next) × (outgoing : Outgoing) × (p ≡ Between next outgoing)
 unfolding due

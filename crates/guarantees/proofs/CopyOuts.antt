@@ -17,7 +17,7 @@ use Rattle.guarantees.proofs.Settled.{RestAt}
 use Rattle.guarantees.proofs.Times.{Times, times-map, copyout-times}
 use Rattle.guarantees.proofs.Cases.{held-at, d-cases, e-cases}
 use Rattle.guarantees.proofs.Steps.{processor-task-same}
-use Rattle.guarantees.proofs.Events.{by-processor, by-finishes, by-takes, by-starts, tail-of, front-of, happens-parts, front-parts, tail-parts}
+use Rattle.guarantees.proofs.Events.{by-processor, by-finishes, by-gives, by-takes, by-starts, tail-of, front-of, happens-parts, front-parts, tail-parts}
 use Rattle.guarantees.proofs.Served.{last, served-at}
 use Rattle.guarantees.proofs.Invariant.{Good, Until, mass, debt, debt-less, good-opened, good-next, good-quiet}
 use Rattle.guarantees.proofs.Frames.{Frame, b-frame, table-e, clock-g}
@@ -269,11 +269,12 @@ module _ (table : Table) (marks : ℕ) (fair : Fair table marks) where
       let f : State = at-f d t set .state in
       let z : List Event = start-events t (f .phase) (at-g d t set .phase) ++ ys in
       rw (tail-parts d t set ys)
+      (by-gives (Leaving (table .columns) t (engine-of t (e .phase))) (λ n es h. h) (at-b d t .state .phase) (e .phase) (end-events t (e .phase) (f .phase) ++ (begin-events t (f .phase) (at-g d t set .phase) ++ z))
       (b-leaving (table .columns) t s (e .phase) (begin-events t (f .phase) (at-g d t set .phase) ++ z) refl
       (g-leaving (table .columns) t f (held-at d t set) (f .phase) z refl
       (ap (λ (y : Table). y .columns) (ap (λ (y : Frame). y .table) (b-frame s t) ∙ table-e d t set ∙ x)) (plain (at-g d t set) n)
       (apart-at (table .present) (fair .present) (at-g d t set) (at-g d t set .phase) (n .parted))
-      (by-starts (Leaving (table .columns) t (engine-of t (at-g d t set .phase))) t (λ n es h. h) (f .phase) (at-g d t set .phase) ys h)))
+      (by-starts (Leaving (table .columns) t (engine-of t (at-g d t set .phase))) t (λ n es h. h) (f .phase) (at-g d t set .phase) ys h))))
 
   leaving-front : (d : State) (t : ℕ) (ys : List Event) → last (d .clock) ≤ t → Leaving (table .columns) t (engine-of t (at-b d t .state .phase)) ys
       → Leaving (table .columns) (last (d .clock)) (engine-of t (d .phase)) (front-of d t ++ ys)

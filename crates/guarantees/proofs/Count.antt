@@ -1,7 +1,7 @@
 -- At most three intervals to a job. A job weighs 3 while ready, 2 while it is being copied in, loaded or promoted, 1 while it executes or waits
 -- for its copy-out, and then 0; a cancelled copy-in, whose job is ready again, owes 1, which the job that is promoted pays. Every interval
 -- that begins takes a weight of 1 at least. Beside it a mass falls at every phase's end, so that the empty sets come to an end.
-use Rattle.guarantees.specs.Types.{_≡_, refl, sym, ap, subst, Bool, true, false, cond, false≢true, List, ℕ, _+_, _*_, _^_, _≤_, _<_, Table, MaybeTask, NoTask, Task, Processor, Idle, CopyingIn, Executing, Finished, CopyOut, NoCopyOut, CopyingOut, CopiedOut, CopyIn, Unchosen, NoneChosen, Copying, Loaded, Cancelled, Interval, Next, NoneNext, LoadedNext, PromotedNext, Outgoing, NoneOutgoing, AwaitsCopyOut, Phase, Between, Within, State, Stage, Call}
+use Rattle.guarantees.specs.Types.{_≡_, refl, sym, ap, subst, Bool, true, false, cond, false≢true, ⊎-elim, List, ℕ, _+_, _*_, _^_, _≤_, _<_, Table, MaybeTask, NoTask, Task, Processor, Idle, CopyingIn, Executing, Finished, CopyOut, NoCopyOut, CopyingOut, CopiedOut, CopyIn, Unchosen, NoneChosen, Copying, Loaded, Cancelled, Interval, Next, NoneNext, LoadedNext, PromotedNext, Outgoing, NoneOutgoing, AwaitsCopyOut, Phase, Between, Within, State, Stage, Call}
 use native.Mathlib.Omega.{arith}
 use borrow.Author.Tests.{eqb-false, not-true}
 use lib.Dec.{eqb}
@@ -18,7 +18,7 @@ use Rattle.rules.specs.With.{at-clock}
 use Rattle.rules.specs.Order.{highest-of, outranks}
 use Rattle.guarantees.proofs.Steps.{Sub, c-new, NewIn, NewAt, best-of}
 use Rattle.rules.specs.Instant
-use Rattle.guarantees.proofs.Cases.{held-at, d-cases, e-cases, copyin-cases, copyout-cases, processor-cases}
+use Rattle.guarantees.proofs.Cases.{held-at, Held, d-cases, e-cases, copyin-cases, copyout-cases, processor-cases}
 
 -- ---- weights
 
@@ -27,7 +27,7 @@ copyin-weight Unchosen = 0
 copyin-weight NoneChosen = 0
 copyin-weight (Copying n until) = 2
 copyin-weight (Loaded n) = 2
-copyin-weight (Cancelled n) = 0
+copyin-weight (Cancelled n fate) = 0
 
 -- what a cancelled copy-in has cost
 abbrev pub copyin-debt : CopyIn → ℕ
@@ -35,7 +35,7 @@ copyin-debt Unchosen = 0
 copyin-debt NoneChosen = 0
 copyin-debt (Copying n until) = 0
 copyin-debt (Loaded n) = 0
-copyin-debt (Cancelled n) = 1
+copyin-debt (Cancelled n fate) = 1
 
 abbrev pub processor-weight : Processor → ℕ
 processor-weight Idle = 0
@@ -81,7 +81,7 @@ copyin-rank Unchosen = 0
 copyin-rank NoneChosen = 0
 copyin-rank (Copying n until) = 1
 copyin-rank (Loaded n) = 0
-copyin-rank (Cancelled n) = 0
+copyin-rank (Cancelled n fate) = 0
 
 abbrev pub rank : Phase → ℕ
 rank (Between next outgoing) = 0
@@ -103,7 +103,7 @@ copyin-rank-small Unchosen = omega arith
 copyin-rank-small NoneChosen = omega arith
 copyin-rank-small (Copying n until) = omega arith
 copyin-rank-small (Loaded n) = omega arith
-copyin-rank-small (Cancelled n) = omega arith
+copyin-rank-small (Cancelled n fate) = omega arith
 
 pub rank-small : (p : Phase) → rank p ≤ 4
 rank-small (Between next outgoing) = omega arith
@@ -122,7 +122,7 @@ Paid-in ready candidates Unchosen = Unit {0}
 Paid-in ready candidates NoneChosen = Unit {0}
 Paid-in ready candidates (Copying n until) = Unit {0}
 Paid-in ready candidates (Loaded n) = Unit {0}
-Paid-in ready candidates (Cancelled n) = Rival ready candidates
+Paid-in ready candidates (Cancelled n fate) = Rival ready candidates
 
 abbrev pub Paid : ℕ → Phase → Type 0
 Paid ready (Between next outgoing) = Unit {0}
@@ -197,10 +197,10 @@ promote : (ready s : ℕ) (pr : List ℕ) (q : MaybeTask) → Best pr s q → Su
 promote ready s pr NoTask b h = omega arith
 promote ready s pr (Task q) b h = omega (arith, size-remove q ready (b .0) (h q (b .0) (b .1)))
 
-promote-debt : (ready s : ℕ) (pr : List ℕ) (q : MaybeTask) (c k : ℕ) → Best pr s q → Sub s ready → k < 32 → member k s ≡ true
-    → 3 * size (without-promoted ready q) + next-weight (next-of (Cancelled c) q) + 1 ≤ 3 * size ready
-promote-debt ready s pr NoTask c k b h l m = clash (member k s) m (b k l)
-promote-debt ready s pr (Task q) c k b h l m = omega (arith, size-remove q ready (b .0) (h q (b .0) (b .1)))
+promote-debt : (ready s : ℕ) (pr : List ℕ) (q : MaybeTask) (c fate k : ℕ) → Best pr s q → Sub s ready → k < 32 → member k s ≡ true
+    → 3 * size (without-promoted ready q) + next-weight (next-of (Cancelled c fate) q) + 1 ≤ 3 * size ready
+promote-debt ready s pr NoTask c fate k b h l m = clash (member k s) m (b k l)
+promote-debt ready s pr (Task q) c fate k b h l m = omega (arith, size-remove q ready (b .0) (h q (b .0) (b .1)))
 
 b-next : (d : State) (i : Interval) (c : CopyIn) → Paid-in (d .jobs .ready) (i .candidates) c
     → 3 * size (without-promoted (d .jobs .ready) (promoted d i c)) + next-weight (next-of c (promoted d i c)) + copyin-debt c ≤ 3 * size (d .jobs .ready) + copyin-weight c
@@ -211,11 +211,11 @@ b-next d i NoneChosen h =
     omega (arith, promote (d .jobs .ready) s (d .table .priority) (highest-of d s) (best-of d s) (λ k l m. intersection-right (i .candidates) (d .jobs .ready) k m))
 b-next d i (Copying n until) h = omega arith
 b-next d i (Loaded n) h = omega arith
-b-next d i (Cancelled n) h =
+b-next d i (Cancelled n fate) h =
     let s : ℕ = intersection (i .candidates) (d .jobs .ready) in
     omega (
       arith,
-      promote-debt (d .jobs .ready) s (d .table .priority) (highest-of d s) n (h .who) (best-of d s) (λ k l m. intersection-right (i .candidates) (d .jobs .ready) k m)
+      promote-debt (d .jobs .ready) s (d .table .priority) (highest-of d s) n fate (h .who) (best-of d s) (λ k l m. intersection-right (i .candidates) (d .jobs .ready) k m)
           (h .task) (intersection-in (i .candidates) (d .jobs .ready) (h .who) (h .task) (h .is-candidate) (h .is-ready)),
     )
 
@@ -256,7 +256,7 @@ paid-more ready candidates ready′ candidates′ r f Unchosen h = tt
 paid-more ready candidates ready′ candidates′ r f NoneChosen h = tt
 paid-more ready candidates ready′ candidates′ r f (Copying n until) h = tt
 paid-more ready candidates ready′ candidates′ r f (Loaded n) h = tt
-paid-more ready candidates ready′ candidates′ r f (Cancelled n) h = rival-more ready candidates ready′ candidates′ r f h
+paid-more ready candidates ready′ candidates′ r f (Cancelled n fate) h = rival-more ready candidates ready′ candidates′ r f h
 
 c-paid : (d : State) (new : ℕ) (p : Phase) → Paid (d .jobs .ready) p → Paid (union (d .jobs .ready) new) (with-candidates d new p)
 unfolding with-candidates
@@ -286,23 +286,29 @@ d-rival d new i c (Task q) f b t =
       is-candidate = f .candidates q (b .0) is-new (intersection-right new (d .marked) q (b .1));
     }
 
-d-cancel : (d : State) (new : ℕ) (i : Interval) (c until : ℕ) → i .copyin ≡ Copying c until → NewIn d new i → Sound d (Within i)
-    → outranks d c (highest-of d (intersection new (d .marked))) ≡ true → Leads d (Within i) (cancel d i c true) (cancel d i c true .phase) 0 0
+held-weight : (k : CopyIn) (c : ℕ) → Held k c → copyin-weight k ≡ 2
+held-weight k c s = ⊎-elim (λ x. ap copyin-weight (x .1)) (λ x. ap copyin-weight x) s
+
+held-debt : (k : CopyIn) (c : ℕ) → Held k c → copyin-debt k ≡ 0
+held-debt k c s = ⊎-elim (λ x. ap copyin-debt (x .1)) (λ x. ap copyin-debt x) s
+
+d-cancel : (d : State) (new : ℕ) (i : Interval) (c fate : ℕ) → Held (i .copyin) c → NewIn d new i → Sound d (Within i)
+    → outranks d c (highest-of d (intersection new (d .marked))) ≡ true → Leads d (Within i) (cancel d i c fate true) (cancel d i c fate true .phase) 0 0
 unfolding cancel
-d-cancel d new i c until s f h b = record {
+d-cancel d new i c fate s f h b = record {
   sound = record {
     few = insert-small c (d .jobs .ready);
     paid = d-rival d new i c (highest-of d (intersection new (d .marked))) f (best-of d (intersection new (d .marked))) b;
   };
-  weigh = rw s (omega (arith, size-insert c (d .jobs .ready)));
-  sink = rw s (omega (arith, size-insert c (d .jobs .ready)));
+  weigh = omega (arith, size-insert c (d .jobs .ready), held-weight (i .copyin) c s, held-debt (i .copyin) c s);
+  sink = omega (arith, size-insert c (d .jobs .ready), held-weight (i .copyin) c s, held-debt (i .copyin) c s);
 }
 
 d-leads : (d : State) (new : ℕ) → NewAt d new (d .phase) → Sound d (d .phase) → Leads d (d .phase) (step-d d new (d .phase)) (step-d d new (d .phase) .phase) 0 0
 d-leads d new f h =
     d-cases (λ x. Leads d (d .phase) x (x .phase) 0 0) d new (stays d h)
-    (λ i c u e s b.
-    subst (λ (p : Phase). Leads d p (cancel d i c true) (cancel d i c true .phase) 0 0) (sym e) (d-cancel d new i c u s (subst (NewAt d new) e f) (subst (Sound d) e h) b))
+    (λ i c fate e s b.
+    subst (λ (p : Phase). Leads d p (cancel d i c fate true) (cancel d i c fate true .phase) 0 0) (sym e) (d-cancel d new i c fate s (subst (NewAt d new) e f) (subst (Sound d) e h) b))
 
 -- e
 choose-leads : (d : State) (t : ℕ) (i : Interval) (q : MaybeTask) → i .copyin ≡ Unchosen → Sound d (Within i) → Best (d .table .priority) (d .jobs .ready) q
@@ -439,7 +445,7 @@ debt-covered d (Within i) h = go (i .copyin) (h .paid)
     go NoneChosen h = omega arith
     go (Copying n until) h = omega arith
     go (Loaded n) h = omega arith
-    go (Cancelled n) h = omega (arith, size-some (h .who) (d .jobs .ready) (h .task) (h .is-ready))
+    go (Cancelled n fate) h = omega (arith, size-some (h .who) (d .jobs .ready) (h .task) (h .is-ready))
 
 pub counted : (d : State) (cs : List Call) → Sound d (d .phase)
     → total is-begin (history d cs) + phase-debt (d .phase) ≤ weight d (d .phase) + 3 * total is-take (history d cs)

@@ -50,15 +50,15 @@ module _ (table : Table) (marks : ℕ) (fair : Fair table marks) where
   third-known : (n : ℕ) (at : Situation) (es : List Event) → AllKnown (table .present) es → (i : ℕ) → 2 ≤ i → i < length (met n at (intervals es))
       → KnownTask (table .present) (getD (met n at (intervals es)) i NoTask)
   third-known n NoneOpen es h i a l = interval-known (table .present) n es h i l
-  third-known n (Open r f) es h zero a l = absurd (omega arith)
-  third-known n (Open r f) es h (suc i) a l = interval-known (table .present) n es h i (le-of-suc-le-suc l)
+  third-known n (Open r) es h zero a l = absurd (omega arith)
+  third-known n (Open r) es h (suc i) a l = interval-known (table .present) n es h i (le-of-suc-le-suc l)
 
   in-order : (n : ℕ) (m : Bool) (at : Situation) (es : List Event) → member n (table .present) ≡ true → AllKnown (table .present) es
-      → Waits (table .priority) n m at (intervals es) → InOrder (table .priority) n m at (met n at (intervals es))
+      → Waits (table .priority) n m at (intervals es) → InOrder (table .priority) n m (met n at (intervals es))
   in-order n m at es h k w = record {
     lower-in-two = λ i a l. not-lower n (getD (met n at (intervals es)) i NoTask) (w .third i a l);
     third-on = λ i a l. this-or-higher n (getD (met n at (intervals es)) i NoTask) h (third-known n at es k i a l) (w .third i a l);
-    second-marked = w .second;
+    marked-in-one = λ e i a l. not-lower n (getD (met n at (intervals es)) i NoTask) (w .later e i a l);
   }
 
   -- ---- the claim of each history

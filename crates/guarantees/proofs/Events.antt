@@ -1,11 +1,11 @@
 -- The events of an instant: what holds of a list of events and is kept by each kind of event holds with those of a step before it; the three
 -- parts of an instant, before, at and after the releases; and the intervals that begin in them.
-use Rattle.guarantees.specs.Types.{_≡_, refl, ap, _∙_, Bool, true, false, cond, List, [], _∷_, _++_, append-assoc, ℕ, zero, suc, _<_, MaybeTask, Processor, Idle, CopyingIn, Executing, Finished, CopyIn, Unchosen, NoneChosen, Copying, Loaded, Cancelled, Phase, Between, Within, State, Done, NoJob, Job}
+use Rattle.guarantees.specs.Types.{_≡_, refl, ap, _∙_, Bool, true, false, cond, List, [], _∷_, _++_, append-assoc, ℕ, zero, suc, _<_, MaybeTask, NoTask, Task, Processor, Idle, CopyingIn, Executing, Finished, CopyIn, Unchosen, NoneChosen, Copying, Loaded, Cancelled, Phase, Between, Within, State, Done, NoJob, Job}
 use native.Mathlib.Omega.{arith}
 use lib.Dec.{eqb}
 use Rattle.sets.specs.Sets.{member}
 use Rattle.rules.specs.Instant.{processor-task, copyout-task, at-a, at-b, at-e, at-f, at-g, new-at}
-use Rattle.guarantees.specs.History.{Event, Comes, Starts, Stops, Finishes, Completes, Ends, Takes, Begins, happens, processor-events, processor-events-in, finish-events, finish-events-in, completion-events, end-events, take-events, begin-events, execution-events, start-events}
+use Rattle.guarantees.specs.History.{Event, Comes, Starts, Stops, Finishes, Completes, Ends, Takes, GivesWay, Begins, happens, processor-events, processor-events-in, finish-events, finish-events-in, completion-events, end-events, take-events, given-way, giving-events, giving-events-in, begin-events, execution-events, start-events}
 use Rattle.guarantees.specs.Queries.{intervals, each}
 
 -- ---- the events of each step
@@ -57,7 +57,18 @@ module _ (P : List Event → Type 0) where
       go NoneChosen = h
       go (Copying n until) = go-copying n (eqb until t)
       go (Loaded n) = h
-      go (Cancelled n) = h
+      go (Cancelled n fate) = h
+
+  pub by-gives : ((n : ℕ) (es : List Event) → P es → P (GivesWay n ∷ es)) → (p q : Phase) (es : List Event) → P es → P (giving-events-in p q ++ es)
+  unfolding giving-events-in giving-events
+  by-gives f (Between next outgoing) q es h = h
+  by-gives f (Within i) (Between next outgoing) es h = h
+  by-gives f (Within i) (Within j) es h = go (given-way (i .copyin)) (given-way (j .copyin))
+    where
+      go : (a b : MaybeTask) → P (giving-events a b ++ es)
+      go NoTask NoTask = h
+      go NoTask (Task n) = f n es h
+      go (Task n) b = h
 
   pub by-completes : ((n t : ℕ) (es : List Event) → P es → P (Completes n t ∷ es)) → (o : Done) (es : List Event) → P es → P (completion-events o ++ es)
   unfolding completion-events
@@ -102,9 +113,10 @@ front-of d t =
 -- after them
 unfoldable pub tail-of : State → ℕ → ℕ → List Event
 tail-of d t set =
-    end-events t (at-e d t set .phase) (at-f d t set .state .phase)
+    giving-events-in (at-b d t .state .phase) (at-e d t set .phase)
+    ++ (end-events t (at-e d t set .phase) (at-f d t set .state .phase)
     ++ (begin-events t (at-f d t set .state .phase) (at-g d t set .phase)
-    ++ start-events t (at-f d t set .state .phase) (at-g d t set .phase))
+    ++ start-events t (at-f d t set .state .phase) (at-g d t set .phase)))
 
 pub happens-parts : (d : State) (t set : ℕ) (h : List Event)
     → happens d t set ++ h ≡ front-of d t ++ (take-events 32 (new-at d t set) (d .marked) t ++ (tail-of d t set ++ h))
@@ -121,9 +133,10 @@ unfolding front-of
 front-parts d t es = simp append-assoc
 
 pub tail-parts : (d : State) (t set : ℕ) (es : List Event) → tail-of d t set ++ es
-    ≡ end-events t (at-e d t set .phase) (at-f d t set .state .phase)
+    ≡ giving-events-in (at-b d t .state .phase) (at-e d t set .phase)
+    ++ (end-events t (at-e d t set .phase) (at-f d t set .state .phase)
     ++ (begin-events t (at-f d t set .state .phase) (at-g d t set .phase)
-    ++ (start-events t (at-f d t set .state .phase) (at-g d t set .phase) ++ es))
+    ++ (start-events t (at-f d t set .state .phase) (at-g d t set .phase) ++ es)))
 unfolding tail-of
 tail-parts d t set es = simp append-assoc
 
@@ -164,9 +177,11 @@ pub tail-intervals : (d : State) (t set : ℕ) (h : List Event)
     → intervals (tail-of d t set ++ h) ≡ intervals (begin-events t (at-f d t set .state .phase) (at-g d t set .phase)) ++ intervals h
 unfolding each
 tail-intervals d t set h =
+    let e : List Event = end-events t (at-e d t set .phase) (at-f d t set .state .phase) in
     let b : List Event = begin-events t (at-f d t set .state .phase) (at-g d t set .phase) in
     let s : List Event = start-events t (at-f d t set .state .phase) (at-g d t set .phase) in
     ap intervals (tail-parts d t set h)
+    ∙ by-gives (As (e ++ (b ++ (s ++ h)))) (λ n es e. e) (at-b d t .state .phase) (at-e d t set .phase) (e ++ (b ++ (s ++ h))) refl
     ∙ by-ends (As (b ++ (s ++ h))) t (λ es e. e) (at-e d t set .phase) (at-f d t set .state .phase) (b ++ (s ++ h)) refl
     ∙ begins-intervals t (at-f d t set .state .phase) (at-g d t set .phase) (s ++ h)
     ∙ ap (λ (x : List MaybeTask). intervals b ++ x) (by-starts (As h) t (λ n es e. e) (at-f d t set .state .phase) (at-g d t set .phase) h refl)

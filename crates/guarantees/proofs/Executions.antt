@@ -1,5 +1,5 @@
 -- The executions: what the processor of a state does, step by step and along the calls.
-use Rattle.guarantees.specs.Types.{_≡_, refl, sym, ap, _∙_, subst, Bool, true, false, cond, false≢true, List, [], _∷_, _++_, ℕ, _+_, _≤_, Table, Clock, MaybeTask, NoTask, Task, Processor, Idle, CopyingIn, Executing, Finished, CopyIn, Unchosen, NoneChosen, Copying, Loaded, Cancelled, Interval, Next, NoneNext, LoadedNext, PromotedNext, Outgoing, Phase, Between, Within, State, Stage, Call}
+use Rattle.guarantees.specs.Types.{_≡_, refl, sym, ap, _∙_, subst, Bool, true, false, cond, false≢true, _⊎_, inl, inr, ⊎-elim, List, [], _∷_, _++_, ℕ, _+_, _≤_, Table, Clock, MaybeTask, NoTask, Task, Processor, Idle, CopyingIn, Executing, Finished, CopyIn, Unchosen, NoneChosen, Copying, Loaded, Cancelled, Interval, Next, NoneNext, LoadedNext, PromotedNext, Outgoing, Phase, Between, Within, State, Stage, Call}
 use native.Mathlib.Omega.{arith}
 use native.Mathlib.Nat.{add-zero}
 use borrow.Author.Tests.{eqb-true}
@@ -10,15 +10,14 @@ use Rattle.rules.specs.With.{at-clock, later}
 use Rattle.rules.specs.Order.{highest-of}
 use Rattle.rules.specs.Instant.{step-a, step-b, step-c, step-d, step-e, step-g, close, close-stage, over, promoted, next-of, with-candidates, cancel, choose, begin, begin-processor, wanted, ended, processor-at, processor-task, copyout-task, copyin-at, resting, settled, at-a, at-b, at-e, at-f, at-g, new-at, fresh-stage}
 use Rattle.rules.specs.Calls.{opened}
-use Rattle.guarantees.specs.History.{Event, Starts, Stops, Finishes, Begins, Ends, history, happens, processor-events, processor-events-in, finish-events, finish-events-in, completion-events, end-events, take-events, begin-events, start-events, execution-events}
+use Rattle.guarantees.specs.History.{Event, Starts, Stops, Finishes, GivesWay, Begins, Ends, history, happens, processor-events, processor-events-in, finish-events, finish-events-in, completion-events, end-events, take-events, given-way, giving-events, giving-events-in, begin-events, start-events, execution-events}
 use Rattle.guarantees.specs.States.{processor-known, phase-known}
 use Rattle.guarantees.proofs.Proper.{Fair}
 use Rattle.guarantees.proofs.Walk.{walk}
 use Rattle.guarantees.proofs.Times.{Times, processor-times}
-use Rattle.guarantees.proofs.Cases.{held-at, d-cases, e-cases}
+use Rattle.guarantees.proofs.Cases.{held-at, Held, d-cases, e-cases}
 use Rattle.guarantees.proofs.Steps.{Opened, e-opens, settles}
 use Rattle.guarantees.proofs.Events.{by-completes, by-takes, tail-of, front-of, happens-parts, front-parts, tail-parts}
-use Rattle.guarantees.proofs.Order.{finished-of}
 use Rattle.guarantees.proofs.Served.{last, served-at}
 use Rattle.guarantees.proofs.Invariant.{Good, Until, mass, debt, good-opened, good-next, good-quiet}
 use Rattle.guarantees.proofs.Frames.{Frame, b-frame, table-e, clock-g}
@@ -34,7 +33,15 @@ doing-in (CopyingIn n until) = ToStart n until
 doing-in (Executing n start until) = Runs n until
 doing-in (Finished n start) = Rests (Task n)
 
--- what the engine has copied in in the last interval
+-- the job that the engine has copied in in the open interval
+abbrev pub finished-of : CopyIn → MaybeTask
+finished-of Unchosen = NoTask
+finished-of NoneChosen = NoTask
+finished-of (Copying n until) = NoTask
+finished-of (Loaded n) = Task n
+finished-of (Cancelled n fate) = NoTask
+
+-- and in the last one
 abbrev pub loaded-next : Next → MaybeTask
 loaded-next NoneNext = NoTask
 loaded-next (LoadedNext n) = Task n
@@ -50,15 +57,6 @@ view-of (Within i) = record { doing = doing-in (i .processor); copied = finished
 
 -- ---- step by step, at an instant
 
-c-view : (d : State) (new : ℕ) (p : Phase) → view-of (with-candidates d new p) ≡ view-of p
-unfolding with-candidates
-c-view d new (Between next outgoing) = refl
-c-view d new (Within i) = refl
-
-d-view : (d : State) (new : ℕ) → view-of (step-d d new (d .phase) .phase) ≡ view-of (d .phase)
-unfolding cancel
-d-view d new = d-cases (λ x. view-of (x .phase) ≡ view-of (d .phase)) d new refl (λ i n u e s b. rw (e, s))
-
 choose-view : (d : State) (t : ℕ) (i : Interval) (q : MaybeTask) → view-of (choose d t i q .phase) ≡ record { doing = doing-in (i .processor); copied = NoTask }
 unfolding choose
 choose-view d t i NoTask = refl
@@ -67,14 +65,66 @@ choose-view d t i (Task q) = refl
 pub e-view : (d : State) (t : ℕ) → view-of (step-e d t (d .phase) .phase) ≡ view-of (d .phase)
 e-view d t = e-cases (λ x. view-of (x .phase) ≡ view-of (d .phase)) d t refl (λ i e s u. choose-view d t i (highest-of d (d .jobs .ready)) ∙ rw (e, s))
 
-pub view-e : (d : State) (t set : ℕ) → view-of (at-e d t set .phase) ≡ view-of (at-b d t .state .phase)
+-- c to e: no copy-in gives way, or one does, and then the engine has copied in none
+abbrev without-copied : View → View
+without-copied v = record { doing = v .doing; copied = NoTask }
+
+abbrev pub Given : Phase → Phase → Type 0
+Given p q =
+    ((giving-events-in p q ≡ []) × (view-of q ≡ view-of p))
+    ⊎ ((n : ℕ) × (giving-events-in p q ≡ GivesWay n ∷ []) × (view-of q ≡ without-copied (view-of p)))
+
+gives-none : (m : MaybeTask) → giving-events m m ≡ []
+unfolding giving-events
+gives-none NoTask = refl
+gives-none (Task n) = refl
+
+same-given : (p : Phase) → Given p p
+unfolding giving-events-in
+same-given (Between next outgoing) = inl (refl, refl)
+same-given (Within i) = inl (gives-none (given-way (i .copyin)), refl)
+
+c-given : (d : State) (new : ℕ) (p q : Phase) → Given (with-candidates d new p) q → Given p q
+unfolding with-candidates giving-events-in
+c-given d new (Between next outgoing) q h = h
+c-given d new (Within i) (Between next outgoing) h = h
+c-given d new (Within i) (Within j) h = h
+
+held-not-given : (k : CopyIn) (n : ℕ) → Held k n → given-way k ≡ NoTask
+held-not-given k n s = ⊎-elim (λ x. ap given-way (x .1)) (λ x. ap given-way x) s
+
+d-given : (d : State) (new : ℕ) → Given (d .phase) (step-d d new (d .phase) .phase)
+unfolding cancel giving-events-in giving-events
+d-given d new =
+    d-cases (λ x. Given (d .phase) (x .phase)) d new (same-given (d .phase))
+    (λ i n fate e s b.
+    subst (λ (p : Phase). Given p (cancel d i n fate true .phase)) (sym e) (inr (n, ap (λ (m : MaybeTask). giving-events m (Task n)) (held-not-given (i .copyin) n s), refl)))
+
+like-given : (p q q′ : Phase) → giving-events-in p q′ ≡ giving-events-in p q → view-of q′ ≡ view-of q → Given p q → Given p q′
+like-given p q q′ e v h = ⊎-elim (λ x. inl (e ∙ x .0, v ∙ x .1)) (λ x. inr (x .0, e ∙ x .1, v ∙ x .2)) h
+
+choose-given : (d : State) (t : ℕ) (i : Interval) (q : MaybeTask) (p : Phase) → i .copyin ≡ Unchosen → giving-events-in p (choose d t i q .phase) ≡ giving-events-in p (Within i)
+unfolding choose giving-events-in
+choose-given d t i NoTask (Between next outgoing) s = refl
+choose-given d t i NoTask (Within j) s = rw s
+choose-given d t i (Task q) (Between next outgoing) s = refl
+choose-given d t i (Task q) (Within j) s = rw s
+
+e-given : (p : Phase) (d : State) (t : ℕ) → Given p (d .phase) → Given p (step-e d t (d .phase) .phase)
+e-given p d t h =
+    e-cases (λ x. Given p (x .phase)) d t h
+    (λ i e s u.
+    let q : MaybeTask = highest-of d (d .jobs .ready) in
+    like-given p (Within i) (choose d t i q .phase) (choose-given d t i q p s) (choose-view d t i q ∙ rw s) (subst (Given p) e h))
+
+pub given-e : (d : State) (t set : ℕ) → Given (at-b d t .state .phase) (at-e d t set .phase)
 unfolding at-e step-c
-view-e d t set =
+given-e d t set =
     let b : State = at-b d t .state in
     let new : ℕ = new-at d t set in
     let c : State = step-c b t new in
     let x : State = step-d c new (c .phase) in
-    e-view x t ∙ d-view c new ∙ c-view b new (b .phase)
+    e-given (b .phase) x t (c-given b new (b .phase) (x .phase) (d-given c new))
 
 -- a time with room for a length
 plain-later : (t x : ℕ) → t ≤ 2000000000 → x ≤ 1000000 → later t x ≡ t + x
@@ -122,7 +172,7 @@ module _ (table : Table) (marks : ℕ) (fair : Fair table marks) (t : ℕ) where
       go true h = h
       go false h = h
   finishes-works s (Loaded n) ys h = h
-  finishes-works s (Cancelled n) ys h = h
+  finishes-works s (Cancelled n fate) ys h = h
 
   a-works : (d : State) (p : Phase) (ys : List Event) → d .phase ≡ p → d .table ≡ table → phase-known (table .present) p → Times Plain p
       → Works (view-of (step-a d t p .state .phase)) ys → Works (view-of p) (processor-events-in t p ++ (finish-events-in t p ++ ys))
@@ -145,9 +195,9 @@ module _ (table : Table) (marks : ℕ) (fair : Fair table marks) (t : ℕ) where
   none-chosen NoTask = refl
   none-chosen (Task n) = refl
 
-  none-left : (c : ℕ) (q : MaybeTask) → loaded-next (next-of (Cancelled c) q) ≡ NoTask
-  none-left c NoTask = refl
-  none-left c (Task n) = refl
+  none-left : (c fate : ℕ) (q : MaybeTask) → loaded-next (next-of (Cancelled c fate) q) ≡ NoTask
+  none-left c fate NoTask = refl
+  none-left c fate (Task n) = refl
 
   -- where an interval can end, what its engine has copied in is what is loaded for the next one
   pub stays-loaded : (d : State) (i : Interval) (c : CopyIn) → settled c ≡ true → loaded-next (next-of c (promoted d i c)) ≡ finished-of c
@@ -156,7 +206,7 @@ module _ (table : Table) (marks : ℕ) (fair : Fair table marks) (t : ℕ) where
   stays-loaded d i NoneChosen h = none-chosen (promoted d i NoneChosen)
   stays-loaded d i (Copying n until) h = refl
   stays-loaded d i (Loaded n) h = refl
-  stays-loaded d i (Cancelled n) h = none-left n (promoted d i (Cancelled n))
+  stays-loaded d i (Cancelled n fate) h = none-left n fate (promoted d i (Cancelled n fate))
 
   b-stays : (i : Interval) (q : Phase) (ys : List Event) → q ≡ Within i → Works (view-of q) ys → Works (view-of (Within i)) (end-events t (Within i) q ++ ys)
   unfolding end-events
@@ -241,18 +291,28 @@ module _ (table : Table) (marks : ℕ) (fair : Fair table marks) where
   abbrev WorksAt : ℕ → Phase → List Event → Type 0
   WorksAt t p ys = Working (table .columns) t (view-of p .doing) (view-of p .copied) ys
 
+  works-gives : (t : ℕ) (p q : Phase) (ys : List Event) → Given p q → WorksAt t q ys → WorksAt t p (giving-events-in p q ++ ys)
+  unfolding Working
+  works-gives t p q ys w h =
+      ⊎-elim
+      (λ x. rw (x .0) (subst (λ (v : View). Working (table .columns) t (v .doing) (v .copied) ys) (x .1) h))
+      (λ x. rw (x .1) (subst (λ (v : View). Working (table .columns) t (v .doing) (v .copied) ys) (x .2) h))
+      w
+
   works-tail : (d : State) (t set : ℕ) (ys : List Event) → d .table ≡ table → Good table marks fair (at-g d t set)
-      → WorksAt t (at-g d t set .phase) ys → WorksAt t (at-e d t set .phase) (tail-of d t set ++ ys)
+      → WorksAt t (at-g d t set .phase) ys → WorksAt t (at-b d t .state .phase) (tail-of d t set ++ ys)
   unfolding at-g at-f
   works-tail d t set ys x n h =
       let e : State = at-e d t set in
       let s : Stage = fresh-stage e in
       let f : State = at-f d t set .state in
       let g : Phase = at-g d t set .phase in
+      let z : List Event = begin-events t (f .phase) g ++ (start-events t (f .phase) g ++ ys) in
       rw (tail-parts d t set ys)
-      (b-works table marks fair t s (e .phase) (begin-events t (f .phase) g ++ (start-events t (f .phase) g ++ ys)) refl
+      (works-gives t (at-b d t .state .phase) (e .phase) (end-events t (e .phase) (f .phase) ++ z) (given-e d t set)
+      (b-works table marks fair t s (e .phase) z refl
       (g-works table marks fair t f (held-at d t set) (f .phase) ys refl
-      (ap (λ (y : Frame). y .table) (b-frame s t) ∙ table-e d t set ∙ x) (plain table marks fair (at-g d t set) n) h))
+      (ap (λ (y : Frame). y .table) (b-frame s t) ∙ table-e d t set ∙ x) (plain table marks fair (at-g d t set) n) h)))
 
   works-front : (d : State) (t : ℕ) (ys : List Event) → last (d .clock) ≤ t → Good table marks fair d
       → WorksAt t (at-b d t .state .phase) ys → WorksAt (last (d .clock)) (d .phase) (front-of d t ++ ys)
@@ -272,7 +332,7 @@ module _ (table : Table) (marks : ℕ) (fair : Fair table marks) where
       rw (happens-parts d t set ys)
       (works-front d t (take-events 32 (new-at d t set) (d .marked) t ++ (tail-of d t set ++ ys)) l g
       (by-takes (WorksAt t (at-b d t .state .phase)) 32 (new-at d t set) (d .marked) t (λ n l m es h. unfold Working in h) (tail-of d t set ++ ys)
-      (subst (λ (v : View). Working (table .columns) t (v .doing) (v .copied) (tail-of d t set ++ ys)) (view-e d t set) (works-tail d t set ys (g .table-is) n h))))
+      (works-tail d t set ys (g .table-is) n h)))
 
   works : (d : State) (cs : List Call) → Good table marks fair d → WorksAt (last (d .clock)) (d .phase) (history d cs)
   works d cs =

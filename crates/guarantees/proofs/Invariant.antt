@@ -43,7 +43,7 @@ phase-weight-small (Within i) = omega (arith, go (i .copyin), go-processor (i .p
     go NoneChosen = omega arith
     go (Copying n until) = omega arith
     go (Loaded n) = omega arith
-    go (Cancelled n) = omega arith
+    go (Cancelled n fate) = omega arith
 
     go-processor : (q : Processor) → processor-weight q ≤ 1
     go-processor Idle = omega arith
@@ -90,7 +90,7 @@ module _ (X : ℕ → Type 0) (t : ℕ) where
   copyin-one NoneChosen x h = absurd (omega arith)
   copyin-one (Copying n until) x h = bit-one until x h
   copyin-one (Loaded n) x h = absurd (omega arith)
-  copyin-one (Cancelled n) x h = absurd (omega arith)
+  copyin-one (Cancelled n fate) x h = absurd (omega arith)
 
   pub drop-one : (p : Phase) → Times X p → 1 ≤ drop t p → X t
   drop-one (Between next outgoing) x h = absurd (omega arith)
@@ -125,7 +125,7 @@ module _ (X : ℕ → Type 0) (t : ℕ) where
   copyin-none NoneChosen x h = tt
   copyin-none (Copying n until) x h = (x, bit-none until h)
   copyin-none (Loaded n) x h = tt
-  copyin-none (Cancelled n) x h = tt
+  copyin-none (Cancelled n fate) x h = tt
 
   drop-none : (p : Phase) → Times X p → drop t p ≡ 0 → Times Other p
   drop-none (Between next outgoing) x h = tt
@@ -154,7 +154,7 @@ module _ (X Y : ℕ → Type 0) where
       go-copyin NoneChosen x y = tt
       go-copyin (Copying n until) x y = (x, y)
       go-copyin (Loaded n) x y = tt
-      go-copyin (Cancelled n) x y = tt
+      go-copyin (Cancelled n fate) x y = tt
 
 -- ---- the pieces of an instant
 

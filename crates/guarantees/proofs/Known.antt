@@ -5,11 +5,11 @@ use lib.ListN.{getD, length}
 use Rattle.sets.specs.Sets.{member}
 use Rattle.sets.proofs.Laws.{difference-left}
 use Rattle.rules.specs.Instant.{at-b, at-e, at-f, at-g, new-at, taken, processor-task}
-use Rattle.guarantees.specs.History.{Event, Starts, Stops, Comes, Finishes, Completes, Ends, Takes, Begins, history, happens, take-events, begin-events, start-events}
+use Rattle.guarantees.specs.History.{Event, Starts, Stops, Comes, Finishes, Completes, Ends, Takes, GivesWay, Begins, history, happens, end-events, take-events, begin-events, start-events}
 use Rattle.guarantees.specs.Queries.{is-task, intervals, each, upto}
 use Rattle.guarantees.proofs.Proper.{Fair}
 use Rattle.guarantees.proofs.Walk.{walk}
-use Rattle.guarantees.proofs.Events.{by-ends, by-takes, by-starts, by-front, tail-of, happens-parts, tail-parts}
+use Rattle.guarantees.proofs.Events.{by-gives, by-ends, by-takes, by-starts, by-front, tail-of, happens-parts, tail-parts}
 use Rattle.guarantees.proofs.Steps.{Sub}
 use Rattle.guarantees.proofs.Served.{served-at}
 use Rattle.guarantees.proofs.Invariant.{Good, good-next, good-quiet}
@@ -23,6 +23,7 @@ module _ (present : ℕ) where
   abbrev pub KnownIn : Event → Type 0
   KnownIn (Comes t) = Unit {0}
   KnownIn (Finishes n) = Unit {0}
+  KnownIn (GivesWay n) = Unit {0}
   KnownIn (Starts n v) = Unit {0}
   KnownIn (Stops n v) = Unit {0}
   KnownIn (Completes n t) = Unit {0}
@@ -51,6 +52,7 @@ module _ (present : ℕ) where
   interval-known n [] h i l = absurd (not-suc-le-zero l)
   interval-known n (Comes t ∷ es) h i l = interval-known n es (h .1) i l
   interval-known n (Finishes k ∷ es) h i l = interval-known n es (h .1) i l
+  interval-known n (GivesWay k ∷ es) h i l = interval-known n es (h .1) i l
   interval-known n (Starts k v ∷ es) h i l = interval-known n es (h .1) i l
   interval-known n (Stops k v ∷ es) h i l = interval-known n es (h .1) i l
   interval-known n (Completes k t ∷ es) h i l = interval-known n es (h .1) i l
@@ -85,9 +87,10 @@ module _ (present : ℕ) where
       let z : List Event = start-events t (at-f d t set .state .phase) (at-g d t set .phase) ++ ys in
       let tail : AllKnown (tail-of d t set ++ ys) =
       subst AllKnown (sym (tail-parts d t set ys))
+      (by-gives AllKnown (λ n es k. (tt, k)) (at-b d t .state .phase) (at-e d t set .phase) (end-events t (at-e d t set .phase) (at-f d t set .state .phase) ++ (x ++ z))
       (by-ends AllKnown t (λ es k. (tt, k)) (at-e d t set .phase) (at-f d t set .state .phase) (x ++ z)
       (known-begins t (at-f d t set .state .phase) (at-g d t set .phase) z g
-      (by-starts AllKnown t (λ n es k. (tt, k)) (at-f d t set .state .phase) (at-g d t set .phase) ys h))) in
+      (by-starts AllKnown t (λ n es k. (tt, k)) (at-f d t set .state .phase) (at-g d t set .phase) ys h)))) in
       rw (happens-parts d t set ys)
       (by-front AllKnown (λ t es k. (tt, k)) (λ n t es k. (tt, k)) (λ n t es k. (tt, k)) (λ n es k. (tt, k)) (λ n t es k. (tt, k)) (λ t es k. (tt, k)) d t
       (take-events 32 (new-at d t set) (d .marked) t ++ (tail-of d t set ++ ys))

@@ -17,11 +17,11 @@ use Rattle.guarantees.specs.Entries.{is-lower, lower-in}
 use Rattle.guarantees.proofs.Cases.{d-cases, e-cases}
 use Rattle.guarantees.proofs.Steps.{Opened, e-opens, settles, processor-task-same}
 use Rattle.guarantees.proofs.Waiting.{held-task, next-task, up-next, runs}
-use Rattle.guarantees.proofs.Order.{finished-of, situation-of, c-situation, d-situation, e-situation}
+use Rattle.guarantees.proofs.Order.{situation-of, c-situation, d-situation, e-situation}
 use Rattle.guarantees.proofs.Blocking.{Place, Out, In, place, c-place, c-up-next, Awaits, AwaitsIn, Bounded, Like, a-like, d-like, e-like, promoted-awaits, promoted-ready}
 use Rattle.guarantees.proofs.Places.{Parted, stage, next-bit, outgoing-bit, processor-bit, copyout-bit}
 use Rattle.guarantees.proofs.Tally.{Tally, first-of, or-else, grown, tally-by, tally, tally-append}
-use Rattle.guarantees.proofs.Tallies.{counted-length, counted-exact, stamped-length, stamped-exact, with-started, with-at, started-after, processor-tally, finish-at, finish-tally, completion-tally, takes-others, takes-this, started-next, begun, opened-tally}
+use Rattle.guarantees.proofs.Tallies.{counted-length, counted-exact, stamped-length, stamped-exact, with-started, started-after, processor-tally, finish-tally, completion-tally, takes-others, takes-this, started-next, begun, opened-tally}
 
 -- ---- how many intervals are lower
 
@@ -216,26 +216,15 @@ module _ (pr : List ℕ) (n : ℕ) (small : n < 32) where
       go false r = ((s, r), k s r)
   a-processor table t (Finished m start) x s k r = ((s, r), k s r)
 
-  finish-open : (t : ℕ) (c : CopyIn) (r r′ : MaybeTask) → r ≡ r′ → finish-at n t c (Open r (finished-of c)) ≡ Open r′ (finished-of (copyin-at t c))
-  finish-open t Unchosen r r′ e = ap (λ (z : MaybeTask). Open z NoTask) e
-  finish-open t NoneChosen r r′ e = ap (λ (z : MaybeTask). Open z NoTask) e
-  finish-open t (Copying m until) r r′ e = go (eqb until t)
-    where
-      go : (b : Bool) → cond b (Open r (Task m)) (Open r NoTask) ≡ Open r′ (finished-of (cond b (Loaded m) (Copying m until)))
-      go true = ap (λ (z : MaybeTask). Open z (Task m)) e
-      go false = ap (λ (z : MaybeTask). Open z NoTask) e
-  finish-open t (Loaded m) r r′ e = ap (λ (z : MaybeTask). Open z (Task m)) e
-  finish-open t (Cancelled m) r r′ e = ap (λ (z : MaybeTask). Open z NoTask) e
-
   abbrev ended-tally : ℕ → Interval → Tally → Tally
-  ended-tally t i x = with-at n (with-started n x (started-after n t (i .processor) (x .started))) (finish-at n t (i .copyin) (x .at))
+  ended-tally t i x = with-started n x (started-after n t (i .processor) (x .started))
 
   a-within : (d : State) (t : ℕ) (i : Interval) (x : Tally) → d .phase ≡ Within i → Like pr n small d (step-a d t (Within i) .state) → Knows x d
       → Knows (ended-tally t i x) (step-a d t (Within i) .state)
   unfolding step-a ended without-done
   a-within d t i x e l k = record {
     table = k .table;
-    at = ap (finish-at n t (i .copyin)) (k .at ∙ ap situation-of e) ∙ finish-open t (i .copyin) (processor-task (i .processor)) (processor-task (processor-at (d .table) t (i .processor))) (sym (processor-task-same (d .table) t (i .processor)));
+    at = k .at ∙ ap situation-of e ∙ ap Open (sym (processor-task-same (d .table) t (i .processor)));
     releases = k .releases;
     counts = k .counts;
     awaits = λ w.
@@ -295,7 +284,7 @@ module _ (pr : List ℕ) (n : ℕ) (small : n < 32) where
   awaits-in ready NoneChosen h w = ⊎-elim (λ m. m) (λ e. absurd (false≢true e)) w
   awaits-in ready (Copying m until) h w = absurd (false≢true h)
   awaits-in ready (Loaded m) h w = ⊎-elim (λ y. insert-other m ready n small y) (λ e. insert-same m ready n small e) w
-  awaits-in ready (Cancelled m) h w = ⊎-elim (λ m. m) (λ e. absurd (false≢true e)) w
+  awaits-in ready (Cancelled m fate) h w = ⊎-elim (λ m. m) (λ e. absurd (false≢true e)) w
 
   higher-is : (d : State) (s : ℕ) (r : MaybeTask) → d .table .priority ≡ pr → member n (higher d r s) ≡ (member n s && is-lower pr n r)
   unfolding higher-than
@@ -548,7 +537,7 @@ module _ (pr : List ℕ) (n : ℕ) (small : n < 32) where
   unfolding begin
   begin-knows present tasks f t new next outgoing x e h k = record {
     table = k .table;
-    at = ap (λ (z : MaybeTask). Open z NoTask) (sym (runs (f .table) t next));
+    at = ap Open (sym (runs (f .table) t next));
     releases = k .releases;
     counts = k .counts;
     awaits = λ w. ⊎-elim (λ m. awaiting m) (λ y. absurd (false≢true y)) w;

@@ -9,39 +9,21 @@ use Rattle.sets.specs.Sets.{member, intersection, insert, union}
 use Rattle.sets.proofs.Laws.{by-test, clash, none, union-right, intersection-in, insert-other}
 use Rattle.guarantees.proofs.Highest.{Best}
 use Rattle.guarantees.proofs.Walk.{walk}
-use Rattle.guarantees.specs.History.{history, Event, Starts, Stops, Comes, Takes, Begins, Completes, Finishes, Ends, happens, finish-events, finish-events-in, completion-events, end-events, take-events, begin-events, start-events}
+use Rattle.guarantees.specs.History.{history, Event, Starts, Stops, Comes, Takes, GivesWay, Begins, Completes, Finishes, Ends, happens, finish-events-in, completion-events, end-events, take-events, giving-events-in, begin-events, start-events}
 use Rattle.rules.specs.Instant.{step-a, step-b, step-c, step-d, step-e, step-g, close, close-stage, over, with-candidates, cancel, cancel-by, choose, begin, begin-processor, wanted, taken, ended, processor-task, copyin-at, at-a, at-b, at-e, at-f, at-g, new-at, fresh-stage}
 use Rattle.rules.specs.With.{at-clock}
 use Rattle.rules.specs.Order.{highest-of, outranks}
 use Rattle.guarantees.specs.Queries.{is-task, Situation, NoneOpen, Open, situation, after-event, intervals, begin-tick, after, each, first, upto, met}
-use Rattle.guarantees.specs.Claim.{Lower, LowerFinished}
 use Rattle.guarantees.proofs.Frames.{table-b, marked-b, table-g}
 use Rattle.guarantees.proofs.Cases.{held-at, d-cases, e-cases}
-use Rattle.guarantees.proofs.Waiting.{NotLower, Waiting, Fate, Rule, Rival, Bound, Any, Old, Ahead, Then, rule-old, rule-any, e-waiting, from-c, to-come, ahead, soon}
+use Rattle.guarantees.proofs.Waiting.{NotLower, Waiting, Fate, Rule, Rival, Bound, Old, Ahead, Then, rule-old, rule-none, e-waiting, from-c, to-come, ahead, soon}
 use Rattle.guarantees.proofs.Steps.{processor-task-same, Opened, e-opens, NewIn, NewAt, c-new, best-of}
-use Rattle.guarantees.proofs.Events.{by-processor, by-completes, by-takes, by-starts, tail-of, tail-intervals, front-of, happens-parts, front-parts, tail-parts}
+use Rattle.guarantees.proofs.Events.{by-processor, by-finishes, by-gives, by-completes, by-takes, by-starts, tail-of, tail-intervals, front-of, happens-parts, front-parts, tail-parts}
 
 -- the situation in a phase
-abbrev pub finished-of : CopyIn → MaybeTask
-finished-of Unchosen = NoTask
-finished-of NoneChosen = NoTask
-finished-of (Copying n until) = NoTask
-finished-of (Loaded n) = Task n
-finished-of (Cancelled n) = NoTask
-
 abbrev pub situation-of : Phase → Situation
 situation-of (Between next outgoing) = NoneOpen
-situation-of (Within i) = Open (processor-task (i .processor)) (finished-of (i .copyin))
-
--- an interval is open in which the engine has finished no copy-in
-abbrev Bare : Phase → Type 0
-Bare (Between next outgoing) = ⊥
-Bare (Within i) = finished-of (i .copyin) ≡ NoTask
-
-candidates-bare : (d : State) (new : ℕ) (p : Phase) → Bare p → Bare (with-candidates d new p)
-unfolding with-candidates
-candidates-bare d new (Between next outgoing) h = h
-candidates-bare d new (Within i) h = h
+situation-of (Within i) = Open (processor-task (i .processor))
 
 -- ---- the situation, step by step
 
@@ -52,15 +34,15 @@ c-situation d new (Within i) = refl
 
 pub d-situation : (d : State) (new : ℕ) → situation-of (step-d d new (d .phase) .phase) ≡ situation-of (d .phase)
 unfolding cancel
-d-situation d new = d-cases (λ x. situation-of (x .phase) ≡ situation-of (d .phase)) d new refl (λ i n u e s b. rw (e, s))
+d-situation d new = d-cases (λ x. situation-of (x .phase) ≡ situation-of (d .phase)) d new refl (λ i n fate e s b. rw e)
 
-choose-situation : (d : State) (t : ℕ) (i : Interval) (q : MaybeTask) → situation-of (choose d t i q .phase) ≡ Open (processor-task (i .processor)) NoTask
+choose-situation : (d : State) (t : ℕ) (i : Interval) (q : MaybeTask) → situation-of (choose d t i q .phase) ≡ Open (processor-task (i .processor))
 unfolding choose
 choose-situation d t i NoTask = refl
 choose-situation d t i (Task q) = refl
 
 pub e-situation : (d : State) (t : ℕ) → situation-of (step-e d t (d .phase) .phase) ≡ situation-of (d .phase)
-e-situation d t = e-cases (λ x. situation-of (x .phase) ≡ situation-of (d .phase)) d t refl (λ i e s u. choose-situation d t i (highest-of d (d .jobs .ready)) ∙ rw (e, s))
+e-situation d t = e-cases (λ x. situation-of (x .phase) ≡ situation-of (d .phase)) d t refl (λ i e s u. choose-situation d t i (highest-of d (d .jobs .ready)) ∙ rw e)
 
 pub situation-e : (d : State) (t set : ℕ) → situation-of (at-e d t set .phase) ≡ situation-of (at-b d t .state .phase)
 unfolding at-e step-c
@@ -71,18 +53,11 @@ situation-e d t set =
     let x : State = step-d c new (c .phase) in
     e-situation x t ∙ d-situation c new ∙ c-situation b new (b .phase)
 
--- an interval that has just begun
-begin-situation : (f : State) (t new : ℕ) (next : Next) (outgoing : Outgoing) →
-    let b : State = begin f t new next outgoing in
-    situation-of (step-e b t (b .phase) .phase) ≡ Open (processor-task (begin-processor (f .table) t next)) NoTask
-unfolding begin
-begin-situation f t new next outgoing = let b : State = begin f t new next outgoing in e-situation b t
-
 module _ (pr : List ℕ) where
   -- the claim on a release of task n, marked or not, where rs are the intervals that begin after it
   pub record Waits (n : ℕ) (marked : Bool) (at : Situation) (rs : List MaybeTask) : Type 0 where
     pub third : (i : ℕ) → 2 ≤ i → i < length (met n at rs) → NotLower pr n (getD (met n at rs) i NoTask)
-    pub second : marked ≡ true → 1 < length (met n at rs) → Lower pr n (getD (met n at rs) 1 NoTask) ↔ LowerFinished pr n at
+    pub later : marked ≡ true → (i : ℕ) → 1 ≤ i → i < length (met n at rs) → NotLower pr n (getD (met n at rs) i NoTask)
 
   -- an interval begins at t, if none is open
   abbrev pub AtOnce : ℕ → Situation → Due → Type 0
@@ -93,12 +68,13 @@ module _ (pr : List ℕ) where
   Kept s [] = Unit {0}
   Kept s (Comes t ∷ es) = Kept s es
   Kept s (Takes n t m ∷ es) = (Waits n m s (intervals es) × AtOnce t s (begin-tick es)) × Kept s es
-  Kept s (Finishes n ∷ es) = Kept (after-event s (Finishes n)) es
+  Kept s (Finishes n ∷ es) = Kept s es
+  Kept s (GivesWay n ∷ es) = Kept s es
   Kept s (Completes n t ∷ es) = Kept s es
   Kept s (Starts n t ∷ es) = Kept s es
   Kept s (Stops n t ∷ es) = Kept s es
   Kept s (Ends t ∷ es) = Kept NoneOpen es
-  Kept s (Begins t r l ∷ es) = Kept (Open r NoTask) es
+  Kept s (Begins t r l ∷ es) = Kept (Open r) es
 
   split : (s : Situation) (before after : List Event) (n t : ℕ) (m : Bool) → Kept s (before ++ (Takes n t m ∷ after))
       → Waits n m (situation s before) (intervals after) × AtOnce t (situation s before) (begin-tick after)
@@ -106,12 +82,13 @@ module _ (pr : List ℕ) where
   split s [] after n t m k = k .0
   split s (Comes t′ ∷ es) after n t m k = split s es after n t m k
   split s (Takes n′ t′ m′ ∷ es) after n t m k = split s es after n t m (k .1)
-  split s (Finishes n′ ∷ es) after n t m k = split (after-event s (Finishes n′)) es after n t m k
+  split s (Finishes n′ ∷ es) after n t m k = split s es after n t m k
+  split s (GivesWay n′ ∷ es) after n t m k = split s es after n t m k
   split s (Completes n′ t′ ∷ es) after n t m k = split s es after n t m k
   split s (Starts n′ t′ ∷ es) after n t m k = split s es after n t m k
   split s (Stops n′ t′ ∷ es) after n t m k = split s es after n t m k
   split s (Ends t′ ∷ es) after n t m k = split NoneOpen es after n t m k
-  split s (Begins t′ r l ∷ es) after n t m k = split (Open r NoTask) es after n t m k
+  split s (Begins t′ r l ∷ es) after n t m k = split (Open r) es after n t m k
 
   -- so the claim holds of each release
   pub released-in : (h before after : List Event) (n t : ℕ) (m : Bool) → Kept NoneOpen h → h ≡ before ++ (Takes n t m ∷ after)
@@ -137,21 +114,10 @@ module _ (pr : List ℕ) where
     ahead-at (r ∷ rs) a zero l = a .0
     ahead-at (r ∷ rs) a (suc i) l = past (NotLower pr n) r rs i l (λ e m. ahead-at rs (a .1 e) i m)
 
-    not-lower : (r : MaybeTask) → NotLower pr n r → Lower pr n r ↔ ⊥
-    not-lower NoTask h = absurd h
-    not-lower (Task k) h = (λ l. omega arith, λ x. absurd x)
-
     then-map : (P Q : MaybeTask → Type 0) → ((r : MaybeTask) → P r → Q r) → (rs : List MaybeTask) → Then pr n P rs → Then pr n Q rs
     unfolding Then
     then-map P Q f [] a = tt
     then-map P Q f (r ∷ rs) a = (f r (a .0), a .1)
-
-    any : (Q : MaybeTask → Type 0) → ((r : MaybeTask) → Q r) → (ready candidates : ℕ) (c : CopyIn) → Any pr n Q ready candidates c
-    any Q q ready candidates Unchosen = q
-    any Q q ready candidates NoneChosen = q
-    any Q q ready candidates (Copying c until) = q
-    any Q q ready candidates (Loaded c) = q (Task c)
-    any Q q ready candidates (Cancelled c) = q
 
     then-at : (Q : MaybeTask → Type 0) (rs : List MaybeTask) → Then pr n Q rs → (i : ℕ) → suc i < length (upto n rs) → NotLower pr n (getD (upto n rs) (suc i) NoTask)
     unfolding Then upto
@@ -163,28 +129,34 @@ module _ (pr : List ℕ) where
     then-first Q [] a l = absurd (not-suc-le-zero l)
     then-first Q (r ∷ rs) a l = a .0
 
-    abbrev Second : Bool → MaybeTask → MaybeTask → Type 0
-    Second m f r = m ≡ true → Lower pr n r ↔ Lower pr n f
+    -- what the interval after the open one runs, for a job that is marked or not
+    abbrev Second : Bool → MaybeTask → Type 0
+    Second m r = m ≡ true → NotLower pr n r
 
-    waits-open : (m : Bool) (r f : MaybeTask) (rs : List MaybeTask) → Then pr n (Second m f) rs → Waits n m (Open r f) rs
-    waits-open m r f rs a = record { third = third; second = λ e l. then-first (Second m f) rs a (le-of-suc-le-suc l) e }
+    waits-open : (m : Bool) (r : MaybeTask) (rs : List MaybeTask) → Then pr n (Second m) rs → Waits n m (Open r) rs
+    waits-open m r rs a = record { third = third; later = later }
       where
         third : (i : ℕ) → 2 ≤ i → i < length (r ∷ upto n rs) → NotLower pr n (getD (r ∷ upto n rs) i NoTask)
         third zero h l = absurd (omega arith)
         third (suc zero) h l = absurd (omega arith)
-        third (suc (suc i)) h l = then-at (Second m f) rs a i (le-of-suc-le-suc l)
+        third (suc (suc i)) h l = then-at (Second m) rs a i (le-of-suc-le-suc l)
+
+        later : m ≡ true → (i : ℕ) → 1 ≤ i → i < length (r ∷ upto n rs) → NotLower pr n (getD (r ∷ upto n rs) i NoTask)
+        later e zero h l = absurd (omega arith)
+        later e (suc zero) h l = then-first (Second m) rs a (le-of-suc-le-suc l) e
+        later e (suc (suc i)) h l = then-at (Second m) rs a i (le-of-suc-le-suc l)
 
     waits-none-open : (m : Bool) (rs : List MaybeTask) → Then pr n (λ r. Unit {0}) rs → Waits n m NoneOpen rs
-    waits-none-open m rs a = record { third = third; second = λ e l. not-lower (getD (upto n rs) 1 NoTask) (then-at (λ r. Unit {0}) rs a 0 l) }
+    waits-none-open m rs a = record { third = λ i h. from i (omega arith); later = λ e i h. from i h }
       where
-        third : (i : ℕ) → 2 ≤ i → i < length (upto n rs) → NotLower pr n (getD (upto n rs) i NoTask)
-        third zero h l = absurd (omega arith)
-        third (suc i) h l = then-at (λ r. Unit {0}) rs a i l
+        from : (i : ℕ) → 1 ≤ i → i < length (upto n rs) → NotLower pr n (getD (upto n rs) i NoTask)
+        from zero h l = absurd (omega arith)
+        from (suc i) h l = then-at (λ r. Unit {0}) rs a i l
 
     -- ---- the releases of an instant
 
     module _ (small : n < 32) where
-      -- a marked release, where the engine had finished no copy-in
+      -- a marked release
       not-outranked : (d : State) (new c : ℕ) (q : MaybeTask) → member n new ≡ true → member n (d .marked) ≡ true
           → Best (d .table .priority) (intersection new (d .marked)) q → outranks d c q ≡ false → getD (d .table .priority) c 0 ≤ getD (d .table .priority) n 0
       not-outranked d new c NoTask h m b e = clash (member n (intersection new (d .marked))) (intersection-in new (d .marked) n small h m) (b n small)
@@ -192,9 +164,9 @@ module _ (pr : List ℕ) where
           omega (arith, b .2 n small (intersection-in new (d .marked) n small h m), ltb-false (getD (d .table .priority) q 0) (getD (d .table .priority) c 0) e)
 
       d-marked : (d : State) (new : ℕ) (i : Interval) (c : CopyIn) → i .copyin ≡ c → d .phase ≡ Within i → d .table .priority ≡ pr → NewIn d new i
-          → member n new ≡ true → member n (d .marked) ≡ true → finished-of c ≡ NoTask → Old pr n (cancel-by d new i c)
+          → member n new ≡ true → member n (d .marked) ≡ true → Old pr n (cancel-by d new i c)
       unfolding cancel-by cancel
-      d-marked d new i c s e t f h m x = go c s x
+      d-marked d new i c s e t f h m = go c s
         where
           r : member n (d .jobs .ready) ≡ true
           r = f .ready n small h
@@ -205,21 +177,20 @@ module _ (pr : List ℕ) where
           stays : Bound pr n (d .jobs .ready) (i .candidates) (i .copyin) → Old pr n d
           stays b = record { table = t; ready = λ y. r; fate = subst (Fate pr n (Bound pr n) (NotLower pr n) (d .jobs .ready)) (sym e) b }
 
-          go : (c : CopyIn) → i .copyin ≡ c → finished-of c ≡ NoTask → Old pr n (cancel-by d new i c)
-          go Unchosen s x = stays (rw s tt)
-          go NoneChosen s x = stays (rw s (rival (d .jobs .ready) r))
-          go (Copying c until) s x =
+          -- what the engine holds gives way, or it is not lower
+          held : (c fate : ℕ) → (getD pr c 0 ≤ getD pr n 0 → Bound pr n (d .jobs .ready) (i .candidates) (i .copyin))
+              → Old pr n (cancel d i c fate (outranks d c (highest-of d (intersection new (d .marked)))))
+          held c fate k =
               by-test (outranks d c (highest-of d (intersection new (d .marked))))
               (λ b. rw b (record { table = t; ready = λ y. insert-other c (d .jobs .ready) n small r; fate = rival (insert c (d .jobs .ready)) (insert-other c (d .jobs .ready) n small r) }))
-              (λ b. rw b (stays (rw s (rw t at (not-outranked d new c (highest-of d (intersection new (d .marked))) h m (best-of d (intersection new (d .marked))) b)))))
-          go (Loaded c) s x = absurd (let z : _≡_ {A = ℕ} 0 1 = cc in omega arith)
-          go (Cancelled c) s x = stays (rw s (rival (d .jobs .ready) r))
+              (λ b. rw b (stays (k (rw t at (not-outranked d new c (highest-of d (intersection new (d .marked))) h m (best-of d (intersection new (d .marked))) b)))))
 
-      d-marked-at : (d : State) (new : ℕ) (p : Phase) → d .phase ≡ p → d .table .priority ≡ pr → NewAt d new p
-          → member n new ≡ true → member n (d .marked) ≡ true → Bare p → Old pr n (step-d d new p)
-      unfolding step-d
-      d-marked-at d new (Between next outgoing) e t f h m x = absurd x
-      d-marked-at d new (Within i) e t f h m x = d-marked d new i (i .copyin) refl e t f h m x
+          go : (c : CopyIn) → i .copyin ≡ c → Old pr n (cancel-by d new i c)
+          go Unchosen s = stays (rw s tt)
+          go NoneChosen s = stays (rw s (rival (d .jobs .ready) r))
+          go (Copying c until) s = held c 2 (λ l. rw s l)
+          go (Loaded c) s = held c 3 (λ l. rw s l)
+          go (Cancelled c fate) s = stays (rw s (rival (d .jobs .ready) r))
 
       module _ (d : State) (t set : ℕ) (cs : List Call) (tab : d .table .priority ≡ pr) (taken : member n (new-at d t set) ≡ true) where
         c : State
@@ -233,6 +204,25 @@ module _ (pr : List ℕ) where
         unfolding c step-c
         ready-c = union-right (at-b d t .state .jobs .ready) (new-at d t set) n small taken
 
+        marked-c : member n (d .marked) ≡ true → member n (c .marked) ≡ true
+        unfolding c step-c
+        marked-c m = ap (member n) (marked-b d t) ∙ m
+
+        -- the open interval, with its new candidates
+        with-new : Interval → Interval
+        with-new i = record {
+          begin = i .begin;
+          work = i .work;
+          processor = i .processor;
+          copyout = i .copyout;
+          copyin = i .copyin;
+          candidates = union (i .candidates) (intersection (new-at d t set) (at-b d t .state .marked));
+        }
+
+        within-c : (i : Interval) → at-b d t .state .phase ≡ Within i → c .phase ≡ Within (with-new i)
+        unfolding c step-c with-candidates with-new
+        within-c i e = ap (with-candidates (at-b d t .state) (new-at d t set)) e
+
         -- what is to come after step e
         soon-later : (F : ℕ → ℕ → CopyIn → Type 0) (Q : MaybeTask → Type 0) → Rule pr n F Q → Waiting pr n F Q (at-e d t set)
             → Then pr n Q (intervals (tail-of d t set ++ history (at-g d t set) cs))
@@ -240,44 +230,38 @@ module _ (pr : List ℕ) where
             rw (tail-intervals d t set (history (at-g d t set) cs))
             (to-come pr n F Q rule small d t set (history (at-g d t set) cs) h (soon pr n small F Q rule (at-g d t set) cs) (ahead pr n small (at-g d t set) cs))
 
-        soon-c : (Q : MaybeTask → Type 0) (p : Phase) → at-b d t .state .phase ≡ p → Fate pr n (Any pr n Q) Q (c .jobs .ready) (with-candidates (at-b d t .state) (new-at d t set) p)
-            → Then pr n Q (intervals (tail-of d t set ++ history (at-g d t set) cs))
-        unfolding c step-c
-        soon-c Q p e h =
-            soon-later (Any pr n Q) Q (rule-any pr n Q)
-            (from-c pr n (Any pr n Q) Q (rule-any pr n Q) small d t set
-            (record { table = tab-c; ready = λ y. ready-c; fate = subst (λ (x : Phase). Fate pr n (Any pr n Q) Q (c .jobs .ready) (with-candidates (at-b d t .state) (new-at d t set) x)) (sym e) h }))
+        none-shown : (ready : ℕ) (p : Phase) → Fate pr n (λ ready candidates c. Unit {0}) (λ r. Unit {0}) ready p
+        none-shown ready (Between next outgoing) = tt
+        none-shown ready (Within i) = tt
 
-        old-c : member n (d .marked) ≡ true → Bare (at-b d t .state .phase) → Old pr n (at-e d t set)
-        unfolding at-e c step-c
-        old-c m x =
-            e-waiting pr n (Bound pr n) (NotLower pr n) (rule-old pr n small) small t (step-d c (new-at d t set) (c .phase))
-            (d-marked-at c (new-at d t set) (c .phase) refl tab-c (c-new (at-b d t .state) t (new-at d t set))
-            taken (ap (member n) (marked-b d t) ∙ m) (candidates-bare (at-b d t .state) (new-at d t set) (at-b d t .state .phase) x))
+        any-later : Then pr n (λ r. Unit {0}) (intervals (tail-of d t set ++ history (at-g d t set) cs))
+        unfolding c
+        any-later =
+            soon-later (λ ready candidates c. Unit {0}) (λ r. Unit {0}) (rule-none pr n)
+            (from-c pr n (λ ready candidates c. Unit {0}) (λ r. Unit {0}) (rule-none pr n) small d t set
+            (record { table = tab-c; ready = λ y. ready-c; fate = none-shown (c .jobs .ready) (c .phase) }))
 
-        bare : (i : Interval) → at-b d t .state .phase ≡ Within i → (k : CopyIn) → i .copyin ≡ k → member n (d .marked) ≡ true → finished-of k ≡ NoTask
-            → Then pr n (Second true (finished-of k)) (intervals (tail-of d t set ++ history (at-g d t set) cs))
-        bare i e k s m x =
-            then-map (NotLower pr n) (Second true (finished-of k)) (λ r h y. rw x (not-lower r h)) (intervals (tail-of d t set ++ history (at-g d t set) cs))
-            (soon-later (Bound pr n) (NotLower pr n) (rule-old pr n small) (old-c m (rw e (rw s x))))
+        -- a marked one in an open interval is to be waited for by none that is lower
+        old-c : member n (d .marked) ≡ true → (i : Interval) → c .phase ≡ Within i → Old pr n (at-e d t set)
+        unfolding at-e c
+        old-c m i e =
+            let new : ℕ = new-at d t set in
+            e-waiting pr n (Bound pr n) (NotLower pr n) (rule-old pr n small) small t (step-d c new (c .phase))
+            (subst (λ (p : Phase). Old pr n (step-d c new p)) (sym e)
+            (unfold step-d in d-marked c new i (i .copyin) refl e tab-c (subst (NewAt c new) e (c-new (at-b d t .state) t new)) taken (marked-c m)))
 
-        amid : (i : Interval) → at-b d t .state .phase ≡ Within i → (k : CopyIn) → i .copyin ≡ k → (m : Bool) → member n (d .marked) ≡ m
-            → Then pr n (Second m (finished-of k)) (intervals (tail-of d t set ++ history (at-g d t set) cs))
-        unfolding with-candidates
-        amid i e k s false m = soon-c (Second false (finished-of k)) (Within i) e (any (Second false (finished-of k)) (λ r x. absurd (false≢true x)) (c .jobs .ready) (union (i .candidates) (intersection (new-at d t set) (at-b d t .state .marked))) (i .copyin))
-        amid i e (Loaded l) s true m = soon-c (Second true (Task l)) (Within i) e (rw s (λ x. (λ y. y, λ y. y)))
-        amid i e Unchosen s true m = bare i e Unchosen s m refl
-        amid i e NoneChosen s true m = bare i e NoneChosen s m refl
-        amid i e (Copying l until) s true m = bare i e (Copying l until) s m refl
-        amid i e (Cancelled l) s true m = bare i e (Cancelled l) s m refl
+        amid : (i : Interval) → c .phase ≡ Within i → (m : Bool) → member n (d .marked) ≡ m
+            → Then pr n (Second m) (intervals (tail-of d t set ++ history (at-g d t set) cs))
+        amid i e false m = then-map (λ r. Unit {0}) (Second false) (λ r h x. absurd (false≢true x)) (intervals (tail-of d t set ++ history (at-g d t set) cs)) any-later
+        amid i e true m =
+            then-map (NotLower pr n) (Second true) (λ r h x. h) (intervals (tail-of d t set ++ history (at-g d t set) cs))
+            (soon-later (Bound pr n) (NotLower pr n) (rule-old pr n small) (old-c m i e))
 
         pub released : (p : Phase) → at-b d t .state .phase ≡ p → Waits n (member n (d .marked)) (situation-of p) (intervals (tail-of d t set ++ history (at-g d t set) cs))
-        unfolding with-candidates
-        released (Between next outgoing) e =
-            waits-none-open (member n (d .marked)) (intervals (tail-of d t set ++ history (at-g d t set) cs)) (soon-c (λ r. Unit {0}) (Between next outgoing) e tt)
+        released (Between next outgoing) e = waits-none-open (member n (d .marked)) (intervals (tail-of d t set ++ history (at-g d t set) cs)) any-later
         released (Within i) e =
-            waits-open (member n (d .marked)) (processor-task (i .processor)) (finished-of (i .copyin)) (intervals (tail-of d t set ++ history (at-g d t set) cs))
-            (amid i e (i .copyin) refl (member n (d .marked)) refl)
+            waits-open (member n (d .marked)) (processor-task (i .processor)) (intervals (tail-of d t set ++ history (at-g d t set) cs))
+            (amid (with-new i) (within-c i e) (member n (d .marked)) refl)
 
   -- ---- a release that comes while no interval is open
 
@@ -317,6 +301,7 @@ module _ (pr : List ℕ) where
     begins-at-once d t set h m (Within i) e x = absurd (let z : _≡_ {A = ℕ} 0 1 = cc in omega arith)
     begins-at-once d t set h m (Between next outgoing) e x =
         ap begin-tick (tail-parts d t set h)
+        ∙ ap (λ (y : List Event). begin-tick (y ++ (end-events t (at-e d t set .phase) (f .phase) ++ (begin-events t (f .phase) (at-g d t set .phase) ++ rest)))) none-gives
         ∙ ap (λ (y : List Event). begin-tick (y ++ (begin-events t (f .phase) (at-g d t set .phase) ++ rest))) none-ends
         ∙ (unfold at-g in subst (λ (p : Phase). begin-tick (begin-events t p (step-g f t (held-at d t set) p .phase) ++ rest) ≡ Tick t) (sym shut-f)
         (begins-so f t (held-at d t set) next outgoing rest ready-f))
@@ -348,28 +333,18 @@ module _ (pr : List ℕ) where
         ready-f : Ready f
         ready-f = ap (λ (x : State). member n (x .jobs .ready)) (left-so .0) ∙ (unfold step-c in union-right (b .jobs .ready) new n small m)
 
+        none-gives : giving-events-in (b .phase) (at-e d t set .phase) ≡ []
+        none-gives = unfold giving-events-in in ap (λ (p : Phase). giving-events-in p (at-e d t set .phase)) e
+
         none-ends : end-events t (at-e d t set .phase) (f .phase) ≡ []
         none-ends = unfold end-events in ap (λ (p : Phase). end-events t p (f .phase)) (left-so .1)
 
   -- ---- along an instant
 
-  kept-finishes : (d : State) (t : ℕ) (p : Phase) (ys : List Event) → d .phase ≡ p → Kept (situation-of (step-a d t p .state .phase)) ys → Kept (situation-of p) (finish-events-in t p ++ ys)
-  unfolding step-a ended finish-events-in finish-events Kept
-  kept-finishes d t (Between next outgoing) ys e k = subst (λ (x : Phase). Kept (situation-of x) ys) e k
-  kept-finishes d t (Within i) ys e k =
-      go (i .copyin) (subst (λ (r : MaybeTask). Kept (Open r (finished-of (copyin-at t (i .copyin)))) ys) (processor-task-same (d .table) t (i .processor)) k)
-    where
-      go : (c : CopyIn) → Kept (Open (processor-task (i .processor)) (finished-of (copyin-at t c))) ys → Kept (Open (processor-task (i .processor)) (finished-of c)) (finish-events t c ++ ys)
-      go Unchosen k = k
-      go NoneChosen k = k
-      go (Copying n until) k = go-copying (eqb until t) k
-        where
-          go-copying : (b : Bool) → Kept (Open (processor-task (i .processor)) (finished-of (cond b (Loaded n) (Copying n until)))) ys
-              → Kept (Open (processor-task (i .processor)) NoTask) (cond b (Finishes n ∷ []) [] ++ ys)
-          go-copying true k = k
-          go-copying false k = k
-      go (Loaded n) k = k
-      go (Cancelled n) k = k
+  a-situation : (d : State) (t : ℕ) (p : Phase) → d .phase ≡ p → situation-of (step-a d t p .state .phase) ≡ situation-of p
+  unfolding step-a ended
+  a-situation d t (Between next outgoing) e = ap situation-of e
+  a-situation d t (Within i) e = ap Open (processor-task-same (d .table) t (i .processor))
 
   kept-stays : (t : ℕ) (i : Interval) (q : Phase) (ys : List Event) → q ≡ Within i → Kept (situation-of q) ys → Kept (situation-of (Within i)) (end-events t (Within i) q ++ ys)
   unfolding end-events
@@ -385,13 +360,11 @@ module _ (pr : List ℕ) where
       go true k = k
       go false k = kept-stays t i (s .state .phase) ys e k
 
-  kept-opens : (t : ℕ) (next : Next) (outgoing : Outgoing) (q : Phase) (r : MaybeTask) (ys : List Event) → situation-of q ≡ Open r NoTask → Kept (situation-of q) ys
+  kept-opens : (t : ℕ) (next : Next) (outgoing : Outgoing) (q : Phase) (ys : List Event) → Kept (situation-of q) ys
       → Kept NoneOpen (begin-events t (Between next outgoing) q ++ ys)
   unfolding begin-events Kept
-  kept-opens t next outgoing (Between x y) r ys e k = k
-  kept-opens t next outgoing (Within j) r ys e k =
-      let z : finished-of (j .copyin) ≡ NoTask = cc in
-      subst (λ (f : MaybeTask). Kept (Open (processor-task (j .processor)) f) ys) z k
+  kept-opens t next outgoing (Between x y) ys k = k
+  kept-opens t next outgoing (Within j) ys k = k
 
   kept-shut : (t : ℕ) (next : Next) (outgoing : Outgoing) (q : Phase) (ys : List Event) → q ≡ Between next outgoing → Kept (situation-of q) ys
       → Kept NoneOpen (begin-events t (Between next outgoing) q ++ ys)
@@ -408,7 +381,7 @@ module _ (pr : List ℕ) where
       b = begin f t new next outgoing
 
       go : (w : Bool) → Kept (situation-of (cond w (step-e b t (b .phase)) f .phase)) ys → Kept NoneOpen (begin-events t (Between next outgoing) (cond w (step-e b t (b .phase)) f .phase) ++ ys)
-      go true k = kept-opens t next outgoing (step-e b t (b .phase) .phase) (processor-task (begin-processor (f .table) t next)) ys (begin-situation f t new next outgoing) k
+      go true k = kept-opens t next outgoing (step-e b t (b .phase) .phase) ys k
       go false k = kept-shut t next outgoing (f .phase) ys e k
 
   kept-takes : (new marked t : ℕ) (s : Situation) (ys : List Event)
@@ -428,8 +401,9 @@ module _ (pr : List ℕ) where
       let e : List Event = end-events t (a .state .phase) (at-b d t .state .phase) in
       rw (front-parts d t ys)
       (by-processor (Kept (situation-of (d .phase))) (λ n u es k. k) (λ n u es k. k) t (d .phase) (finish-events-in t (d .phase) ++ (completion-events (a .done) ++ (e ++ ys)))
-      (kept-finishes (at-clock d t) t (d .phase) (completion-events (a .done) ++ (e ++ ys)) refl
-      (by-completes (Kept (situation-of (a .state .phase))) (λ n t es k. k) (a .done) (e ++ ys) (kept-ends a t (a .state .phase) ys refl k))))
+      (by-finishes (Kept (situation-of (d .phase))) (λ n es k. k) t (d .phase) (completion-events (a .done) ++ (e ++ ys))
+      (by-completes (Kept (situation-of (d .phase))) (λ n t es k. k) (a .done) (e ++ ys)
+      (subst (λ (s : Situation). Kept s (e ++ ys)) (a-situation (at-clock d t) t (d .phase) refl) (kept-ends a t (a .state .phase) ys refl k)))))
 
   kept-tail : (d : State) (t set : ℕ) (ys : List Event) → Kept (situation-of (at-g d t set .phase)) ys → Kept (situation-of (at-e d t set .phase)) (tail-of d t set ++ ys)
   unfolding at-f at-g Kept
@@ -437,10 +411,12 @@ module _ (pr : List ℕ) where
       let e : State = at-e d t set in
       let f : State = at-f d t set .state in
       let z : List Event = start-events t (f .phase) (at-g d t set .phase) ++ ys in
+      let y : List Event = begin-events t (f .phase) (at-g d t set .phase) ++ z in
       rw (tail-parts d t set ys)
-      (kept-ends (fresh-stage e) t (e .phase) (begin-events t (f .phase) (at-g d t set .phase) ++ z) refl
+      (by-gives (Kept (situation-of (e .phase))) (λ n es k. k) (at-b d t .state .phase) (e .phase) (end-events t (e .phase) (f .phase) ++ y)
+      (kept-ends (fresh-stage e) t (e .phase) y refl
       (kept-begins f t (held-at d t set) (f .phase) z refl
-      (by-starts (Kept (situation-of (at-g d t set .phase))) t (λ n es k. k) (f .phase) (at-g d t set .phase) ys k)))
+      (by-starts (Kept (situation-of (at-g d t set .phase))) t (λ n es k. k) (f .phase) (at-g d t set .phase) ys k))))
 
   kept-instant : (d : State) (t set : ℕ) (cs : List Call) → d .table .priority ≡ pr
       → Kept (situation-of (at-g d t set .phase)) (history (at-g d t set) cs) → Kept (situation-of (d .phase)) (happens d t set ++ history (at-g d t set) cs)

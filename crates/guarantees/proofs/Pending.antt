@@ -9,17 +9,18 @@ use Rattle.sets.proofs.Laws.{by-test, united, removed}
 use Rattle.rules.specs.With.{at-clock}
 use Rattle.rules.specs.Order.{highest-of}
 use Rattle.rules.specs.Instant.{step-a, step-b, step-c, step-d, step-e, step-g, close, cancel, choose, begin, without-done, after-done, at-a, at-b, at-e, at-f, at-g, new-at, fresh-stage}
-use Rattle.guarantees.specs.History.{Event, Starts, Stops, Comes, Finishes, Completes, Ends, Takes, Begins, history, after-calls, happens, processor-events-in, finish-events-in, completion-events, end-events, take-events, begin-events, start-events}
+use Rattle.guarantees.specs.History.{Event, Starts, Stops, Comes, Finishes, Completes, Ends, Takes, GivesWay, Begins, history, after-calls, happens, processor-events-in, finish-events-in, completion-events, end-events, take-events, begin-events, start-events}
 use Rattle.guarantees.specs.Queries.{completion, first}
 use Rattle.guarantees.proofs.Walk.{walk-to}
 use Rattle.guarantees.proofs.Cases.{held-at, b-cases, d-cases, e-cases, g-cases}
-use Rattle.guarantees.proofs.Events.{by-processor, by-finishes, by-ends, by-takes, by-begins, by-starts, tail-of, happens-parts, front-parts, tail-parts}
+use Rattle.guarantees.proofs.Events.{by-processor, by-finishes, by-gives, by-ends, by-takes, by-begins, by-starts, tail-of, happens-parts, front-parts, tail-parts}
 
 -- ---- by the history
 
 abbrev pub pending-by : ℕ → Bool → Event → Bool
 pending-by n b (Comes t) = b
 pending-by n b (Finishes k) = b
+pending-by n b (GivesWay k) = b
 pending-by n b (Starts k v) = b
 pending-by n b (Stops k v) = b
 pending-by n b (Completes k t) = cond (eqb n k) false b
@@ -38,6 +39,7 @@ unfolding pending-in first
 has-completed n [] h = absurd (true≢false h)
 has-completed n (Comes t ∷ es) h = has-completed n es h
 has-completed n (Finishes k ∷ es) h = has-completed n es h
+has-completed n (GivesWay k ∷ es) h = has-completed n es h
 has-completed n (Starts k v ∷ es) h = has-completed n es h
 has-completed n (Stops k v ∷ es) h = has-completed n es h
 has-completed n (Completes k t ∷ es) h =
@@ -65,9 +67,10 @@ module _ (n : ℕ) where
       let x : List Event = begin-events t (at-f d t set .state .phase) (at-g d t set .phase) in
       let y : List Event = start-events t (at-f d t set .state .phase) (at-g d t set .phase) ++ ys in
       ap (pending-in n b) (tail-parts d t set ys)
-      ∙ by-ends (As b ys) t (λ es e. e) (at-e d t set .phase) (at-f d t set .state .phase) (x ++ y)
+      ∙ by-gives (As b ys) (λ k es e. e) (at-b d t .state .phase) (at-e d t set .phase) (end-events t (at-e d t set .phase) (at-f d t set .state .phase) ++ (x ++ y))
+      (by-ends (As b ys) t (λ es e. e) (at-e d t set .phase) (at-f d t set .state .phase) (x ++ y)
       (by-begins (As b ys) t (λ r l es e. e) (at-f d t set .state .phase) (at-g d t set .phase) y
-      (by-starts (As b ys) t (λ k es e. e) (at-f d t set .state .phase) (at-g d t set .phase) ys refl))
+      (by-starts (As b ys) t (λ k es e. e) (at-f d t set .state .phase) (at-g d t set .phase) ys refl)))
 
   module _ (small : n < 32) where
     completes-pending : (s : ℕ) (o : Done) (ys : List Event) → pending-in n (member n s) (completion-events o ++ ys) ≡ pending-in n (member n (after-done s o)) ys

@@ -13,7 +13,7 @@ use Rattle.rules.specs.With.{at-clock}
 use Rattle.rules.specs.Order.{highest-of}
 use Rattle.guarantees.specs.History.{completion-events}
 use Rattle.guarantees.proofs.Steps.{Sub, best-of, settles}
-use Rattle.guarantees.proofs.Cases.{held-at, d-cases, e-cases, copyin-cases, processor-cases}
+use Rattle.guarantees.proofs.Cases.{held-at, Held, d-cases, e-cases, copyin-cases, processor-cases}
 use Rattle.guarantees.specs.States.{Known, copyin-known, processor-known, copyout-known, next-known, outgoing-known, phase-known}
 
 -- ---- where a task's job is
@@ -23,7 +23,7 @@ copyin-bit k Unchosen = 0
 copyin-bit k NoneChosen = 0
 copyin-bit k (Copying n until) = bit (eqb k n)
 copyin-bit k (Loaded n) = bit (eqb k n)
-copyin-bit k (Cancelled n) = 0
+copyin-bit k (Cancelled n fate) = 0
 
 abbrev pub processor-bit : ℕ → Processor → ℕ
 processor-bit k Idle = 0
@@ -197,9 +197,9 @@ module _ (present : ℕ) (tasks : present < 2 ^ 32) where
         parts = λ k l. omega (arith, chosen-bit (d .jobs .ready) q k l m);
       }
 
-  next-same : (c : ℕ) (q : MaybeTask) → next-of (Cancelled c) q ≡ next-of NoneChosen q
-  next-same c NoTask = refl
-  next-same c (Task q) = refl
+  next-same : (c fate : ℕ) (q : MaybeTask) → next-of (Cancelled c fate) q ≡ next-of NoneChosen q
+  next-same c fate NoTask = refl
+  next-same c fate (Task q) = refl
 
   b-handed-on : (d : State) (i : Interval) (c : CopyIn) → settled c ≡ true → Sub (d .jobs .ready) present → copyin-known present c
       → HandedOn d c (without-promoted (d .jobs .ready) (promoted d i c)) (next-of c (promoted d i c))
@@ -210,11 +210,11 @@ module _ (present : ℕ) (tasks : present < 2 ^ 32) where
       promote d (d .table .priority) x (highest-of d x) h (best-of d x) (λ k l m. intersection-right (i .candidates) (d .jobs .ready) k m)
   b-handed-on d i (Copying c until) s h n = absurd (false≢true s)
   b-handed-on d i (Loaded c) s h n = record { ready-known = h; known = n; parts = λ k l. refl }
-  b-handed-on d i (Cancelled c) s h n =
+  b-handed-on d i (Cancelled c fate) s h n =
       let x : ℕ = intersection (i .candidates) (d .jobs .ready) in
       let y : HandedOn d NoneChosen (without-promoted (d .jobs .ready) (highest-of d x)) (next-of NoneChosen (highest-of d x)) =
       promote d (d .table .priority) x (highest-of d x) h (best-of d x) (λ k l m. intersection-right (i .candidates) (d .jobs .ready) k m) in
-      subst (λ (z : Next). HandedOn d (Cancelled c) (without-promoted (d .jobs .ready) (highest-of d x)) z) (sym (next-same c (highest-of d x)))
+      subst (λ (z : Next). HandedOn d (Cancelled c fate) (without-promoted (d .jobs .ready) (highest-of d x)) z) (sym (next-same c fate (highest-of d x)))
       (record { ready-known = y .ready-known; known = y .known; parts = y .parts })
 
   pub b-moves : (s : Stage) (t : ℕ) (p : Phase) → s .state .phase ≡ p → Parted (s .state) p → Moves (s .state) p (step-b s t p .state) (step-b s t p .state .phase) 0 0
@@ -286,10 +286,16 @@ module _ (present : ℕ) (tasks : present < 2 ^ 32) where
   cancel-bit true p false s h = omega arith
   cancel-bit false p r s h = omega arith
 
-  d-cancel : (d : State) (i : Interval) (c until : ℕ) → i .copyin ≡ Copying c until → Parted d (Within i) → Moves d (Within i) (cancel d i c true) (cancel d i c true .phase) 0 0
+  held-known : (k : CopyIn) (c : ℕ) → Held k c → copyin-known present k → Known present c
+  held-known k c s n = ⊎-elim (λ x. subst (copyin-known present) (x .1) n) (λ x. subst (copyin-known present) x n) s
+
+  held-bit : (j : ℕ) (k : CopyIn) (c : ℕ) → Held k c → copyin-bit j k ≡ bit (eqb j c)
+  held-bit j k c s = ⊎-elim (λ x. ap (copyin-bit j) (x .1)) (λ x. ap (copyin-bit j) x) s
+
+  d-cancel : (d : State) (i : Interval) (c fate : ℕ) → Held (i .copyin) c → Parted d (Within i) → Moves d (Within i) (cancel d i c fate true) (cancel d i c fate true .phase) 0 0
   unfolding cancel
-  d-cancel d i c until s h =
-      let n : Known present c = subst (copyin-known present) s (h .known .0) in
+  d-cancel d i c fate s h =
+      let n : Known present c = held-known (i .copyin) c s (h .known .0) in
       record {
         parted = record {
           few = h .few;
@@ -299,7 +305,7 @@ module _ (present : ℕ) (tasks : present < 2 ^ 32) where
           known = (n, h .known .1, h .known .2, h .known .3);
           parts = λ k l.
               let z : bit (member k (d .jobs .pending)) ≡ bit (member k (d .jobs .ready)) + (bit (eqb k c) + processor-bit k (i .processor) + copyout-bit k (i .copyout)) =
-              subst (λ (y : CopyIn). bit (member k (d .jobs .pending)) ≡ bit (member k (d .jobs .ready)) + (copyin-bit k y + processor-bit k (i .processor) + copyout-bit k (i .copyout))) s (h .parts k l) in
+              omega (arith, h .parts k l, held-bit k (i .copyin) c s) in
               rw (inserted c (d .jobs .ready) k l)
               (omega (arith, cancel-bit (eqb k c) (member k (d .jobs .pending)) (member k (d .jobs .ready)) (processor-bit k (i .processor) + copyout-bit k (i .copyout)) (omega arith)));
         };
@@ -309,7 +315,7 @@ module _ (present : ℕ) (tasks : present < 2 ^ 32) where
   pub d-moves : (d : State) (new : ℕ) → Parted d (d .phase) → Moves d (d .phase) (step-d d new (d .phase)) (step-d d new (d .phase) .phase) 0 0
   d-moves d new h =
       d-cases (λ x. Moves d (d .phase) x (x .phase) 0 0) d new (record { parted = h; sizes = refl })
-      (λ i c u e s b. subst (λ (p : Phase). Moves d p (cancel d i c true) (cancel d i c true .phase) 0 0) (sym e) (d-cancel d i c u s (subst (Parted d) e h)))
+      (λ i c fate e s b. subst (λ (p : Phase). Moves d p (cancel d i c fate true) (cancel d i c fate true .phase) 0 0) (sym e) (d-cancel d i c fate s (subst (Parted d) e h)))
 
   -- e
   choose-moves : (d : State) (t : ℕ) (i : Interval) (q : MaybeTask) → i .copyin ≡ Unchosen → Parted d (Within i) → Best (d .table .priority) (d .jobs .ready) q

@@ -6,7 +6,7 @@ use native.Mathlib.Omega.{arith}
 use native.Mathlib.Nat.{add-zero}
 use borrow.Author.Tests.{eq-eqb, le-leb, lt-leb}
 use lib.Dec.{eqb}
-use Rattle.guarantees.specs.History.{Event, Comes, Starts, Stops, Finishes, Completes, Ends, Takes, Begins}
+use Rattle.guarantees.specs.History.{Event, Comes, Starts, Stops, Finishes, Completes, Ends, Takes, GivesWay, Begins}
 use Rattle.guarantees.specs.Queries.{is-task, start, stop, last-instant, Latest, none-yet, latest-by, latest, loaded, Execution, not-yet, execution-by, execution, after, first}
 use Rattle.guarantees.specs.Claim.{if-reached, Executed}
 
@@ -76,6 +76,7 @@ module _ (columns : List ℕ) where
   Working now s l (Starts n t ∷ es) = may-start now s n t × Working now (started-to t s) l es
   Working now s l (Stops n t ∷ es) = may-stop now s n t × Working now (stopped-to s) l es
   Working now s l (Finishes n ∷ es) = Working now s (Task n) es
+  Working now s l (GivesWay n ∷ es) = Working now s NoTask es
   Working now s l (Completes n t ∷ es) = Working now s l es
   Working now s l (Ends t ∷ es) = may-shut s × Working now Shut l es
   Working now s l (Takes n t m ∷ es) = Working now s l es
@@ -91,6 +92,7 @@ module _ (columns : List ℕ) where
   onward (Starts n t ∷ es) now s l h = onward es now (started-to columns t s) l (h .1)
   onward (Stops n t ∷ es) now s l h = onward es now (stopped-to s) l (h .1)
   onward (Finishes n ∷ es) now s l h = onward es now s (Task n) h
+  onward (GivesWay n ∷ es) now s l h = onward es now s NoTask h
   onward (Completes n t ∷ es) now s l h = onward es now s l h
   onward (Ends t ∷ es) now s l h = onward es now Shut l (h .1)
   onward (Takes n t m ∷ es) now s l h = onward es now s l h
@@ -107,6 +109,7 @@ module _ (columns : List ℕ) where
         let x : u ≤ last-instant now es = omega (arith, h .0 .1, h .0 .2, onward es now (Rests (Task n)) l (h .1)) in
         rw (eq-eqb n k (sym (h .0 .0)), le-leb u (last-instant now es) x) (ap Tick (h .0 .1))
     running (Finishes k ∷ es) now u l h = running es now u (Task k) h
+    running (GivesWay k ∷ es) now u l h = running es now u NoTask h
     running (Completes k t ∷ es) now u l h = running es now u l h
     running (Ends t ∷ es) now u l h = absurd (h .0)
     running (Takes k t m ∷ es) now u l h = running es now u l h
@@ -133,6 +136,7 @@ module _ (columns : List ℕ) where
         }
     starting (Stops k t ∷ es) now u l h = absurd (h .0)
     starting (Finishes k ∷ es) now u l h = let x : Starting u now es = starting es now u (Task k) h in record { starts = x .starts; stops = x .stops }
+    starting (GivesWay k ∷ es) now u l h = let x : Starting u now es = starting es now u NoTask h in record { starts = x .starts; stops = x .stops }
     starting (Completes k t ∷ es) now u l h = let x : Starting u now es = starting es now u l h in record { starts = x .starts; stops = x .stops }
     starting (Ends t ∷ es) now u l h = absurd (h .0)
     starting (Takes k t m ∷ es) now u l h = let x : Starting u now es = starting es now u l h in record { starts = x .starts; stops = x .stops }
@@ -164,6 +168,7 @@ module _ (columns : List ℕ) where
     split (Starts k u ∷ es) after t now o s l h = split es after t now o (started-to columns u s) l (h .1)
     split (Stops k u ∷ es) after t now o s l h = split es after t now o (stopped-to s) l (h .1)
     split (Finishes k ∷ es) after t now o s l h = split es after t now o s (Task k) h
+    split (GivesWay k ∷ es) after t now o s l h = split es after t now o s NoTask h
     split (Completes k u ∷ es) after t now o s l h = split es after t now o s l h
     split (Ends u ∷ es) after t now o s l h = split es after t now o Shut l (h .1)
     split (Takes k u m ∷ es) after t now o s l h = split es after t now o s l h
@@ -218,6 +223,7 @@ module _ (columns : List ℕ) where
   meets (Starts k t ∷ es) e after now s l x y h a = meets es e after now (started-to columns t s) l x (execution-by y (Starts k t)) (h .1) (agrees-started now k t s x y (h .0) a)
   meets (Stops k t ∷ es) e after now s l x y h a = meets es e after now (stopped-to s) l x (execution-by y (Stops k t)) (h .1) (agrees-stopped now k t s x y (h .0) a)
   meets (Finishes k ∷ es) e after now s l x y h a = meets es e after now s (Task k) x y h a
+  meets (GivesWay k ∷ es) e after now s l x y h a = meets es e after now s NoTask x y h a
   meets (Completes k t ∷ es) e after now s l x y h a = meets es e after now s l x y h a
   meets (Ends t ∷ es) e after now s l x y h a = meets es e after now Shut l (latest-by x (Ends t)) y (h .1) tt
   meets (Takes k t m ∷ es) e after now s l x y h a = meets es e after now s l x y h a

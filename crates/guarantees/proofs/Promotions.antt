@@ -10,7 +10,7 @@ use Rattle.rules.specs.With.{at-clock}
 use Rattle.rules.specs.Order.{highest-of}
 use Rattle.rules.specs.Calls.{opened}
 use Rattle.rules.specs.Instant.{step-a, step-b, step-c, step-d, step-e, step-g, close, close-stage, over, promoted, next-of, held-over, with-candidates, cancel, choose, begin, begin-processor, wanted, taken, ended, without-done, copyin-at, processor-task, copyout-task, at-a, at-b, at-e, at-f, at-g, new-at, fresh-stage}
-use Rattle.guarantees.specs.History.{Event, Comes, Starts, Stops, Finishes, Completes, Ends, Takes, Begins, history, happens, finish-events, finish-events-in, completion-events, end-events, take-events, begin-events, start-events}
+use Rattle.guarantees.specs.History.{Event, Comes, Starts, Stops, Finishes, Completes, Ends, Takes, GivesWay, Begins, history, happens, finish-events, finish-events-in, completion-events, end-events, take-events, giving-events-in, begin-events, start-events}
 use Rattle.guarantees.specs.Queries.{is-task, loaded, last-mark, after}
 use Rattle.guarantees.proofs.Proper.{Fair}
 use Rattle.guarantees.proofs.Highest.{Best}
@@ -18,14 +18,14 @@ use Rattle.guarantees.proofs.Walk.{walk}
 use Rattle.guarantees.proofs.Frames.{marked-b}
 use Rattle.guarantees.proofs.Cases.{held-at, d-cases, e-cases}
 use Rattle.guarantees.proofs.Steps.{Opened, e-opens, settles, best-of}
-use Rattle.guarantees.proofs.Waiting.{held-task, next-task, runs}
-use Rattle.guarantees.proofs.Order.{finished-of, open-no-more}
+use Rattle.guarantees.proofs.Waiting.{held-task, held-is, next-task, runs}
+use Rattle.guarantees.proofs.Order.{open-no-more}
 use Rattle.guarantees.proofs.Blocking.{a-held}
 use Rattle.guarantees.proofs.Places.{Parted, copyin-bit, stage, next-bit, to-b}
 use Rattle.guarantees.proofs.Served.{served-at}
 use Rattle.guarantees.proofs.Invariant.{Good, good-opened, good-next, good-quiet}
 use Rattle.guarantees.proofs.Events.{by-processor, by-completes, by-takes, by-starts, tail-of, front-of, happens-parts, front-parts, tail-parts}
-use Rattle.guarantees.proofs.Executions.{loaded-next, View, view-of, view-e, e-view, stays-loaded}
+use Rattle.guarantees.proofs.Executions.{finished-of, loaded-next, View, view-of, Given, given-e, e-view, stays-loaded}
 
 -- ---- along a history
 
@@ -37,6 +37,7 @@ module _ (n : ℕ) where
   Promoting b l (Starts k t ∷ es) = Promoting b l es
   Promoting b l (Stops k t ∷ es) = Promoting b l es
   Promoting b l (Finishes k ∷ es) = Promoting b (Task k) es
+  Promoting b l (GivesWay k ∷ es) = Promoting b NoTask es
   Promoting b l (Completes k t ∷ es) = Promoting b l es
   Promoting b l (Ends t ∷ es) = Promoting b l es
   Promoting b l (Takes k t m ∷ es) = Promoting (cond (eqb n k) m b) l es
@@ -50,6 +51,7 @@ module _ (n : ℕ) where
   split (Starts k u ∷ es) after t o b l h e = split es after t o b l h e
   split (Stops k u ∷ es) after t o b l h e = split es after t o b l h e
   split (Finishes k ∷ es) after t o b l h e = split es after t o b (Task k) h e
+  split (GivesWay k ∷ es) after t o b l h e = split es after t o b NoTask h e
   split (Completes k u ∷ es) after t o b l h e = split es after t o b l h e
   split (Ends u ∷ es) after t o b l h e = split es after t o b l h e
   split (Takes k u m ∷ es) after t o b l h e = split es after t o (cond (eqb n k) m b) l h e
@@ -136,7 +138,7 @@ module _ (n : ℕ) (small : n < 32) where
   next-promoted NoneChosen NoTask h = h
   next-promoted (Copying m until) NoTask h = h
   next-promoted (Loaded m) NoTask h = h
-  next-promoted (Cancelled m) NoTask h = h
+  next-promoted (Cancelled m fate) NoTask h = h
 
   candidate : (d : State) (i : Interval) (c : CopyIn) → is-task n (promoted d i c) ≡ true → member n (i .candidates) ≡ true
   unfolding promoted
@@ -153,7 +155,7 @@ module _ (n : ℕ) (small : n < 32) where
       go NoneChosen e = picked (highest-of d (intersection (i .candidates) (d .jobs .ready))) (best-of d (intersection (i .candidates) (d .jobs .ready))) e
       go (Copying m until) e = absurd (false≢true e)
       go (Loaded m) e = absurd (false≢true e)
-      go (Cancelled m) e = picked (highest-of d (intersection (i .candidates) (d .jobs .ready))) (best-of d (intersection (i .candidates) (d .jobs .ready))) e
+      go (Cancelled m fate) e = picked (highest-of d (intersection (i .candidates) (d .jobs .ready))) (best-of d (intersection (i .candidates) (d .jobs .ready))) e
 
   b-fine : (b : Bool) (s : Stage) (t : ℕ) (p : Phase) → s .state .phase ≡ p → Fine b (s .state .jobs .ready) p → FineAt b (step-b s t p .state)
   unfolding step-b close-stage close
@@ -170,7 +172,7 @@ module _ (n : ℕ) (small : n < 32) where
   held-bit NoneChosen e = absurd (false≢true e)
   held-bit (Copying m until) e = rw e
   held-bit (Loaded m) e = rw e
-  held-bit (Cancelled m) e = absurd (false≢true e)
+  held-bit (Cancelled m fate) e = absurd (false≢true e)
 
   promoted-bit : (next : Next) → is-promoted next ≡ true → next-bit n next ≡ 1
   promoted-bit NoneNext e = absurd (false≢true e)
@@ -219,7 +221,7 @@ module _ (n : ℕ) (small : n < 32) where
       λ y. (
         g y .0,
         inl (⊎-elim (λ r. insert-other m (d .jobs .ready) n small r)
-            (λ r. insert-same m (d .jobs .ready) n small (ap (λ (c : CopyIn). is-task n (held-task c)) (sym s) ∙ r)) (g y .1)),
+            (λ r. insert-same m (d .jobs .ready) n small (ap (is-task n) (sym (held-is (i .copyin) m s)) ∙ r)) (g y .1)),
       ))
 
   -- e
@@ -266,7 +268,7 @@ module _ (n : ℕ) (small : n < 32) where
       go true h = h
       go false h = h
   finishes-goes b t (Loaded m) ys h = h
-  finishes-goes b t (Cancelled m) ys h = h
+  finishes-goes b t (Cancelled m fate) ys h = h
 
   a-goes : (b : Bool) (d : State) (t : ℕ) (p : Phase) (ys : List Event) → d .phase ≡ p → Goes b (step-a d t p .state .phase) ys → Goes b p (finish-events-in t p ++ ys)
   unfolding step-a ended finish-events-in
@@ -393,16 +395,25 @@ module _ (table : Table) (marks : ℕ) (fair : Fair table marks) (n : ℕ) (smal
         rw (happens-parts d t set ys)
         (goes-front (take-events 32 (new-at d t set) (d .marked) t ++ (tail-of d t set ++ ys))
         (takes-promoting n small (new-at d t set) (d .marked) t b (view-of (at-b d t .state .phase) .copied) (tail-of d t set ++ ys)
-        (subst (λ (v : View). Promoting n b′ (v .copied) (tail-of d t set ++ ys)) (view-e d t set) goes-tail)))
+        goes-tail))
       where
-        goes-tail : Goes n small b′ (at-e d t set .phase) (tail-of d t set ++ ys)
+        gives : (p q : Phase) (zs : List Event) → Given p q → Goes n small b′ q zs → Goes n small b′ p (giving-events-in p q ++ zs)
+        gives p q zs w h =
+            unfold Promoting in
+            ⊎-elim
+            (λ x. rw (x .0) (subst (λ (v : View). Promoting n b′ (v .copied) zs) (x .1) h))
+            (λ x. rw (x .1) (subst (λ (v : View). Promoting n b′ (v .copied) zs) (x .2) h))
+            w
+
+        goes-tail : Goes n small b′ (at-b d t .state .phase) (tail-of d t set ++ ys)
         goes-tail =
             unfold at-g at-f in
             let e : State = at-e d t set in
             let f : State = at-f d t set .state in
+            let z : List Event = begin-events t (f .phase) (at-g d t set .phase) ++ (start-events t (f .phase) (at-g d t set .phase) ++ ys) in
             rw (tail-parts d t set ys)
-            (b-goes b′ (fresh-stage e) t (e .phase) (begin-events t (f .phase) (at-g d t set .phase) ++ (start-events t (f .phase) (at-g d t set .phase) ++ ys)) refl
-            (g-goes n small b′ f t (held-at d t set) (f .phase) ys refl fine-f h))
+            (gives (at-b d t .state .phase) (e .phase) (end-events t (e .phase) (f .phase) ++ z) (given-e d t set)
+            (b-goes b′ (fresh-stage e) t (e .phase) z refl (g-goes n small b′ f t (held-at d t set) (f .phase) ys refl fine-f h)))
 
         goes-front : (zs : List Event) → Goes n small b (at-b d t .state .phase) zs → Goes n small b (d .phase) (front-of d t ++ zs)
         goes-front zs k =

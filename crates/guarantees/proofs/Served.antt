@@ -36,7 +36,7 @@ copyin-sinks t Unchosen = omega arith
 copyin-sinks t NoneChosen = omega arith
 copyin-sinks t (Copying n until) = by-test (eqb until t) (λ e. rw e (omega arith)) (λ e. rw e (omega arith))
 copyin-sinks t (Loaded n) = omega arith
-copyin-sinks t (Cancelled n) = omega arith
+copyin-sinks t (Cancelled n fate) = omega arith
 
 a-sinks : (d : State) (t : ℕ) (p : Phase) → d .phase ≡ p
     → 8 * weight (step-a d t p .state) (step-a d t p .state .phase) + rank (step-a d t p .state .phase) + 8 * phase-debt p + drop t p
@@ -116,7 +116,7 @@ copyin-falls t Unchosen h = never-tick t h
 copyin-falls t NoneChosen h = never-tick t h
 copyin-falls t (Copying n until) h = tick-same until t h
 copyin-falls t (Loaded n) h = never-tick t h
-copyin-falls t (Cancelled n) h = never-tick t h
+copyin-falls t (Cancelled n fate) h = never-tick t h
 
 pub due-drop : (t : ℕ) (p : Phase) → due p ≡ Tick t → 1 ≤ drop t p
 unfolding due
@@ -156,7 +156,7 @@ module _ (t : ℕ) where
   copyin-after NoneChosen h = tt
   copyin-after (Copying n until) h = ltb-false until t h
   copyin-after (Loaded n) h = tt
-  copyin-after (Cancelled n) h = tt
+  copyin-after (Cancelled n fate) h = tt
 
   times-after : (p : Phase) → before-now (due p) t ≡ false → Times NotBefore p
   unfolding due

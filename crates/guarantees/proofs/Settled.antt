@@ -19,7 +19,7 @@ Decided Unchosen o = copying-out o ≡ true
 Decided NoneChosen o = Unit {0}
 Decided (Copying n until) o = Unit {0}
 Decided (Loaded n) o = Unit {0}
-Decided (Cancelled n) o = Unit {0}
+Decided (Cancelled n fate) o = Unit {0}
 
 -- the choice is made as soon as the engine is free
 abbrev pub DecidedAt : Phase → Type 0
@@ -54,7 +54,7 @@ undecided d t i e Unchosen s =
 undecided d t i e NoneChosen s = subst DecidedAt (sym e) (rw s tt)
 undecided d t i e (Copying c until) s = subst DecidedAt (sym e) (rw s tt)
 undecided d t i e (Loaded c) s = subst DecidedAt (sym e) (rw s tt)
-undecided d t i e (Cancelled c) s = subst DecidedAt (sym e) (rw s tt)
+undecided d t i e (Cancelled c fate) s = subst DecidedAt (sym e) (rw s tt)
 
 e-decided : (d : State) (t : ℕ) (p : Phase) → d .phase ≡ p → DecidedAt (step-e d t p .phase)
 unfolding step-e

@@ -8,8 +8,8 @@ use lib.ListN.{getD, length}
 use Rattle.sets.specs.Sets.{member}
 use Rattle.sets.proofs.Laws.{by-test}
 use Rattle.rules.specs.Instant.{counted, stamped, begin-processor, processor-task, copyout-task, taken}
-use Rattle.guarantees.specs.History.{Starts, Stops, Finishes, Takes, Begins, processor-events, finish-events, completion-events, take-events, begin-events, start-events, execution-events}
-use Rattle.guarantees.specs.Queries.{is-task, Situation, Open, with-finished}
+use Rattle.guarantees.specs.History.{Starts, Stops, Finishes, Takes, Begins, processor-events, finish-events, completion-events, take-events, given-way, giving-events, giving-events-in, begin-events, start-events, execution-events}
+use Rattle.guarantees.specs.Queries.{is-task, Open}
 use Rattle.guarantees.proofs.Steps.{Opened}
 use Rattle.guarantees.proofs.Waiting.{next-task}
 use Rattle.guarantees.proofs.Blocking.{shift}
@@ -46,9 +46,6 @@ module _ (n : ℕ) where
   abbrev pub with-started : Tally → Due → Tally
   with-started x s = record { at = x .at; taken = x .taken; waits = x .waits; executed = x .executed; started = s }
 
-  abbrev pub with-at : Tally → Situation → Tally
-  with-at x s = record { at = s; taken = x .taken; waits = x .waits; executed = x .executed; started = x .started }
-
   -- a
   abbrev pub started-after : ℕ → Processor → Due → Due
   started-after t Idle s = s
@@ -71,24 +68,17 @@ module _ (n : ℕ) where
       go false = refl
   processor-tally t (Finished m start) x = refl
 
-  abbrev pub finish-at : ℕ → CopyIn → Situation → Situation
-  finish-at t Unchosen s = s
-  finish-at t NoneChosen s = s
-  finish-at t (Copying m until) s = cond (eqb until t) (with-finished (Task m) s) s
-  finish-at t (Loaded m) s = s
-  finish-at t (Cancelled m) s = s
-
-  pub finish-tally : (t : ℕ) (c : CopyIn) (x : Tally) → tally n x (finish-events t c) ≡ with-at x (finish-at t c (x .at))
+  pub finish-tally : (t : ℕ) (c : CopyIn) (x : Tally) → tally n x (finish-events t c) ≡ x
   unfolding tally finish-events
   finish-tally t Unchosen x = refl
   finish-tally t NoneChosen x = refl
   finish-tally t (Copying m until) x = go (eqb until t)
     where
-      go : (b : Bool) → tally n x (cond b (Finishes m ∷ []) []) ≡ with-at x (cond b (with-finished (Task m) (x .at)) (x .at))
+      go : (b : Bool) → tally n x (cond b (Finishes m ∷ []) []) ≡ x
       go true = refl
       go false = refl
   finish-tally t (Loaded m) x = refl
-  finish-tally t (Cancelled m) x = refl
+  finish-tally t (Cancelled m fate) x = refl
 
   pub completion-tally : (o : Done) (x : Tally) → tally n x (completion-events o) ≡ x
   unfolding tally completion-events
@@ -128,6 +118,18 @@ module _ (n : ℕ) where
       ap (λ (y : Tally). tally n y (cond (member k new) (Takes k t (member k marks) ∷ []) [])) (takes-this k new marks t x (omega (arith, eqb-false n k e)) m)
       ∙ take-other k t (member k marks) (member k new) (tally-by n x (Takes n t (member n marks))) e)
 
+  -- d
+  pub gives-tally : (p q : Phase) (x : Tally) → tally n x (giving-events-in p q) ≡ x
+  unfolding tally giving-events-in giving-events
+  gives-tally (Between next outgoing) q x = refl
+  gives-tally (Within i) (Between next outgoing) x = refl
+  gives-tally (Within i) (Within j) x = go (given-way (i .copyin)) (given-way (j .copyin))
+    where
+      go : (a b : MaybeTask) → tally n x (giving-events a b) ≡ x
+      go NoTask NoTask = refl
+      go NoTask (Task m) = refl
+      go (Task m) b = refl
+
   -- g
   abbrev pub started-next : ℕ → Next → Due → Due
   started-next t NoneNext s = s
@@ -136,7 +138,7 @@ module _ (n : ℕ) where
 
   abbrev pub begun : ℕ → Next → Tally → Tally
   begun t next x = record {
-    at = Open (next-task next) NoTask;
+    at = Open (next-task next);
     taken = x .taken;
     waits = grown (x .executed) (is-task n (next-task next)) (x .waits) (next-task next);
     executed = x .executed || is-task n (next-task next);

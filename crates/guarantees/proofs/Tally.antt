@@ -5,8 +5,8 @@ use native.Mathlib.Omega.{arith}
 use borrow.Author.Tests.{eqb-true}
 use lib.Dec.{eqb}
 use Rattle.sets.proofs.Laws.{by-test, same-task}
-use Rattle.guarantees.specs.History.{Event, Comes, Starts, Stops, Finishes, Completes, Ends, Takes, Begins}
-use Rattle.guarantees.specs.Queries.{is-task, Situation, NoneOpen, Open, situation, after-event, with-finished, intervals, taking, start, until, waited, after, each, first}
+use Rattle.guarantees.specs.History.{Event, Comes, Starts, Stops, Finishes, Completes, Ends, Takes, GivesWay, Begins}
+use Rattle.guarantees.specs.Queries.{is-task, Situation, NoneOpen, Open, situation, after-event, intervals, taking, start, until, waited, after, each, first}
 
 -- ---- the walk
 
@@ -24,7 +24,7 @@ nothing = record { at = NoneOpen; taken = Never; waits = []; executed = false; s
 
 abbrev pub first-of : Situation → List MaybeTask
 first-of NoneOpen = []
-first-of (Open r f) = r ∷ []
+first-of (Open r) = r ∷ []
 
 abbrev pub or-else : Due → Due → Due
 or-else Never b = b
@@ -42,7 +42,8 @@ module _ (n : ℕ) where
   tally-by x (Starts k t) =
       record { at = x .at; taken = x .taken; waits = x .waits; executed = x .executed; started = cond (eqb n k) (or-else (x .started) (Tick t)) (x .started) }
   tally-by x (Stops k t) = x
-  tally-by x (Finishes k) = record { at = with-finished (Task k) (x .at); taken = x .taken; waits = x .waits; executed = x .executed; started = x .started }
+  tally-by x (Finishes k) = x
+  tally-by x (GivesWay k) = x
   tally-by x (Completes k t) = x
   tally-by x (Ends t) = record { at = NoneOpen; taken = x .taken; waits = x .waits; executed = x .executed; started = x .started }
   tally-by x (Takes k t m) = record {
@@ -53,7 +54,7 @@ module _ (n : ℕ) where
     started = cond (eqb n k) Never (x .started);
   }
   tally-by x (Begins t r l) = record {
-    at = Open r NoTask;
+    at = Open r;
     taken = x .taken;
     waits = grown (x .executed) (is-task n r) (x .waits) r;
     executed = x .executed || is-task n r;
@@ -74,6 +75,7 @@ module _ (n : ℕ) where
   tally-at x (Starts k t) = refl
   tally-at x (Stops k t) = refl
   tally-at x (Finishes k) = refl
+  tally-at x (GivesWay k) = refl
   tally-at x (Completes k t) = refl
   tally-at x (Ends t) = refl
   tally-at x (Takes k t m) = refl
@@ -118,9 +120,8 @@ module _ (n : ℕ) where
       let y : Tally = tally-by x (Starts k t) in
       let i : Since y es (tally y es) = since es y h in
       record { taken = i .taken; waits = i .waits; started = i .started ∙ starts-once (eqb n k) (x .started) (start n es) t }
-  since (Finishes k ∷ es) x h =
-      let y : Tally = tally-by x (Finishes k) in
-      let i : Since y es (tally y es) = since es y h in record { taken = i .taken; waits = i .waits; started = i .started }
+  since (Finishes k ∷ es) x h = let i : Since x es (tally x es) = since es x h in record { taken = i .taken; waits = i .waits; started = i .started }
+  since (GivesWay k ∷ es) x h = let i : Since x es (tally x es) = since es x h in record { taken = i .taken; waits = i .waits; started = i .started }
   since (Ends t ∷ es) x h =
       let y : Tally = tally-by x (Ends t) in
       let i : Since y es (tally y es) = since es y h in record { taken = i .taken; waits = i .waits; started = i .started }
@@ -157,7 +158,7 @@ module _ (n : ℕ) where
 
   first-waited : (s : Situation) (rs : List MaybeTask) → first-of s ++ until n rs ≡ waited n s rs
   first-waited NoneOpen rs = refl
-  first-waited (Open r f) rs = refl
+  first-waited (Open r) rs = refl
 
   -- what the walk finds behind a taking, up to the next
   pub record Found (t : ℕ) (at : Situation) (es : List Event) (y : Tally) : Type 0 where
@@ -201,6 +202,7 @@ module _ (n : ℕ) where
   split-first (Starts k t) es x h = inl h
   split-first (Stops k t) es x h = inl h
   split-first (Finishes k) es x h = inl h
+  split-first (GivesWay k) es x h = inl h
   split-first (Completes k t) es x h = inl h
   split-first (Ends t) es x h = inl h
   split-first (Begins t r l) es x h = inl h

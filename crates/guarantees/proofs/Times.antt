@@ -39,7 +39,7 @@ module _ (P : ℕ → Type 0) where
   copyin-times NoneChosen = Unit {0}
   copyin-times (Copying n until) = P until
   copyin-times (Loaded n) = Unit {0}
-  copyin-times (Cancelled n) = Unit {0}
+  copyin-times (Cancelled n fate) = Unit {0}
 
   abbrev pub Times : Phase → Type 0
   Times (Between next outgoing) = Unit {0}
@@ -63,7 +63,7 @@ module _ (P Q : ℕ → Type 0) (f : (u : ℕ) → P u → Q u) where
   copyin-map NoneChosen h = tt
   copyin-map (Copying n until) h = f until h
   copyin-map (Loaded n) h = tt
-  copyin-map (Cancelled n) h = tt
+  copyin-map (Cancelled n fate) h = tt
 
   pub times-map : (p : Phase) → Times P p → Times Q p
   times-map (Between next outgoing) h = tt
@@ -99,7 +99,7 @@ module _ (table : Table) (tasks : table .present < 2 ^ 32) (t : ℕ) (P : ℕ �
     a-copyin NoneChosen h = tt
     a-copyin (Copying n until) h = by-test (eqb until t) (λ e. rw e tt) (λ e. rw e (h (eqb-false until t e)))
     a-copyin (Loaded n) h = tt
-    a-copyin (Cancelled n) h = tt
+    a-copyin (Cancelled n fate) h = tt
 
     a-times : (d : State) (p : Phase) → d .phase ≡ p → d .table ≡ table → Parted (table .present) tasks d p → Times Later p → Times P (step-a d t p .state .phase)
     unfolding step-a ended
@@ -220,7 +220,7 @@ copyin-drop t Unchosen = 0
 copyin-drop t NoneChosen = 0
 copyin-drop t (Copying n until) = bit (eqb until t)
 copyin-drop t (Loaded n) = 0
-copyin-drop t (Cancelled n) = 0
+copyin-drop t (Cancelled n fate) = 0
 
 -- how many phases end at t
 abbrev pub drop : ℕ → Phase → ℕ
@@ -249,7 +249,7 @@ still-copyin t Unchosen h = refl
 still-copyin t NoneChosen h = refl
 still-copyin t (Copying n until) h = rw (no-drop (eqb until t) h)
 still-copyin t (Loaded n) h = refl
-still-copyin t (Cancelled n) h = refl
+still-copyin t (Cancelled n fate) h = refl
 
 module _ (P : ℕ → Type 0) (t : ℕ) where
   -- the times of a phase that is settled

@@ -7,7 +7,7 @@ use Rattle.sets.specs.Sets.{member}
 use Rattle.sets.proofs.Laws.{by-test, clash, none, difference-right, same-task, member-task}
 use Rattle.rules.specs.With.{at-clock}
 use Rattle.rules.specs.Instant.{step-a, step-c, step-d, completed, job-entry, occurred, at-a, at-b, at-e, at-f, at-g, new-at, taken, fresh-stage}
-use Rattle.guarantees.specs.History.{Event, Comes, Takes, history, after-calls, happens, processor-events-in, finish-events-in, completion-events, end-events, take-events, begin-events, start-events}
+use Rattle.guarantees.specs.History.{Event, Comes, Takes, history, after-calls, happens, processor-events-in, finish-events-in, completion-events, end-events, take-events, giving-events-in, begin-events, start-events}
 use Rattle.guarantees.specs.Entries.{lower-in, TellsJob}
 use Rattle.guarantees.specs.States.{copyout-known, phase-known}
 use Rattle.guarantees.proofs.Proper.{Fair}
@@ -21,6 +21,7 @@ use Rattle.guarantees.proofs.Waiting.{runs}
 use Rattle.guarantees.proofs.Blocking.{Bounded, bounded-a, bounded-e, bounded-g, bounded-opened, bounded-quiet}
 use Rattle.guarantees.proofs.Places.{Parted, b-moves, to-b, to-e}
 use Rattle.guarantees.proofs.Closings.{done-so}
+use Rattle.guarantees.proofs.Tallies.{gives-tally}
 use Rattle.guarantees.proofs.Tally.{Tally, nothing, tally, tally-append, Split, last-job}
 use Rattle.guarantees.proofs.Knows.{InCopyOut, RunsAt, Awaiting, Ran, Knows, a-knows, b-knows, c-knows, d-knows, e-knows, g-knows}
 
@@ -66,6 +67,9 @@ module _ (table : Table) (marks : ℕ) (fair : Fair table marks) (n : ℕ) (smal
 
     abbrev takes-c : List Event
     takes-c = take-events 32 (new-at d t set) (d .marked) t
+
+    abbrev gives-d : List Event
+    gives-d = giving-events-in (at-b d t .state .phase) (at-e d t set .phase)
 
     abbrev ends-f : List Event
     ends-f = end-events t (at-e d t set .phase) (at-f d t set .state .phase)
@@ -116,14 +120,17 @@ module _ (table : Table) (marks : ℕ) (fair : Fair table marks) (n : ℕ) (smal
 
     walked : tally n x (happens d t set) ≡ tally n (tally n (tally n (tally n (tally n x ended-a) ends-b) takes-c) ends-f) begins-g
     walked =
-        let rest : List Event = ends-b ++ (takes-c ++ (ends-f ++ begins-g)) in
-        let parts : happens d t set ≡ Comes t ∷ (ended-a ++ (ends-b ++ (takes-c ++ (ends-f ++ begins-g)))) = unfold happens in simp append-assoc in
+        let rest : List Event = ends-b ++ (takes-c ++ (gives-d ++ (ends-f ++ begins-g))) in
+        let y : Tally = tally n (tally n (tally n x ended-a) ends-b) takes-c in
+        let parts : happens d t set ≡ Comes t ∷ (ended-a ++ (ends-b ++ (takes-c ++ (gives-d ++ (ends-f ++ begins-g))))) = unfold happens in simp append-assoc in
         ap (tally n x) parts
         ∙ first-comes (ended-a ++ rest)
         ∙ tally-append n ended-a rest x
-        ∙ tally-append n ends-b (takes-c ++ (ends-f ++ begins-g)) (tally n x ended-a)
-        ∙ tally-append n takes-c (ends-f ++ begins-g) (tally n (tally n x ended-a) ends-b)
-        ∙ tally-append n ends-f begins-g (tally n (tally n (tally n x ended-a) ends-b) takes-c)
+        ∙ tally-append n ends-b (takes-c ++ (gives-d ++ (ends-f ++ begins-g))) (tally n x ended-a)
+        ∙ tally-append n takes-c (gives-d ++ (ends-f ++ begins-g)) (tally n (tally n x ended-a) ends-b)
+        ∙ tally-append n gives-d (ends-f ++ begins-g) y
+        ∙ ap (λ (z : Tally). tally n z (ends-f ++ begins-g)) (gives-tally n (at-b d t .state .phase) (at-e d t set .phase) y)
+        ∙ tally-append n ends-f begins-g y
       where
         first-comes : (es : List Event) → tally n x (Comes t ∷ es) ≡ tally n x es
         first-comes es = unfold tally in refl

@@ -1,8 +1,8 @@
 -- The order, by the states: a job that waits, and what the next interval will run. For each waiting job of task n one of two rules holds of
 -- the copy-in of the open interval, and each step keeps it. A job of an earlier interval: the copy-in is not chosen yet, or is of a task
 -- not lower than n, or, where none was chosen or it was cancelled, some task released and marked in this interval and ready is not lower
--- than n. A job of this interval: the same, or whatever is to be shown of the next interval holds of any task or of the loaded one.
-use Rattle.guarantees.specs.Types.{Table, _≡_, refl, sym, _∙_, subst, true, false, false≢true, List, [], _∷_, _++_, ℕ, _≤_, _<_, MaybeTask, NoTask, Task, Processor, CopyIn, Unchosen, NoneChosen, Copying, Loaded, Cancelled, Interval, Next, NoneNext, LoadedNext, PromotedNext, Outgoing, Phase, Between, Within, State, Stage, Call}
+-- than n. An unmarked job of this interval: nothing is shown of the next one.
+use Rattle.guarantees.specs.Types.{Table, _≡_, refl, sym, ap, _∙_, subst, ⊎-elim, true, false, false≢true, List, [], _∷_, _++_, ℕ, _≤_, _<_, MaybeTask, NoTask, Task, Processor, CopyIn, Unchosen, NoneChosen, Copying, Loaded, Cancelled, Interval, Next, NoneNext, LoadedNext, PromotedNext, Outgoing, Phase, Between, Within, State, Stage, Call}
 use native.Mathlib.Omega.{arith}
 use borrow.Author.Tests.{ltb-true}
 use lib.Dec.{eqb}
@@ -19,7 +19,7 @@ use Rattle.rules.specs.Order.{highest-of, outranks}
 use Rattle.guarantees.specs.Queries.{is-task, intervals, each}
 use Rattle.guarantees.proofs.Steps.{Sub, NewIn, NewAt, c-new, best-of, settles, Opened, e-opens}
 use Rattle.guarantees.proofs.Events.{happens-intervals}
-use Rattle.guarantees.proofs.Cases.{held-at, copyin-cases, a-cases, b-cases, d-cases, e-cases, g-cases}
+use Rattle.guarantees.proofs.Cases.{held-at, Held, copyin-cases, a-cases, b-cases, d-cases, e-cases, g-cases}
 
 -- ---- the job that the next interval executes, as far as it is chosen
 abbrev pub held-task : CopyIn → MaybeTask
@@ -27,7 +27,10 @@ held-task Unchosen = NoTask
 held-task NoneChosen = NoTask
 held-task (Copying c until) = Task c
 held-task (Loaded c) = Task c
-held-task (Cancelled c) = NoTask
+held-task (Cancelled c fate) = NoTask
+
+pub held-is : (k : CopyIn) (c : ℕ) → Held k c → held-task k ≡ Task c
+held-is k c s = ⊎-elim (λ x. ap held-task (x .1)) (λ x. ap held-task x) s
 
 abbrev pub next-task : Next → MaybeTask
 next-task NoneNext = NoTask
@@ -55,10 +58,10 @@ module _ (pr : List ℕ) (n : ℕ) where
     pub load : (ready candidates c until : ℕ) → F ready candidates (Copying c until) → F ready candidates (Loaded c)
     pub run : (ready candidates c : ℕ) → F ready candidates (Loaded c) → Q (Task c)
     pub none : (ready candidates : ℕ) (q : MaybeTask) → Best pr (intersection candidates ready) q → F ready candidates NoneChosen → Q q
-    pub lost : (ready candidates c : ℕ) (q : MaybeTask) → Best pr (intersection candidates ready) q → F ready candidates (Cancelled c) → Q q
+    pub lost : (ready candidates c fate : ℕ) (q : MaybeTask) → Best pr (intersection candidates ready) q → F ready candidates (Cancelled c fate) → Q q
     pub more : (ready candidates ready′ candidates′ : ℕ) (c : CopyIn) → Sub ready ready′ → Sub candidates candidates′ → F ready candidates c → F ready′ candidates′ c
-    pub cancel : (ready candidates c until q : ℕ) → q < 32 → member q ready ≡ true → member q candidates ≡ true → getD pr q 0 < getD pr c 0
-        → F ready candidates (Copying c until) → F (insert c ready) candidates (Cancelled c)
+    pub cancel : (ready candidates c fate q : ℕ) → q < 32 → member q ready ≡ true → member q candidates ≡ true → getD pr q 0 < getD pr c 0
+        → F ready candidates (Loaded c) → F (insert c ready) candidates (Cancelled c fate)
     pub pass : (ready candidates : ℕ) → member n ready ≡ true → Best pr ready NoTask → F ready candidates Unchosen → F ready candidates NoneChosen
     pub choose : (ready candidates q until : ℕ) → member n ready ≡ true → Best pr ready (Task q) → F ready candidates Unchosen → F (remove q ready) candidates (Copying q until)
 
@@ -109,9 +112,9 @@ module _ (pr : List ℕ) (n : ℕ) where
           go : (q : MaybeTask) → Q q → Left d NoneChosen q
           go NoTask x = (w, x)
           go (Task q) x = (λ e. remove-in q (d .jobs .ready) n small e (w refl), x)
-      closed d i (Cancelled c) s h w f = go (highest-of d (intersection (i .candidates) (d .jobs .ready))) (rule .lost (d .jobs .ready) (i .candidates) c (highest-of d (intersection (i .candidates) (d .jobs .ready))) (best-at d (intersection (i .candidates) (d .jobs .ready)) h) f)
+      closed d i (Cancelled c fate) s h w f = go (highest-of d (intersection (i .candidates) (d .jobs .ready))) (rule .lost (d .jobs .ready) (i .candidates) c fate (highest-of d (intersection (i .candidates) (d .jobs .ready))) (best-at d (intersection (i .candidates) (d .jobs .ready)) h) f)
         where
-          go : (q : MaybeTask) → Q q → Left d (Cancelled c) q
+          go : (q : MaybeTask) → Q q → Left d (Cancelled c fate) q
           go NoTask x = (w, x)
           go (Task q) x = (λ e. remove-in q (d .jobs .ready) n small e (w refl), x)
 
@@ -145,18 +148,23 @@ module _ (pr : List ℕ) (n : ℕ) where
       unfolding cancel
       d-waiting new d new-in h =
           d-cases Waiting d new h
-          (λ i c u e s b. record {
+          (λ i c fate e s b. record {
             table = h .table;
-            ready = λ x. by-test (eqb n c) (λ y. insert-same c (d .jobs .ready) n small y) (λ y. insert-other c (d .jobs .ready) n small ((rw s at (ready-at d e h)) y));
-            fate = go i c u (subst (NewAt d new) e new-in) (subst (F (d .jobs .ready) (i .candidates)) s (fate-at d e h)) (highest-of d (intersection new (d .marked))) (best-at d (intersection new (d .marked)) h) b;
+            ready = λ x. by-test (eqb n c) (λ y. insert-same c (d .jobs .ready) n small y) (λ y. insert-other c (d .jobs .ready) n small (ready-at d e h (ap (is-task n) (held-is (i .copyin) c s) ∙ y)));
+            fate = go i c fate (subst (NewAt d new) e new-in) (as-loaded (d .jobs .ready) (i .candidates) (i .copyin) c s (fate-at d e h)) (highest-of d (intersection new (d .marked))) (best-at d (intersection new (d .marked)) h) b;
           })
         where
-          go : (i : Interval) (c u : ℕ) → NewIn d new i → F (d .jobs .ready) (i .candidates) (Copying c u)
-              → (q : MaybeTask) → Best pr (intersection new (d .marked)) q → outranks d c q ≡ true → F (insert c (d .jobs .ready)) (i .candidates) (Cancelled c)
-          go i c u k f NoTask x b = absurd (false≢true b)
-          go i c u k f (Task q) x b =
+          -- a copy-in that is under way gives way as a finished one does
+          as-loaded : (ready candidates : ℕ) (k : CopyIn) (c : ℕ) → Held k c → F ready candidates k → F ready candidates (Loaded c)
+          as-loaded ready candidates k c s f =
+              ⊎-elim (λ x. rule .load ready candidates c (x .0) (subst (F ready candidates) (x .1) f)) (λ x. subst (F ready candidates) x f) s
+
+          go : (i : Interval) (c fate : ℕ) → NewIn d new i → F (d .jobs .ready) (i .candidates) (Loaded c)
+              → (q : MaybeTask) → Best pr (intersection new (d .marked)) q → outranks d c q ≡ true → F (insert c (d .jobs .ready)) (i .candidates) (Cancelled c fate)
+          go i c fate k f NoTask x b = absurd (false≢true b)
+          go i c fate k f (Task q) x b =
               let m : member q new ≡ true = intersection-left new (d .marked) q (x .1) in
-              rule .cancel (d .jobs .ready) (i .candidates) c u q (x .0) (k .ready q (x .0) m) (k .candidates q (x .0) m (intersection-right new (d .marked) q (x .1)))
+              rule .cancel (d .jobs .ready) (i .candidates) c fate q (x .0) (k .ready q (x .0) m) (k .candidates q (x .0) m (intersection-right new (d .marked) q (x .1)))
               (less (h .table) b) f
             where
               less : d .table .priority ≡ pr → outranks d c (Task q) ≡ true → getD pr q 0 < getD pr c 0
@@ -193,7 +201,7 @@ module _ (pr : List ℕ) (n : ℕ) where
   Bound ready candidates NoneChosen = Rival ready candidates
   Bound ready candidates (Copying c until) = getD pr c 0 ≤ getD pr n 0
   Bound ready candidates (Loaded c) = getD pr c 0 ≤ getD pr n 0
-  Bound ready candidates (Cancelled c) = Rival ready candidates
+  Bound ready candidates (Cancelled c fate) = Rival ready candidates
 
   rival-heads : (ready candidates : ℕ) (q : MaybeTask) → Best pr (intersection candidates ready) q → Rival ready candidates → NotLower pr n q
   rival-heads ready candidates NoTask b r =
@@ -212,47 +220,32 @@ module _ (pr : List ℕ) (n : ℕ) where
       go NoneChosen b = rival b
       go (Copying c until) b = b
       go (Loaded c) b = b
-      go (Cancelled c) b = rival b
+      go (Cancelled c fate) b = rival b
 
   pub rule-old : n < 32 → Rule pr n Bound (NotLower pr n)
   rule-old small = record {
     load = λ ready candidates c until h. h;
     run = λ ready candidates c h. h;
     none = rival-heads;
-    lost = λ ready candidates c q b h. rival-heads ready candidates q b h;
+    lost = λ ready candidates c fate q b h. rival-heads ready candidates q b h;
     more = bound-more;
-    cancel = λ ready candidates c until q l m f less h. record { who = q; task = l; is-ready = insert-other c ready q l m; is-candidate = f; high = omega arith };
+    cancel = λ ready candidates c fate q l m f less h. record { who = q; task = l; is-ready = insert-other c ready q l m; is-candidate = f; high = omega arith };
     pass = λ ready candidates m b h. clash (member n ready) m (b n small);
     choose = λ ready candidates q until m b h. b .2 n small m;
   }
 
-  -- any other job: whatever the next interval runs, or what is loaded, has Q
-  module _ (Q : MaybeTask → Type 0) where
-    abbrev pub Any : ℕ → ℕ → CopyIn → Type 0
-    Any ready candidates Unchosen = (r : MaybeTask) → Q r
-    Any ready candidates NoneChosen = (r : MaybeTask) → Q r
-    Any ready candidates (Copying c until) = (r : MaybeTask) → Q r
-    Any ready candidates (Loaded c) = Q (Task c)
-    Any ready candidates (Cancelled c) = (r : MaybeTask) → Q r
-
-    pub rule-any : Rule pr n Any Q
-    rule-any = record {
-      load = λ ready candidates c until h. h (Task c);
-      run = λ ready candidates c h. h;
-      none = λ ready candidates q b h. h q;
-      lost = λ ready candidates c q b h. h q;
-      more = λ ready candidates ready′ candidates′ c r f h. go ready candidates ready′ candidates′ c h;
-      cancel = λ ready candidates c until q l m f less h. h;
-      pass = λ ready candidates m b h. h;
-      choose = λ ready candidates q until m b h. h;
-    }
-      where
-        go : (ready candidates ready′ candidates′ : ℕ) (c : CopyIn) → Any ready candidates c → Any ready′ candidates′ c
-        go ready candidates ready′ candidates′ Unchosen h = h
-        go ready candidates ready′ candidates′ NoneChosen h = h
-        go ready candidates ready′ candidates′ (Copying c until) h = h
-        go ready candidates ready′ candidates′ (Loaded c) h = h
-        go ready candidates ready′ candidates′ (Cancelled c) h = h
+  -- any other job: nothing is shown
+  pub rule-none : Rule pr n (λ ready candidates c. Unit {0}) (λ r. Unit {0})
+  rule-none = record {
+    load = λ ready candidates c until h. tt;
+    run = λ ready candidates c h. tt;
+    none = λ ready candidates q b h. tt;
+    lost = λ ready candidates c fate q b h. tt;
+    more = λ ready candidates ready′ candidates′ c r f h. tt;
+    cancel = λ ready candidates c fate q l m f less h. tt;
+    pass = λ ready candidates m b h. tt;
+    choose = λ ready candidates q until m b h. tt;
+  }
 
   abbrev pub Old : State → Type 0
   Old d = Waiting pr n Bound (NotLower pr n) d

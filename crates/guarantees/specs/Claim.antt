@@ -1,6 +1,6 @@
 -- Demand 3: the claim about a whole list of instants and mark calls. What stands between quotation marks is the demand, or document 01, "The
 -- dispatcher by instants", second paragraph; below each quotation stands what it says of a history (History, Queries).
-use Rattle.guarantees.specs.Types.{_≡_, Bool, true, false, cond, List, _∷_, _++_, _⊎_, _↔_, ℕ, _+_, _*_, _≤_, _<_, Table, MaybeTask, NoTask, Task, State, Due, Never, Tick, NoRefusal, Call}
+use Rattle.guarantees.specs.Types.{_≡_, Bool, true, false, cond, List, _∷_, _++_, _⊎_, ℕ, _+_, _*_, _≤_, _<_, Table, MaybeTask, NoTask, Task, State, Due, Never, Tick, NoRefusal, Call}
 use lib.Dec.{leb}
 use lib.ListN.{getD, length}
 use Rattle.table.specs.Table.{copyin-length, execution-length, copyout-length}
@@ -10,7 +10,7 @@ use Rattle.dispatcher.specs.declared.Opening.{Opening}
 use Rattle.dispatcher.specs.Dispatcher.{state-of, opening-of}
 use Rattle.guarantees.specs.History.{Event, Starts, Stops, Completes, Ends, Takes, Begins, history, after-calls, EmptySets}
 use Rattle.guarantees.specs.Entries.{EntriesTell}
-use Rattle.guarantees.specs.Queries.{is-task, Situation, NoneOpen, Open, situation, Latest, none-yet, latest, loaded, last-mark, Execution, not-yet, execution, intervals, met, end-tick, begin-tick, copied-out, start, stop, completion, last-instant, is-take, is-begin, is-completion, total}
+use Rattle.guarantees.specs.Queries.{is-task, Situation, NoneOpen, situation, Latest, none-yet, latest, loaded, last-mark, Execution, not-yet, execution, intervals, met, end-tick, begin-tick, copied-out, start, stop, completion, last-instant, is-take, is-begin, is-completion, total}
 
 -- ---- The order
 
@@ -24,23 +24,15 @@ module _ (priority : List ℕ) (n : ℕ) where
   ThisOrHigher NoTask = ⊥
   ThisOrHigher (Task k) = (k ≡ n) ⊎ (getD priority k 0 < getD priority n 0)
 
-  -- the engine has finished a lower-priority copy-in in the open interval
-  abbrev pub LowerFinished : Situation → Type 0
-  LowerFinished NoneOpen = ⊥
-  LowerFinished (Open r f) = Lower f
-
-  -- a job of task n, released at a point of the history and marked or not, with its intervals: interval i, counted from 0, is
-  -- getD met i NoTask
-  pub record InOrder (marked : Bool) (at : Situation) (met : List MaybeTask) : Type 0 where
+  -- a job of task n, marked or not, with its intervals: interval i, counted from 0, is getD met i NoTask
+  pub record InOrder (marked : Bool) (met : List MaybeTask) : Type 0 where
     -- "From its release to the start of its execution a lower-priority job executes in none but the first two intervals, counting the
     -- one that holds the release." The tick of that start, in the last of its intervals, is said below (`Executed`).
     pub lower-in-two : (i : ℕ) → 2 ≤ i → i < length met → Lower (getD met i NoTask) → ⊥
     -- "In each from the third on, up to the one that executes it, the processor runs this job or a higher-priority one."
     pub third-on : (i : ℕ) → 2 ≤ i → i < length met → ThisOrHigher (getD met i NoTask)
-    -- "For a marked task the second runs a lower one exactly when the copy engine had already finished a lower-priority copy-in in the
-    -- first when the release came." "A copy-in that ends in step a of the release's own instant had already finished": an instant's
-    -- events stand in the order of its steps.
-    pub second-marked : marked ≡ true → 1 < length met → Lower (getD met 1 NoTask) ↔ LowerFinished at
+    -- 2/13: "From here on a marked job meets a lower-priority one in its first interval only, without the old condition."
+    pub marked-in-one : marked ≡ true → (i : ℕ) → 1 ≤ i → i < length met → Lower (getD met i NoTask) → ⊥
 
 -- ---- The execution of a job
 
@@ -49,7 +41,7 @@ abbrev pub if-reached : ℕ → ℕ → Due
 if-reached last u = cond (leb u last) (Tick u) Never
 
 -- a job of task n, where an interval that executes it has begun at t, and what occurs from then on; `copied` is the task that the engine
--- has copied in in the interval before, and L and C are the lengths of the job's copy-in and execution
+-- has copied in in the interval before and that has not given way, and L and C are the lengths of the job's copy-in and execution
 pub record Executed (L C n t : ℕ) (copied : MaybeTask) (after : List Event) : Type 0 where
   -- "The processor copies in and then executes the promoted job; else it executes the loaded one": the loaded one, which the engine has
   -- copied in, starts with its interval,
@@ -74,7 +66,7 @@ pub record CopiedOut (U n t : ℕ) (after : List Event) : Type 0 where
 pub record Holds (table : Table) (history : List Event) : Type 0 where
   -- "this holds of each job taken, whatever is released when"; "A job is marked if its task was at the release."
   pub each-job : (before after : List Event) (n t : ℕ) (marked : Bool) → history ≡ before ++ (Takes n t marked ∷ after) →
-      let at : Situation = situation NoneOpen before in InOrder (table .priority) n marked at (met n at (intervals after))
+      let at : Situation = situation NoneOpen before in InOrder (table .priority) n marked (met n at (intervals after))
   -- "If no interval is open and some job is loaded, promoted, ready or waiting for copy-out, an interval begins": a job that is taken while
   -- none is open is ready, so that one begins on this tick
   pub each-taking : (before after : List Event) (n t : ℕ) (marked : Bool) → history ≡ before ++ (Takes n t marked ∷ after) →

@@ -1,6 +1,6 @@
 -- What the instant list makes of the task entries and of the calls that meet no refusal: the history of a run, event by event,
 -- in the order in which the events occur. Each event is read off the steps a to g of an instant. A refused call leaves none.
-use Rattle.guarantees.specs.Types.{_≡_, Bool, cond, List, [], _∷_, _++_, ℕ, zero, suc, MaybeTask, Processor, Idle, CopyingIn, Executing, Finished, CopyIn, Unchosen, NoneChosen, Copying, Loaded, Cancelled, Phase, Between, Within, State, Done, NoJob, Job, Call, Instant, Mark, Never, Tick}
+use Rattle.guarantees.specs.Types.{_≡_, Bool, cond, List, [], _∷_, _++_, ℕ, zero, suc, MaybeTask, NoTask, Task, Processor, Idle, CopyingIn, Executing, Finished, CopyIn, Unchosen, NoneChosen, Copying, Loaded, Cancelled, Phase, Between, Within, State, Done, NoJob, Job, Call, Instant, Mark, Never, Tick}
 use lib.Dec.{eqb}
 use Rattle.sets.specs.Sets.{member}
 use Rattle.rules.specs.Instant.{at-a, at-b, at-e, at-f, at-g, new-at, due, processor-task, copyout-task}
@@ -14,6 +14,7 @@ pub data Event : Type 0 where
   Completes : ℕ → ℕ → Event  -- a: a task's job is copied out, at a time
   Ends : ℕ → Event  -- b, f: the open interval ends, at a time
   Takes : ℕ → ℕ → Bool → Event  -- c: a task's release is taken, at a time, the task then marked or not
+  GivesWay : ℕ → Event  -- d: the engine's copy-in of a task's job, under way or finished, gives way to a marked release
   Begins : ℕ → MaybeTask → MaybeTask → Event  -- g: an interval begins, at a time: the task that it executes, and the one that it copies out
 
 -- ---- One instant
@@ -35,7 +36,7 @@ finish-events t Unchosen = []
 finish-events t NoneChosen = []
 finish-events t (Copying n until) = cond (eqb until t) (Finishes n ∷ []) []
 finish-events t (Loaded n) = []
-finish-events t (Cancelled n) = []
+finish-events t (Cancelled n fate) = []
 
 unfoldable pub finish-events-in : ℕ → Phase → List Event
 finish-events-in t (Between next outgoing) = []
@@ -56,6 +57,24 @@ end-events t (Within i) (Within j) = []
 unfoldable pub take-events : ℕ → ℕ → ℕ → ℕ → List Event
 take-events zero new marked t = []
 take-events (suc k) new marked t = take-events k new marked t ++ cond (member k new) (Takes k t (member k marked) ∷ []) []
+
+-- d. a copy-in that had not given way before the step and has after it
+abbrev pub given-way : CopyIn → MaybeTask
+given-way Unchosen = NoTask
+given-way NoneChosen = NoTask
+given-way (Copying n until) = NoTask
+given-way (Loaded n) = NoTask
+given-way (Cancelled n fate) = Task n
+
+unfoldable pub giving-events : MaybeTask → MaybeTask → List Event
+giving-events NoTask NoTask = []
+giving-events NoTask (Task n) = GivesWay n ∷ []
+giving-events (Task n) after = []
+
+unfoldable pub giving-events-in : Phase → Phase → List Event
+giving-events-in (Between next outgoing) after = []
+giving-events-in (Within i) (Between next outgoing) = []
+giving-events-in (Within i) (Within j) = giving-events (given-way (i .copyin)) (given-way (j .copyin))
 
 -- g. no interval is open before the step and one is after it
 unfoldable pub begin-events : ℕ → Phase → Phase → List Event
@@ -84,9 +103,10 @@ happens d t set =
     ++ (completion-events (at-a d t .done)
     ++ (end-events t (at-a d t .state .phase) (at-b d t .state .phase)
     ++ (take-events 32 (new-at d t set) (d .marked) t
+    ++ (giving-events-in (at-b d t .state .phase) (at-e d t set .phase)
     ++ (end-events t (at-e d t set .phase) (at-f d t set .state .phase)
     ++ (begin-events t (at-f d t set .state .phase) (at-g d t set .phase)
-    ++ start-events t (at-f d t set .state .phase) (at-g d t set .phase))))))))
+    ++ start-events t (at-f d t set .state .phase) (at-g d t set .phase)))))))))
 
 -- ---- A list of calls
 

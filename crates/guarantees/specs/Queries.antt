@@ -1,8 +1,8 @@
 -- The questions that the claim asks of a history: what is open at a point of it, which intervals begin, when the next one ends or begins, when a
 -- job starts to execute, stops and completes, and how many events of a kind there are. Each is a walk along the events, and names only the kinds of events that it asks for.
-use Rattle.guarantees.specs.Types.{Bool, false, cond, _&&_, List, [], _∷_, _++_, ℕ, _+_, MaybeTask, NoTask, Task, Due, Never, Tick}
+use Rattle.guarantees.specs.Types.{Bool, false, cond, _&&_, _||_, List, [], _∷_, _++_, ℕ, _+_, MaybeTask, NoTask, Task, Due, Never, Tick}
 use lib.Dec.{eqb}
-use Rattle.guarantees.specs.History.{Event, Comes, Starts, Stops, Finishes, Completes, Ends, Takes, Begins}
+use Rattle.guarantees.specs.History.{Event, Comes, Starts, Stops, Finishes, Completes, Ends, Takes, GivesWay, Begins}
 
 -- ---- What an event says
 
@@ -24,6 +24,7 @@ details (Takes n t m) = record { kind = 4; tick = t; task = Task n; out = NoTask
 details (Begins t r l) = record { kind = 5; tick = t; task = r; out = l; mark = false }
 details (Starts n t) = record { kind = 6; tick = t; task = Task n; out = NoTask; mark = false }
 details (Stops n t) = record { kind = 7; tick = t; task = Task n; out = NoTask; mark = false }
+details (GivesWay n) = record { kind = 8; tick = 0; task = Task n; out = NoTask; mark = false }
 
 abbrev pub is-task : ℕ → MaybeTask → Bool
 is-task n NoTask = false
@@ -55,6 +56,9 @@ module _ (e : Event) where
   abbrev pub stops : Bool
   stops = eqb (details e .kind) 7
 
+  abbrev pub gives-way : Bool
+  gives-way = eqb (details e .kind) 8
+
 -- ---- The walks
 
 -- what each event changes, from the first to the last
@@ -79,21 +83,13 @@ total f (e ∷ es) = f e + total f es
 
 -- ---- What is open
 
--- at some point of a history no interval is open; or one is, with the task that it executes and the one whose copy-in the engine has
--- finished in it
+-- at some point of a history no interval is open; or one is, with the task that it executes
 pub data Situation : Type 0 where
   NoneOpen : Situation
-  Open : MaybeTask → MaybeTask → Situation
-
-abbrev pub with-finished : MaybeTask → Situation → Situation
-with-finished n NoneOpen = NoneOpen
-with-finished n (Open r f) = Open r n
+  Open : MaybeTask → Situation
 
 abbrev pub after-event : Situation → Event → Situation
-after-event s e =
-    cond (begins e) (Open (details e .task) NoTask)
-    (cond (ends e) NoneOpen
-    (cond (finishes e) (with-finished (details e .task) s) s))
+after-event s e = cond (begins e) (Open (details e .task)) (cond (ends e) NoneOpen s)
 
 abbrev pub situation : Situation → List Event → Situation
 situation = after after-event
@@ -116,9 +112,9 @@ latest-by x e =
 abbrev pub latest : Latest → List Event → Latest
 latest = after latest-by
 
--- the task whose copy-in the engine has finished in that interval
+-- the task whose copy-in the engine has finished in that interval and that has not given way
 abbrev pub loaded : MaybeTask → List Event → MaybeTask
-loaded = after (λ l e. cond (begins e) NoTask (cond (finishes e) (details e .task) l))
+loaded = after (λ l e. cond (begins e || gives-way e) NoTask (cond (finishes e) (details e .task) l))
 
 -- and its execution: the ticks of its start and of its end
 pub record Execution : Type 0 where
@@ -190,7 +186,7 @@ upto n (r ∷ rs) = r ∷ cond (is-task n r) [] (upto n rs)
 -- next to begin" after it: a job's intervals, where those of rs begin after its release
 abbrev pub met : ℕ → Situation → List MaybeTask → List MaybeTask
 met n NoneOpen rs = upto n rs
-met n (Open r f) rs = r ∷ upto n rs
+met n (Open r) rs = r ∷ upto n rs
 
 -- of those, the ones before the one that executes it
 unfoldable pub until : ℕ → List MaybeTask → List MaybeTask
@@ -199,7 +195,7 @@ until n (r ∷ rs) = cond (is-task n r) [] (r ∷ until n rs)
 
 abbrev pub waited : ℕ → Situation → List MaybeTask → List MaybeTask
 waited n NoneOpen rs = until n rs
-waited n (Open r f) rs = r ∷ until n rs
+waited n (Open r) rs = r ∷ until n rs
 
 -- ---- How many
 

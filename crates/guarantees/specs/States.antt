@@ -36,7 +36,7 @@ module _ (present : ℕ) where
   copyin-known NoneChosen = Unit {0}
   copyin-known (Copying n until) = Known n
   copyin-known (Loaded n) = Known n
-  copyin-known (Cancelled n) = Known n
+  copyin-known (Cancelled n fate) = Known n
 
   abbrev pub next-known : Next → Type 0
   next-known NoneNext = Unit {0}

@@ -24,7 +24,7 @@ use Rattle.rules.specs.declared.Call.{Call}
 use Rattle.guarantees.specs.History.{Event, Takes, history, after-calls, EmptySets}
 use Rattle.guarantees.specs.Queries.{after, first, each, total, upto, situation, NoneOpen, taking}
 use Rattle.guarantees.specs.Claim.{Holds, AllCompleted, Claim, Demand3}
-use Rattle.histories.specs.Histories.{task, tasks, three, plans-table, Accepts, Refuses, PlansAccepted, WrongRefused, calls-a, history-a, calls-b, history-b, calls-c, history-c, calls-d, history-d, calls-e, history-e, calls-f, history-f, calls-f′, history-f′, second-lower, second-not-lower, third-idle, third-lower, copyout-late, four-intervals, copyout-not-at-once, completion-late, completion-missing, completion-unexecuted, begins-late, no-ticks, not-executed, loaded-late, promoted-early, execution-long, promoted-unmarked, starts-unasked, starts-twice, stops-unstarted, cut-short, before-15, job-1, Tells, OneEntry, PlanC}
+use Rattle.histories.specs.Histories.{task, tasks, three, plans-table, Accepts, Refuses, PlansAccepted, WrongRefused, calls-a, history-a, calls-b, history-b, calls-c, history-c, calls-d, history-d, calls-e, history-e, calls-f, history-f, calls-f′, history-f′, second-lower, second-finished, thrown-out-runs, third-idle, third-lower, copyout-late, four-intervals, copyout-not-at-once, completion-late, completion-missing, completion-unexecuted, begins-late, no-ticks, not-executed, loaded-late, promoted-early, execution-long, promoted-unmarked, starts-unasked, starts-twice, stops-unstarted, cut-short, before-13, job-1, Tells, OneEntry, PlanC}
 use Rattle.guarantees.specs.Entries.{lower-in, ended}
 use Rattle.guarantees.specs.Queries.{until}
 use Rattle.entries.specs.declared.JobEntry.{JobEntry}
@@ -43,7 +43,7 @@ record Makes (calls : List Call) (h : List Event) : Type 0 where
   at-rest : due (after-calls (opening tasks .state) calls .phase) ≡ Never
 
 plans-made : Makes calls-a history-a × Makes calls-b history-b × Makes calls-c history-c × Makes calls-d history-d × Makes calls-e history-e × Makes calls-f history-f × Makes calls-f′ history-f′
-unfolding Words.numberAt Sets.member Sets.below Sets.collect Sets.union Sets.intersection Sets.difference Sets.insert Sets.remove Entries.task-at Entries.release-at Entries.entry-at TaskPart.given TaskPart.outside TaskPart.number-refused TaskPart.mark-or-length-refusal TaskPart.task-refusal TaskPart.with-task TaskPart.with-marked TaskPart.behind-tasks TaskPart.tasks-from TaskPart.task-part Order.better Order.highest-below Order.highest Order.higher-than Instant.processor-at Instant.copyout-at Instant.ended Instant.completed Instant.without-done Instant.step-a Instant.promoted Instant.blocks Instant.counted Instant.close Instant.interval-entry Instant.close-stage Instant.step-b Instant.taken Instant.skipped Instant.stamped Instant.with-candidates Instant.step-c Instant.cancel Instant.cancel-by Instant.step-d Instant.choose Instant.choose-if Instant.step-e Instant.begin Instant.step-g Instant.sooner Instant.due Instant.at-a Instant.at-b Instant.new-at Instant.at-e Instant.at-f Instant.at-g Instant.occurred Calls.opened Calls.opening Calls.unknown Calls.refusal Calls.served Calls.instant History.processor-events History.processor-events-in History.finish-events History.finish-events-in History.completion-events History.end-events History.take-events History.begin-events History.execution-events History.start-events History.happens Calls.after-call History.by-call History.after-calls History.history task tasks three plans-table calls-a history-a calls-b history-b calls-c history-c calls-d history-d calls-e history-e calls-f history-f calls-f′ history-f′
+unfolding Words.numberAt Sets.member Sets.below Sets.collect Sets.union Sets.intersection Sets.difference Sets.insert Sets.remove Entries.task-at Entries.release-at Entries.entry-at TaskPart.given TaskPart.outside TaskPart.number-refused TaskPart.mark-or-length-refusal TaskPart.task-refusal TaskPart.with-task TaskPart.with-marked TaskPart.behind-tasks TaskPart.tasks-from TaskPart.task-part Order.better Order.highest-below Order.highest Order.higher-than Instant.processor-at Instant.copyout-at Instant.ended Instant.completed Instant.without-done Instant.step-a Instant.promoted Instant.blocks Instant.counted Instant.close Instant.interval-entry Instant.close-stage Instant.step-b Instant.taken Instant.skipped Instant.stamped Instant.with-candidates Instant.step-c Instant.cancel Instant.cancel-by Instant.step-d Instant.choose Instant.choose-if Instant.step-e Instant.begin Instant.step-g Instant.sooner Instant.due Instant.at-a Instant.at-b Instant.new-at Instant.at-e Instant.at-f Instant.at-g Instant.occurred Calls.opened Calls.opening Calls.unknown Calls.refusal Calls.served Calls.instant History.processor-events History.processor-events-in History.finish-events History.finish-events-in History.completion-events History.end-events History.take-events History.giving-events History.giving-events-in History.begin-events History.execution-events History.start-events History.happens Calls.after-call History.by-call History.after-calls History.history task tasks three plans-table calls-a history-a calls-b history-b calls-c history-c calls-d history-d calls-e history-e calls-f history-f calls-f′ history-f′
 plans-made = (
   record { made = refl; at-rest = refl },
   record { made = refl; at-rest = refl },
@@ -98,12 +98,16 @@ other-tick t u h e = h cc
 
 refuses-second-lower : Refuses second-lower
 unfolding second-lower after each upto plans-table three
-refuses-second-lower h = h .each-job (take 4 second-lower) (drop 5 second-lower) 1 1 true refl .second-marked refl (omega arith) .0 (omega arith)
+refuses-second-lower h = h .each-job (take 4 second-lower) (drop 5 second-lower) 1 1 true refl .marked-in-one refl 1 (omega arith) (omega arith) (omega arith)
 
-refuses-second-not-lower : Refuses second-not-lower
-unfolding second-not-lower after each upto plans-table three
-refuses-second-not-lower h =
-    let l : 1 < 1 = h .each-job (take 11 second-not-lower) (drop 12 second-not-lower) 1 4 true refl .second-marked refl (omega arith) .1 (omega arith) in omega arith
+refuses-second-finished : Refuses second-finished
+unfolding second-finished after each upto plans-table three
+refuses-second-finished h =
+    h .each-job (take 11 second-finished) (drop 12 second-finished) 1 4 true refl .marked-in-one refl 1 (omega arith) (omega arith) (omega arith)
+
+refuses-thrown-out-runs : Refuses thrown-out-runs
+unfolding thrown-out-runs after plans-table three
+refuses-thrown-out-runs h = false≢true (h .each-promotion (take 23 thrown-out-runs) (drop 24 thrown-out-runs) 2 12 (Task 1) refl refl)
 
 refuses-third-idle : Refuses third-idle
 unfolding third-idle after each upto plans-table three
@@ -115,7 +119,7 @@ refuses-third-lower h = h .each-job (take 1 third-lower) (drop 2 third-lower) 2 
 
 refuses-copyout-late : Refuses copyout-late
 unfolding copyout-late first plans-table three
-refuses-copyout-late h = no-task 1 (h .each-executed (take 6 copyout-late) (drop 7 copyout-late) 1 1 NoTask refl .copyout-begins 6 refl .1)
+refuses-copyout-late h = no-task 1 (h .each-executed (take 7 copyout-late) (drop 8 copyout-late) 1 1 NoTask refl .copyout-begins 6 refl .1)
 
 refuses-four-intervals : Refuses four-intervals
 unfolding four-intervals total
@@ -160,7 +164,7 @@ refuses-loaded-late h = other-tick 3 2 (λ e. omega arith) (h .each-execution (t
 refuses-promoted-early : Refuses promoted-early
 unfolding promoted-early first after plans-table three
 refuses-promoted-early h =
-    other-tick 1 3 (λ e. omega arith) (h .each-execution (take 6 promoted-early) (drop 7 promoted-early) 1 1 NoTask refl .promoted-starts refl)
+    other-tick 1 3 (λ e. omega arith) (h .each-execution (take 7 promoted-early) (drop 8 promoted-early) 1 1 NoTask refl .promoted-starts refl)
 
 refuses-execution-long : Refuses execution-long
 unfolding execution-long first after plans-table three
@@ -183,7 +187,7 @@ refuses-stops-unstarted : Refuses stops-unstarted
 unfolding stops-unstarted after plans-table three
 refuses-stops-unstarted h =
     let x : (s : ℕ) × (Task 1 ≡ Task 1) × (Never ≡ Never) × (Never ≡ Tick s) × (Never ≡ Never) × (2 ≡ s + 3) =
-    h .each-stop (take 8 stops-unstarted) (drop 9 stops-unstarted) 1 2 refl in
+    h .each-stop (take 9 stops-unstarted) (drop 10 stops-unstarted) 1 2 refl in
     not-never (x .0) (x .3)
 
 refuses-cut-short : Refuses cut-short
@@ -199,7 +203,8 @@ pub wrong-refused : WrongRefused
 unfolding WrongRefused
 wrong-refused = (
   refuses-second-lower,
-  refuses-second-not-lower,
+  refuses-second-finished,
+  refuses-thrown-out-runs,
   refuses-third-idle,
   refuses-third-lower,
   refuses-copyout-late,
@@ -226,27 +231,27 @@ wrong-refused = (
 
 -- the walk along plan B finds the last job of task 1, and no other
 walked : (e : JobEntry) → e .task ≡ 1 → (h : Tells e)
-    → Found 1 (e .release) (situation NoneOpen (h .before)) (h .after) (tally 1 nothing before-15)
+    → Found 1 (e .release) (situation NoneOpen (h .before)) (h .after) (tally 1 nothing before-13)
 walked e t h =
     subst (Found 1 (e .release) (situation NoneOpen (h .before)) (h .after))
     (ap (tally 1 nothing) (ap (λ (n : ℕ). h .before ++ (Takes n (e .release) (h .marked) ∷ h .after)) (sym t) ∙ sym (h .release)))
     (found 1 (h .before) (h .after) (e .release) (h .marked) (ap (λ (n : ℕ). taking n (h .after)) (sym t) ∙ h .last-taken))
 
-job-found : (tally 1 nothing before-15 .taken ≡ Tick 4) × (tally 1 nothing before-15 .started ≡ Tick 11) × (lower-in (plans-table .priority) 1 (tally 1 nothing before-15 .waits) ≡ 2)
-unfolding tally lower-in before-15 history-b plans-table three
+job-found : (tally 1 nothing before-13 .taken ≡ Tick 4) × (tally 1 nothing before-13 .started ≡ Tick 9) × (lower-in (plans-table .priority) 1 (tally 1 nothing before-13 .waits) ≡ 1)
+unfolding tally lower-in before-13 history-b plans-table three
 job-found = (refl, refl, refl)
 
 -- the count of an entry that tells the truth
-is-two : (r s c b : ℕ) → Tells (job-1 r s c b) → b ≡ 2
-is-two r s c b h =
+is-one : (r s c b : ℕ) → Tells (job-1 r s c b) → b ≡ 1
+is-one r s c b h =
     h .blocked ∙ ap (lower-in (plans-table .priority) 1) (sym (walked (job-1 r s c b) refl h .waits)) ∙ job-found .2
 
 pub one-entry : OneEntry
-unfolding OneEntry before-15 history-b plans-table three after first each until lower-in
+unfolding OneEntry before-13 history-b plans-table three after first each until lower-in
 one-entry = (
   record {
-    before = take 11 before-15;
-    after = drop 12 before-15;
+    before = take 11 before-13;
+    after = drop 12 before-13;
     marked = true;
     release = refl;
     last-taken = refl;
@@ -254,11 +259,11 @@ one-entry = (
     completion = refl;
     blocked = refl;
   },
-  λ h. other-tick 4 3 (λ e. omega arith) (sym (job-found .0) ∙ walked (job-1 3 11 15 2) refl h .taken),
-  λ h. other-tick 11 10 (λ e. omega arith) (sym (job-found .1) ∙ walked (job-1 4 10 15 2) refl h .started ∙ h .execution-start),
-  λ h. let e : _≡_ {A = ℕ} 14 15 = h .completion in omega arith,
-  λ h. let e : _≡_ {A = ℕ} 1 2 = is-two 4 11 15 1 h in omega arith,
-  λ h. let e : _≡_ {A = ℕ} 3 2 = is-two 4 11 15 3 h in omega arith,
+  λ h. other-tick 4 3 (λ e. omega arith) (sym (job-found .0) ∙ walked (job-1 3 9 13 1) refl h .taken),
+  λ h. other-tick 9 8 (λ e. omega arith) (sym (job-found .1) ∙ walked (job-1 4 8 13 1) refl h .started ∙ h .execution-start),
+  λ h. let e : _≡_ {A = ℕ} 12 13 = h .completion in omega arith,
+  λ h. let e : _≡_ {A = ℕ} 0 1 = is-one 4 9 13 0 h in omega arith,
+  λ h. let e : _≡_ {A = ℕ} 2 1 = is-one 4 9 13 2 h in omega arith,
 )
 
 pub plan-c : PlanC

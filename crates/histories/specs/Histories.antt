@@ -10,7 +10,7 @@ use lib.ListN.{replicate, take}
 use Rattle.rules.specs.Calls.{opening}
 use Rattle.rules.specs.declared.Call.{Call}
 use Rattle.rules.specs.declared.Call.the-variants.{Instant}
-use Rattle.guarantees.specs.History.{Event, Comes, Starts, Stops, Finishes, Completes, Ends, Takes, Begins, history}
+use Rattle.guarantees.specs.History.{Event, Comes, Starts, Stops, Finishes, Completes, Ends, Takes, GivesWay, Begins, history}
 use Rattle.entries.specs.declared.JobEntry.{JobEntry}
 use Rattle.rules.specs.declared.Due.the-variants.{Tick}
 use Rattle.guarantees.specs.Queries.{none-yet}
@@ -41,7 +41,7 @@ unfoldable pub history-a : List Event
 history-a =
     Comes 0 ∷ Takes 3 0 false ∷ Begins 0 NoTask NoTask ∷
     Comes 2 ∷ Finishes 3 ∷ Ends 2 ∷ Takes 2 2 false ∷ Begins 2 (Task 3) NoTask ∷ Starts 3 2 ∷
-    Comes 3 ∷ Takes 1 3 true ∷
+    Comes 3 ∷ Takes 1 3 true ∷ GivesWay 2 ∷
     Comes 7 ∷ Stops 3 7 ∷ Ends 7 ∷ Begins 7 (Task 1) (Task 3) ∷
     Comes 9 ∷ Starts 1 9 ∷ Completes 3 9 ∷
     Comes 11 ∷ Finishes 2 ∷
@@ -51,19 +51,20 @@ history-a =
     Comes 17 ∷ Completes 2 17 ∷ Ends 17 ∷ []
 
 unfoldable pub calls-b : List Call
-calls-b = Instant 0 8 ∷ Instant 2 4 ∷ Instant 4 2 ∷ Instant 7 0 ∷ Instant 9 0 ∷ Instant 11 0 ∷ Instant 12 0 ∷ Instant 14 0 ∷ Instant 15 0 ∷ []
+calls-b = Instant 0 8 ∷ Instant 2 4 ∷ Instant 4 2 ∷ Instant 7 0 ∷ Instant 9 0 ∷ Instant 11 0 ∷ Instant 12 0 ∷ Instant 13 0 ∷ Instant 16 0 ∷ Instant 17 0 ∷ []
 
 unfoldable pub history-b : List Event
 history-b =
     Comes 0 ∷ Takes 3 0 false ∷ Begins 0 NoTask NoTask ∷
     Comes 2 ∷ Finishes 3 ∷ Ends 2 ∷ Takes 2 2 false ∷ Begins 2 (Task 3) NoTask ∷ Starts 3 2 ∷
-    Comes 4 ∷ Finishes 2 ∷ Takes 1 4 true ∷
-    Comes 7 ∷ Stops 3 7 ∷ Ends 7 ∷ Begins 7 (Task 2) (Task 3) ∷ Starts 2 7 ∷
-    Comes 9 ∷ Completes 3 9 ∷
-    Comes 11 ∷ Stops 2 11 ∷ Finishes 1 ∷ Ends 11 ∷ Begins 11 (Task 1) (Task 2) ∷ Starts 1 11 ∷
-    Comes 12 ∷ Completes 2 12 ∷
-    Comes 14 ∷ Stops 1 14 ∷ Ends 14 ∷ Begins 14 NoTask (Task 1) ∷
-    Comes 15 ∷ Completes 1 15 ∷ Ends 15 ∷ []
+    Comes 4 ∷ Finishes 2 ∷ Takes 1 4 true ∷ GivesWay 2 ∷
+    Comes 7 ∷ Stops 3 7 ∷ Ends 7 ∷ Begins 7 (Task 1) (Task 3) ∷
+    Comes 9 ∷ Starts 1 9 ∷ Completes 3 9 ∷
+    Comes 11 ∷ Finishes 2 ∷
+    Comes 12 ∷ Stops 1 12 ∷ Ends 12 ∷ Begins 12 (Task 2) (Task 1) ∷ Starts 2 12 ∷
+    Comes 13 ∷ Completes 1 13 ∷
+    Comes 16 ∷ Stops 2 16 ∷ Ends 16 ∷ Begins 16 NoTask (Task 2) ∷
+    Comes 17 ∷ Completes 2 17 ∷ Ends 17 ∷ []
 
 unfoldable pub calls-c : List Call
 calls-c = Instant 0 2 ∷ Instant 2 0 ∷ Instant 5 0 ∷ Instant 6 0 ∷ []
@@ -81,7 +82,7 @@ calls-d = Instant 0 4 ∷ Instant 1 2 ∷ Instant 3 0 ∷ Instant 6 0 ∷ Instan
 unfoldable pub history-d : List Event
 history-d =
     Comes 0 ∷ Takes 2 0 false ∷ Begins 0 NoTask NoTask ∷
-    Comes 1 ∷ Takes 1 1 true ∷ Ends 1 ∷ Begins 1 (Task 1) NoTask ∷
+    Comes 1 ∷ Takes 1 1 true ∷ GivesWay 2 ∷ Ends 1 ∷ Begins 1 (Task 1) NoTask ∷
     Comes 3 ∷ Starts 1 3 ∷ Finishes 2 ∷
     Comes 6 ∷ Stops 1 6 ∷ Ends 6 ∷ Begins 6 (Task 2) (Task 1) ∷ Starts 2 6 ∷
     Comes 7 ∷ Completes 1 7 ∷
@@ -142,26 +143,36 @@ PlansAccepted =
 
 -- ---- Wrong histories
 
--- a marked job whose second interval runs a lower one with nothing finished: at 1 the copy-in of 3 is under way and is not cancelled
+-- a marked job whose second interval runs a lower one: at 1 the copy-in of 3 is under way and is not cancelled
 unfoldable pub second-lower : List Event
 second-lower =
     Comes 0 ∷ Takes 3 0 false ∷ Begins 0 NoTask NoTask ∷
     Comes 1 ∷ Takes 1 1 true ∷
     Comes 2 ∷ Finishes 3 ∷ Ends 2 ∷ Begins 2 (Task 3) NoTask ∷ Starts 3 2 ∷ []
 
--- one whose second does not, though a lower copy-in was finished: plan B with job 1 in the interval that executes job 2
-unfoldable pub second-not-lower : List Event
-second-not-lower =
+-- and one whose second runs a lower one that was finished when it came: plan B where the copy-in of 2 is not thrown out
+unfoldable pub second-finished : List Event
+second-finished =
     Comes 0 ∷ Takes 3 0 false ∷ Begins 0 NoTask NoTask ∷
     Comes 2 ∷ Finishes 3 ∷ Ends 2 ∷ Takes 2 2 false ∷ Begins 2 (Task 3) NoTask ∷ Starts 3 2 ∷
     Comes 4 ∷ Finishes 2 ∷ Takes 1 4 true ∷
-    Comes 7 ∷ Stops 3 7 ∷ Ends 7 ∷ Begins 7 (Task 1) (Task 3) ∷ []
+    Comes 7 ∷ Stops 3 7 ∷ Ends 7 ∷ Begins 7 (Task 2) (Task 3) ∷ Starts 2 7 ∷ []
+
+-- plan B with a job that was thrown out and executes without being copied in again
+unfoldable pub thrown-out-runs : List Event
+thrown-out-runs =
+    Comes 0 ∷ Takes 3 0 false ∷ Begins 0 NoTask NoTask ∷
+    Comes 2 ∷ Finishes 3 ∷ Ends 2 ∷ Takes 2 2 false ∷ Begins 2 (Task 3) NoTask ∷ Starts 3 2 ∷
+    Comes 4 ∷ Finishes 2 ∷ Takes 1 4 true ∷ GivesWay 2 ∷
+    Comes 7 ∷ Stops 3 7 ∷ Ends 7 ∷ Begins 7 (Task 1) (Task 3) ∷
+    Comes 9 ∷ Starts 1 9 ∷ Completes 3 9 ∷
+    Comes 12 ∷ Stops 1 12 ∷ Ends 12 ∷ Begins 12 (Task 2) (Task 1) ∷ Starts 2 12 ∷ []
 
 -- a third interval that is idle: plan D where the cancelled job 2 is not copied in again
 unfoldable pub third-idle : List Event
 third-idle =
     Comes 0 ∷ Takes 2 0 false ∷ Begins 0 NoTask NoTask ∷
-    Comes 1 ∷ Takes 1 1 true ∷ Ends 1 ∷ Begins 1 (Task 1) NoTask ∷
+    Comes 1 ∷ Takes 1 1 true ∷ GivesWay 2 ∷ Ends 1 ∷ Begins 1 (Task 1) NoTask ∷
     Comes 3 ∷ Starts 1 3 ∷
     Comes 6 ∷ Stops 1 6 ∷ Ends 6 ∷ Begins 6 NoTask (Task 1) ∷ []
 
@@ -169,7 +180,7 @@ third-idle =
 unfoldable pub third-lower : List Event
 third-lower =
     Comes 0 ∷ Takes 2 0 false ∷ Begins 0 NoTask NoTask ∷
-    Comes 1 ∷ Takes 1 1 true ∷ Takes 3 1 false ∷ Ends 1 ∷ Begins 1 (Task 1) NoTask ∷
+    Comes 1 ∷ Takes 1 1 true ∷ Takes 3 1 false ∷ GivesWay 2 ∷ Ends 1 ∷ Begins 1 (Task 1) NoTask ∷
     Comes 3 ∷ Starts 1 3 ∷ Finishes 3 ∷
     Comes 6 ∷ Stops 1 6 ∷ Ends 6 ∷ Begins 6 (Task 3) (Task 1) ∷ Starts 3 6 ∷ []
 
@@ -177,7 +188,7 @@ third-lower =
 unfoldable pub copyout-late : List Event
 copyout-late =
     Comes 0 ∷ Takes 2 0 false ∷ Begins 0 NoTask NoTask ∷
-    Comes 1 ∷ Takes 1 1 true ∷ Ends 1 ∷ Begins 1 (Task 1) NoTask ∷
+    Comes 1 ∷ Takes 1 1 true ∷ GivesWay 2 ∷ Ends 1 ∷ Begins 1 (Task 1) NoTask ∷
     Comes 3 ∷ Starts 1 3 ∷ Finishes 2 ∷
     Comes 6 ∷ Stops 1 6 ∷ Ends 6 ∷ Begins 6 (Task 2) NoTask ∷ Starts 2 6 ∷
     Comes 10 ∷ Stops 2 10 ∷ Ends 10 ∷ Begins 10 NoTask (Task 1) ∷
@@ -258,7 +269,7 @@ loaded-late =
 unfoldable pub promoted-early : List Event
 promoted-early =
     Comes 0 ∷ Takes 2 0 false ∷ Begins 0 NoTask NoTask ∷
-    Comes 1 ∷ Takes 1 1 true ∷ Ends 1 ∷ Begins 1 (Task 1) NoTask ∷ Starts 1 1 ∷
+    Comes 1 ∷ Takes 1 1 true ∷ GivesWay 2 ∷ Ends 1 ∷ Begins 1 (Task 1) NoTask ∷ Starts 1 1 ∷
     Comes 3 ∷ Finishes 2 ∷
     Comes 4 ∷ Stops 1 4 ∷ Ends 4 ∷ Begins 4 (Task 2) (Task 1) ∷ Starts 2 4 ∷ []
 
@@ -294,7 +305,7 @@ starts-twice =
 unfoldable pub stops-unstarted : List Event
 stops-unstarted =
     Comes 0 ∷ Takes 2 0 false ∷ Begins 0 NoTask NoTask ∷
-    Comes 1 ∷ Takes 1 1 true ∷ Ends 1 ∷ Begins 1 (Task 1) NoTask ∷
+    Comes 1 ∷ Takes 1 1 true ∷ GivesWay 2 ∷ Ends 1 ∷ Begins 1 (Task 1) NoTask ∷
     Comes 2 ∷ Stops 1 2 ∷ []
 
 -- an interval ends while its job executes
@@ -310,7 +321,8 @@ Refuses h = Holds plans-table h → ⊥
 unfoldable pub WrongRefused : Type 0
 WrongRefused =
     Refuses second-lower
-    × Refuses second-not-lower
+    × Refuses second-finished
+    × Refuses thrown-out-runs
     × Refuses third-idle
     × Refuses third-lower
     × Refuses copyout-late
@@ -334,25 +346,26 @@ WrongRefused =
 
 -- ---- Entries
 
--- plan B before the instant at 15, at which job 1 completes
-unfoldable pub before-15 : List Event
-before-15 = take 31 history-b
+-- plan B before the instant at 13, at which job 1 completes
+unfoldable pub before-13 : List Event
+before-13 = take 27 history-b
 
 abbrev pub job-1 : ℕ → ℕ → ℕ → ℕ → JobEntry
 job-1 release start completion blocked = record { task = 1; release = release; start = start; completion = completion; blocked = blocked }
 
 abbrev pub Tells : JobEntry → Type 0
-Tells e = TellsJob (plans-table .priority) before-15 15 e
+Tells e = TellsJob (plans-table .priority) before-13 13 e
 
--- "Job 1 starts at 11, completes at 15, blocked 2", released at 4: this tells the truth, and with one number another it does not
+-- job 1 is released at 4, starts at 9, completes at 13 and is blocked in one interval: this tells the truth, and with one number another it
+-- does not
 unfoldable pub OneEntry : Type 0
 OneEntry =
-    Tells (job-1 4 11 15 2)
-    × (Tells (job-1 3 11 15 2) → ⊥)
-    × (Tells (job-1 4 10 15 2) → ⊥)
-    × (Tells (job-1 4 11 14 2) → ⊥)
-    × (Tells (job-1 4 11 15 1) → ⊥)
-    × (Tells (job-1 4 11 15 3) → ⊥)
+    Tells (job-1 4 9 13 1)
+    × (Tells (job-1 3 9 13 1) → ⊥)
+    × (Tells (job-1 4 8 13 1) → ⊥)
+    × (Tells (job-1 4 9 12 1) → ⊥)
+    × (Tells (job-1 4 9 13 0) → ⊥)
+    × (Tells (job-1 4 9 13 2) → ⊥)
 
 -- what plan C's history has for the entries: its intervals 0–2, 2–5 and 5–6, and its completion
 unfoldable pub PlanC : Type 0

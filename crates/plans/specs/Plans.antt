@@ -1,4 +1,4 @@
--- The plans of document 01, and an input for each of refusals 8, 9, 13 and 17.
+-- The plans of document 01, plans for what finished copies do when a release comes (2/13), and an input for each of refusals 8, 9, 13 and 17.
 use mathlib.Core.List.{List, [], _∷_, _++_}
 use Prim.Native.Nat.{ℕ}
 use Rattle.words.specs.Words.{bytesOf}
@@ -17,6 +17,10 @@ release t n = 2 ∷ n ∷ bytesOf 8 t
 
 unfoldable pub tasks : List ℕ
 tasks = task 1 1 1 2 3 1 ++ (task 2 2 0 2 4 1 ++ task 3 3 0 2 5 2)
+
+-- the same with task 2 marked too, and a lower task 4
+unfoldable pub two-marked : List ℕ
+two-marked = task 1 1 1 2 3 1 ++ (task 2 2 1 2 4 1 ++ (task 3 3 0 2 5 2 ++ task 4 4 0 2 5 2))
 
 -- ---- The records, an entry a line: the fields as document 01 prints them, from the bytes that it names and not by the definitions of the code
 
@@ -53,13 +57,13 @@ record-A =
 unfoldable pub record-B : List ℕ
 record-B =
     interval 0 2 0 none 0 none 3 1 none ++
-    interval 2 7 1 3 1 none 2 1 none ++
+    interval 2 7 1 3 1 none 2 3 1 ++
     job 3 0 2 9 0 ++
-    interval 7 11 0 2 1 3 1 1 none ++
-    job 2 2 7 12 1 ++
-    interval 11 14 1 1 1 2 none 0 none ++
-    job 1 4 11 15 2 ++
-    interval 14 15 0 none 0 1 none 0 none
+    interval 7 12 0 1 2 3 2 1 none ++
+    job 1 4 9 13 1 ++
+    interval 12 16 1 2 1 1 none 0 none ++
+    job 2 2 12 17 1 ++
+    interval 16 17 0 none 0 2 none 0 none
 
 -- plan C: 99 bytes
 unfoldable pub record-C : List ℕ
@@ -109,6 +113,70 @@ record-F′ =
     job 1 6 8 12 0 ++
     interval 11 12 0 none 0 1 none 0 none
 
+-- ---- The records of 2/13
+
+-- a copy that ended two ticks before the marked release is thrown out, and the release is promoted: 201 bytes
+unfoldable pub record-thrown-out : List ℕ
+record-thrown-out =
+    interval 0 2 0 none 0 none 3 1 none ++
+    interval 2 7 1 3 1 none 2 3 1 ++
+    job 3 0 2 9 0 ++
+    interval 7 12 0 1 2 3 2 1 none ++
+    job 1 6 9 13 1 ++
+    interval 12 16 1 2 1 1 none 0 none ++
+    job 2 2 12 17 1 ++
+    interval 16 17 0 none 0 2 none 0 none
+
+-- the release of 2 throws out the copy of 3, and that of 1, which comes later and is higher, is promoted: 252 bytes
+unfoldable pub record-higher-promoted : List ℕ
+record-higher-promoted =
+    interval 0 2 0 none 0 none 4 1 none ++
+    interval 2 7 1 4 1 none 3 3 1 ++
+    job 4 0 2 9 0 ++
+    interval 7 12 0 1 2 4 2 1 none ++
+    job 1 5 9 13 1 ++
+    interval 12 16 1 2 1 1 3 1 none ++
+    job 2 4 12 17 1 ++
+    interval 16 21 0 3 1 2 none 0 none ++
+    job 3 2 16 23 1 ++
+    interval 21 23 1 none 0 3 none 0 none
+
+-- a copy of a higher-priority task stays: 201 bytes
+unfoldable pub record-higher-stays : List ℕ
+record-higher-stays =
+    interval 0 2 0 none 0 none 4 1 none ++
+    interval 2 7 1 4 1 none 1 1 none ++
+    job 4 0 2 9 0 ++
+    interval 7 11 0 1 1 4 2 1 none ++
+    job 1 2 7 12 1 ++
+    interval 11 15 1 2 1 1 none 0 none ++
+    job 2 4 11 16 1 ++
+    interval 15 16 0 none 0 2 none 0 none
+
+-- an unmarked release throws out nothing: 201 bytes
+unfoldable pub record-unmarked : List ℕ
+record-unmarked =
+    interval 0 2 0 none 0 none 1 1 none ++
+    interval 2 5 1 1 1 none 3 1 none ++
+    job 1 0 2 6 0 ++
+    interval 5 10 0 3 1 1 2 1 none ++
+    job 3 2 5 12 0 ++
+    interval 10 14 1 2 1 3 none 0 none ++
+    job 2 4 10 15 1 ++
+    interval 14 15 0 none 0 2 none 0 none
+
+-- the copy's interval ends at step b of the release's instant, so that it stays: 201 bytes
+unfoldable pub record-interval-over : List ℕ
+record-interval-over =
+    interval 0 2 0 none 0 none 3 1 none ++
+    interval 2 7 1 3 1 none 2 1 none ++
+    job 3 0 2 9 0 ++
+    interval 7 11 0 2 1 3 1 1 none ++
+    job 2 2 7 12 1 ++
+    interval 11 14 1 1 1 2 none 0 none ++
+    job 1 7 11 15 1 ++
+    interval 14 15 0 none 0 1 none 0 none
+
 -- ---- The rows
 
 unfoldable pub plans : List Row
@@ -121,6 +189,12 @@ plans =
     recorded (tasks ++ (release 0 1 ++ (release 5 1))) record-F 109 111 ∷
     recorded (tasks ++ (release 0 1 ++ (release 6 1))) record-F′ 174 176 ∷
     recorded (tasks) [] 0 2 ∷
+    -- finished copies
+    recorded (tasks ++ (release 0 3 ++ (release 2 2 ++ (release 6 1)))) record-thrown-out 201 203 ∷
+    recorded (two-marked ++ (release 0 4 ++ (release 2 3 ++ (release 4 2 ++ (release 5 1))))) record-higher-promoted 252 254 ∷
+    recorded (two-marked ++ (release 0 4 ++ (release 2 1 ++ (release 4 2)))) record-higher-stays 201 203 ∷
+    recorded (tasks ++ (release 0 1 ++ (release 2 3 ++ (release 4 2)))) record-unmarked 201 203 ∷
+    recorded (tasks ++ (release 0 3 ++ (release 2 2 ++ (release 7 1)))) record-interval-over 201 203 ∷
     -- 8: the first entry is a release
     refused (release 0 1) 3 8 0 ∷
     -- 9: time 5 task 2, then time 5 task 2

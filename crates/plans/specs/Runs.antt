@@ -32,7 +32,7 @@ runs =
     recorded (task 25 12 0 1 2 2) ([]) 0 2 ∷
     recorded (task 19 131 1 1 1 1 ++ task 1 11 1 5 5 1 ++ task 22 34 1 1 1 1 ++ task 8 19 1 1 1 1 ++ task 12 234 1 1 1 1 ++ release 2 8 ++ release 3 12 ++ release 3 19) (interval 2 3 0 none 0 none 8 1 none ++ interval 3 4 1 8 1 none 19 1 none ++ job 8 2 3 5 0 ++ interval 4 6 0 19 1 8 12 1 none ++ job 19 3 4 7 0 ++ interval 6 7 1 12 1 19 none 0 none ++ job 12 3 6 8 0 ++ interval 7 8 0 none 0 12 none 0 none) 201 203 ∷
     recorded (task 26 162 0 3 1 2 ++ task 9 242 1 3 3 2 ++ task 14 250 0 1 2 2 ++ release 2 14 ++ release 3 14 ++ release 5 9 ++ release 5 14 ++ release 12 14 ++ release 12 26 ++ release 15 14 ++ release 15 26) (interval 2 3 0 none 0 none 14 1 none ++ skipped 14 3 ++ interval 3 5 1 14 1 none none 0 none ++ skipped 14 5 ++ job 14 2 3 7 0 ++ interval 5 10 0 none 0 14 9 1 none ++ interval 10 13 1 9 1 none none 0 none ++ job 9 5 10 15 0 ++ skipped 14 15 ++ skipped 26 15 ++ interval 13 18 0 none 0 9 26 1 none ++ interval 18 19 1 26 1 none 14 1 none ++ job 26 12 18 21 1 ++ interval 19 21 0 14 1 26 none 0 none ++ job 14 12 19 23 0 ++ interval 21 23 1 none 0 14 none 0 none) 340 342 ∷
-    recorded (task 26 83 1 2 2 2 ++ task 2 251 0 3 3 2 ++ task 9 243 1 2 5 5 ++ release 2 2 ++ release 3 2 ++ release 4 9 ++ release 7 26 ++ release 9 2 ++ release 10 9) (skipped 2 3 ++ interval 2 4 0 none 0 none 2 2 9 ++ skipped 2 9 ++ skipped 9 10 ++ interval 4 11 1 9 2 none 2 1 none ++ job 9 4 6 16 0 ++ interval 11 18 0 2 1 9 26 1 none ++ job 2 2 11 20 0 ++ interval 18 20 1 26 1 2 none 0 none ++ job 26 7 18 22 2 ++ interval 20 22 0 none 0 26 none 0 none) 231 233 ∷
+    recorded (task 26 83 1 2 2 2 ++ task 2 251 0 3 3 2 ++ task 9 243 1 2 5 5 ++ release 2 2 ++ release 3 2 ++ release 4 9 ++ release 7 26 ++ release 9 2 ++ release 10 9) (skipped 2 3 ++ interval 2 4 0 none 0 none 2 2 9 ++ skipped 2 9 ++ skipped 9 10 ++ interval 4 11 1 9 2 none 2 3 26 ++ job 9 4 6 16 0 ++ interval 11 19 0 26 2 9 2 1 none ++ job 26 7 13 21 1 ++ interval 19 22 1 2 1 26 none 0 none ++ job 2 2 19 24 0 ++ interval 22 24 0 none 0 2 none 0 none) 231 233 ∷
     recorded (task 29 238 1 1 1 1 ++ task 0 160 1 1 1 1 ++ task 8 1 1 1 1 1 ++ release 0 0 ++ release 0 8) (interval 0 1 0 none 0 none 8 1 none ++ interval 1 2 1 8 1 none 0 1 none ++ job 8 0 1 3 0 ++ interval 2 3 0 0 1 8 none 0 none ++ job 0 0 2 4 0 ++ interval 3 4 1 none 0 0 none 0 none) 150 152 ∷
     recorded (task 23 196 1 3 1 1 ++ task 8 74 1 1 3 1 ++ release 0 8 ++ release 0 23 ++ release 8 8 ++ release 8 23 ++ release 10 23 ++ release 11 23 ++ release 12 23) (interval 0 1 0 none 0 none 8 1 none ++ interval 1 4 1 8 1 none 23 1 none ++ job 8 0 1 5 0 ++ interval 4 5 0 23 1 8 none 0 none ++ job 23 0 4 6 0 ++ interval 5 6 1 none 0 23 none 0 none ++ interval 8 9 0 none 0 none 8 1 none ++ skipped 23 10 ++ skipped 23 11 ++ interval 9 12 1 8 1 none 23 1 none ++ skipped 23 12 ++ job 8 8 9 13 0 ++ interval 12 13 0 23 1 8 none 0 none ++ job 23 8 12 14 0 ++ interval 13 14 1 none 0 23 none 0 none) 330 332 ∷
     refused (task 1 195 1 4 5 1 ++ task 9 120 0 4 4 5 ++ task 7 131 1 4 4 1 ++ task 20 50 0 4 3 1 ++ release 1 7 ++ release 6 7 ++ release 0 9 ++ release 8 1) 2 9 84 ∷
@@ -48,7 +48,7 @@ runs =
     recorded (task 26 144 1 1 3 4 ++ task 14 188 1 4 4 4 ++ task 8 148 1 2 3 3 ++ task 9 80 0 5 1 2) ([]) 0 2 ∷
     answered (task 0 46 1 2 2 1 ++ task 19 73 1 1 2 2 ++ task 22 77 1 3 1 1) (Mark 255 2 ∷ Instant 1 4718593 ∷ Instant 2 1 ∷ Instant 3 1 ∷ []) (0 ∷ 0 ∷ 16 ∷ 0 ∷ 0 ∷ 3 ∷ 0 ∷ 1 ∷ 3 ∷ 0 ∷ 1 ∷ 4 ∷ []) (skipped 0 2 ++ interval 1 3 0 none 0 none 0 1 none ++ skipped 0 3) ∷
     answered (task 0 186 0 1 2 2 ++ task 15 168 0 1 1 2 ++ task 24 161 0 2 2 2 ++ task 20 226 0 2 2 2) (Instant 1 0 ∷ Mark 32 1 ∷ Instant 2 1048577 ∷ Instant 3 16809984 ∷ []) (0 ∷ 0 ∷ 0 ∷ 0 ∷ 16 ∷ 0 ∷ 0 ∷ 3 ∷ 0 ∷ 0 ∷ 5 ∷ []) (interval 2 3 0 none 0 none 0 1 none) ∷
-    answered (task 26 96 1 4 2 1 ++ task 2 199 0 1 5 2 ++ task 20 39 1 1 4 5 ++ task 17 150 1 1 2 2) (Instant 0 0 ∷ Mark 17 3 ∷ Instant 2 0 ∷ Instant 4 0 ∷ Mark 170 2 ∷ Instant 5 131072 ∷ Instant 6 0 ∷ []) (0 ∷ 0 ∷ 0 ∷ 0 ∷ 6 ∷ 0 ∷ 0 ∷ 0 ∷ 0 ∷ 16 ∷ 0 ∷ 0 ∷ 6 ∷ 0 ∷ 0 ∷ 8 ∷ []) (interval 5 6 0 none 0 none 17 1 none) ∷
+    answered (task 26 96 1 4 2 1 ++ task 2 199 0 1 5 2 ++ task 20 39 1 1 4 5 ++ task 17 150 1 1 2 2) (Instant 0 0 ∷ Mark 17 3 ∷ Instant 2 0 ∷ Instant 4 0 ∷ Mark 170 2 ∷ Instant 5 131072 ∷ Instant 6 67108864 ∷ []) (0 ∷ 0 ∷ 0 ∷ 0 ∷ 6 ∷ 0 ∷ 0 ∷ 0 ∷ 0 ∷ 16 ∷ 0 ∷ 0 ∷ 6 ∷ 0 ∷ 0 ∷ 8 ∷ []) (interval 5 6 0 none 0 none 17 1 none) ∷
     answered (task 12 35 1 3 1 5 ++ task 29 191 1 3 5 1 ++ task 25 169 1 4 2 2) (Instant 0 0 ∷ Instant 2 536875008 ∷ Instant 5 33554432 ∷ Instant 6 33554432 ∷ Instant 9 570425344 ∷ Instant 11 33558528 ∷ Instant 12 536875008 ∷ []) (0 ∷ 0 ∷ 0 ∷ 0 ∷ 0 ∷ 0 ∷ 5 ∷ 0 ∷ 0 ∷ 6 ∷ 0 ∷ 33554432 ∷ 9 ∷ 0 ∷ 570425344 ∷ 11 ∷ 0 ∷ 33558528 ∷ 14 ∷ 0 ∷ 536875008 ∷ 14 ∷ []) (interval 2 5 0 none 0 none 12 1 none ++ skipped 25 6 ++ interval 5 9 1 12 1 none 25 1 none ++ skipped 25 9 ++ skipped 29 9 ++ skipped 12 11 ++ skipped 25 11 ++ skipped 12 12 ++ skipped 29 12) ∷
     answered (task 20 224 0 2 2 1 ++ task 4 251 0 1 1 3 ++ task 29 4 1 1 3 3) (Instant 7 0 ∷ Instant 9 0 ∷ []) (0 ∷ 0 ∷ 0 ∷ 0 ∷ 0 ∷ 0 ∷ []) ([]) ∷
     answered (task 14 204 0 3 4 3 ++ task 30 72 0 3 4 1) (Instant 0 0 ∷ Instant 1 0 ∷ Instant 3 0 ∷ []) (0 ∷ 0 ∷ 0 ∷ 0 ∷ 0 ∷ 0 ∷ 0 ∷ 0 ∷ []) ([]) ∷
@@ -69,16 +69,16 @@ runs =
     answered (task 23 212 1 3 1 2 ++ task 25 58 1 1 3 5) (Instant 562400510 33554432 ∷ Instant 562400511 0 ∷ []) (0 ∷ 0 ∷ 0 ∷ 0 ∷ 562400511 ∷ 0 ∷ 0 ∷ 562400514 ∷ []) (interval 562400510 562400511 0 none 0 none 25 1 none) ∷
     answered (task 6 218 0 1 1 1 ++ task 12 225 0 1 1 1 ++ task 30 156 0 1 1 1) (Instant 0 0 ∷ Instant 2 1073741824 ∷ Mark 12 0 ∷ Instant 3 64 ∷ Instant 4 1073741888 ∷ Instant 5 4096 ∷ Instant 6 4160 ∷ Instant 7 1073745984 ∷ Instant 8 4160 ∷ Instant 9 1073745984 ∷ Instant 10 0 ∷ Instant 11 64 ∷ []) (0 ∷ 0 ∷ 0 ∷ 0 ∷ 0 ∷ 0 ∷ 3 ∷ 0 ∷ 0 ∷ 0 ∷ 4 ∷ 0 ∷ 1073741888 ∷ 5 ∷ 0 ∷ 0 ∷ 6 ∷ 0 ∷ 4160 ∷ 7 ∷ 0 ∷ 4096 ∷ 8 ∷ 0 ∷ 4160 ∷ 9 ∷ 0 ∷ 1073741888 ∷ 10 ∷ 0 ∷ 0 ∷ 11 ∷ 0 ∷ 64 ∷ 12 ∷ []) (interval 2 3 0 none 0 none 30 1 none ++ interval 3 4 1 30 1 none 6 1 none ++ skipped 6 4 ++ skipped 30 4 ++ job 30 2 3 5 0 ++ interval 4 6 0 6 1 30 12 1 none ++ skipped 6 6 ++ skipped 12 6 ++ job 6 3 4 7 0 ++ skipped 12 7 ++ interval 6 8 1 12 1 6 30 1 none ++ skipped 6 8 ++ skipped 12 8 ++ job 12 5 6 9 0 ++ skipped 6 9 ++ skipped 30 9 ++ interval 8 10 0 30 1 12 6 1 none ++ job 30 7 8 11 1 ++ skipped 6 11) ∷
     answered (task 5 174 0 2 2 1 ++ task 31 86 0 1 4 2 ++ task 11 218 1 2 3 2 ++ task 4 141 1 1 2 4) (Instant 14429351134422587995 2064 ∷ Instant 947003968 2147485728 ∷ []) (0 ∷ 0 ∷ 10 ∷ 0 ∷ 0 ∷ 947003969 ∷ []) ([]) ∷
-    answered (task 2 23 1 1 1 1 ++ task 0 91 1 1 1 1 ++ task 5 211 1 1 1 1 ++ task 19 115 1 1 1 1) (Instant 0 0 ∷ Instant 1 0 ∷ Instant 2 33 ∷ Instant 3 32 ∷ Instant 4 1 ∷ Instant 5 1 ∷ Mark 2 255 ∷ []) (0 ∷ 0 ∷ 0 ∷ 0 ∷ 0 ∷ 0 ∷ 0 ∷ 0 ∷ 3 ∷ 0 ∷ 32 ∷ 4 ∷ 0 ∷ 1 ∷ 5 ∷ 0 ∷ 0 ∷ 6 ∷ 6 ∷ []) (interval 2 3 0 none 0 none 0 1 none ++ skipped 5 3 ++ interval 3 4 1 0 1 none 5 1 none ++ skipped 0 4 ++ job 0 2 3 5 0) ∷
+    answered (task 2 23 1 1 1 1 ++ task 0 91 1 1 1 1 ++ task 5 211 1 1 1 1 ++ task 19 115 1 1 1 1) (Instant 0 0 ∷ Instant 1 0 ∷ Instant 2 33 ∷ Instant 3 32 ∷ Instant 4 524288 ∷ Instant 5 0 ∷ Instant 6 4 ∷ []) (0 ∷ 0 ∷ 0 ∷ 0 ∷ 0 ∷ 0 ∷ 0 ∷ 0 ∷ 3 ∷ 0 ∷ 32 ∷ 4 ∷ 0 ∷ 0 ∷ 5 ∷ 0 ∷ 0 ∷ 6 ∷ 0 ∷ 0 ∷ 7 ∷ []) (interval 2 3 0 none 0 none 0 1 none ++ skipped 5 3 ++ interval 3 4 1 0 1 none 5 1 none ++ job 0 2 3 5 0 ++ interval 4 6 0 5 1 0 19 1 none) ∷
     answered (task 25 156 0 1 1 1 ++ task 26 177 1 2 2 1) (Instant 0 0 ∷ Instant 1 0 ∷ Instant 2 67108864 ∷ Instant 4 0 ∷ Instant 6 0 ∷ Instant 7 33554432 ∷ Instant 8 0 ∷ []) (0 ∷ 0 ∷ 0 ∷ 0 ∷ 0 ∷ 0 ∷ 0 ∷ 0 ∷ 4 ∷ 0 ∷ 0 ∷ 6 ∷ 0 ∷ 0 ∷ 7 ∷ 0 ∷ 0 ∷ 8 ∷ 0 ∷ 0 ∷ 9 ∷ []) (interval 2 4 0 none 0 none 26 1 none ++ interval 4 6 1 26 1 none none 0 none ++ job 26 2 4 7 0 ++ interval 6 8 0 none 0 26 25 1 none) ∷
     answered (task 20 204 1 1 1 2 ++ task 4 117 0 2 1 2 ++ task 29 48 1 2 1 2) (Instant 0 0 ∷ Instant 1 0 ∷ Mark 4 1 ∷ Instant 2 1048576 ∷ []) (0 ∷ 0 ∷ 0 ∷ 0 ∷ 0 ∷ 0 ∷ 0 ∷ 0 ∷ 0 ∷ 3 ∷ []) ([]) ∷
-    answered (task 5 203 1 1 2 2 ++ task 15 255 0 1 1 2 ++ task 6 190 1 1 2 1) (Instant 0 32768 ∷ Mark 15 0 ∷ Instant 1 0 ∷ Instant 2 0 ∷ Instant 4 32768 ∷ Instant 5 32 ∷ Instant 6 0 ∷ Instant 6 64 ∷ Instant 8 32768 ∷ Instant 9 0 ∷ []) (0 ∷ 0 ∷ 0 ∷ 0 ∷ 1 ∷ 17 ∷ 0 ∷ 0 ∷ 2 ∷ 0 ∷ 0 ∷ 4 ∷ 0 ∷ 0 ∷ 5 ∷ 0 ∷ 0 ∷ 6 ∷ 0 ∷ 0 ∷ 8 ∷ 14 ∷ 0 ∷ 0 ∷ 9 ∷ 0 ∷ 0 ∷ 10 ∷ []) (interval 0 1 0 none 0 none 15 1 none ++ interval 1 2 1 15 1 none none 0 none ++ job 15 0 1 4 0 ++ interval 2 5 0 none 0 15 15 1 none ++ interval 5 6 1 15 1 none 5 1 none ++ job 15 4 5 8 0 ++ interval 6 9 0 5 1 15 15 1 none) ∷
-    answered (task 16 237 1 1 1 1 ++ task 3 175 0 1 1 1 ++ task 1 168 1 1 1 1 ++ task 12 30 1 1 1 1) (Instant 1 0 ∷ Instant 2 0 ∷ Instant 3 0 ∷ Instant 4 8 ∷ Instant 5 0 ∷ Instant 6 0 ∷ Instant 7 0 ∷ Instant 621 0 ∷ []) (0 ∷ 0 ∷ 0 ∷ 0 ∷ 0 ∷ 0 ∷ 0 ∷ 0 ∷ 0 ∷ 0 ∷ 5 ∷ 0 ∷ 0 ∷ 6 ∷ 0 ∷ 0 ∷ 7 ∷ 0 ∷ 0 ∷ 0 ∷ 0 ∷ []) (interval 4 5 0 none 0 none 3 1 none ++ interval 5 6 1 3 1 none none 0 none ++ job 3 4 5 7 0 ++ interval 6 7 0 none 0 3 none 0 none) ∷
-    answered (task 7 160 1 1 1 2 ++ task 26 223 1 2 1 2 ++ task 23 146 1 2 1 1) (Instant 1 8388608 ∷ Instant 3 0 ∷ Instant 4 0 ∷ Instant 5 75497472 ∷ Instant 7 0 ∷ Instant 8 67108864 ∷ []) (0 ∷ 0 ∷ 0 ∷ 0 ∷ 3 ∷ 0 ∷ 0 ∷ 4 ∷ 0 ∷ 0 ∷ 5 ∷ 0 ∷ 0 ∷ 7 ∷ 0 ∷ 0 ∷ 8 ∷ 0 ∷ 67108864 ∷ 9 ∷ []) (interval 1 3 0 none 0 none 23 1 none ++ interval 3 4 1 23 1 none none 0 none ++ job 23 1 3 5 0 ++ interval 4 7 0 none 0 23 23 1 none ++ skipped 26 8) ∷
+    answered (task 5 203 1 1 2 2 ++ task 15 255 0 1 1 2 ++ task 6 190 1 1 2 1) (Instant 0 32768 ∷ Mark 15 0 ∷ Instant 1 0 ∷ Instant 2 0 ∷ Instant 3 0 ∷ Instant 4 0 ∷ Instant 5 32768 ∷ Instant 5 64 ∷ Instant 6 32768 ∷ Instant 7 0 ∷ []) (0 ∷ 0 ∷ 0 ∷ 0 ∷ 1 ∷ 17 ∷ 0 ∷ 0 ∷ 2 ∷ 0 ∷ 0 ∷ 4 ∷ 0 ∷ 0 ∷ 4 ∷ 0 ∷ 0 ∷ 0 ∷ 0 ∷ 6 ∷ 14 ∷ 0 ∷ 32768 ∷ 7 ∷ 0 ∷ 0 ∷ 9 ∷ []) (interval 0 1 0 none 0 none 15 1 none ++ interval 1 2 1 15 1 none none 0 none ++ job 15 0 1 4 0 ++ interval 2 4 0 none 0 15 none 0 none ++ interval 5 6 1 none 0 none 15 1 none ++ skipped 15 6 ++ interval 6 7 0 15 1 none none 0 none) ∷
+    answered (task 16 237 1 1 1 1 ++ task 3 175 0 1 1 1 ++ task 1 168 1 1 1 1 ++ task 12 30 1 1 1 1) (Instant 1 0 ∷ Instant 2 0 ∷ Instant 3 0 ∷ Instant 4 8 ∷ Instant 5 4096 ∷ Instant 6 0 ∷ Instant 7 0 ∷ Instant 8 0 ∷ []) (0 ∷ 0 ∷ 0 ∷ 0 ∷ 0 ∷ 0 ∷ 0 ∷ 0 ∷ 0 ∷ 0 ∷ 5 ∷ 0 ∷ 0 ∷ 6 ∷ 0 ∷ 0 ∷ 7 ∷ 0 ∷ 0 ∷ 8 ∷ 0 ∷ 0 ∷ []) (interval 4 5 0 none 0 none 3 1 none ++ interval 5 6 1 3 1 none 12 1 none ++ job 3 4 5 7 0 ++ interval 6 7 0 12 1 3 none 0 none ++ job 12 5 6 8 1 ++ interval 7 8 1 none 0 12 none 0 none) ∷
+    answered (task 7 160 1 1 1 2 ++ task 26 223 1 2 1 2 ++ task 23 146 1 2 1 1) (Instant 1 8388608 ∷ Instant 3 0 ∷ Instant 4 0 ∷ Instant 5 75497472 ∷ Instant 7 0 ∷ Instant 8 67108992 ∷ []) (0 ∷ 0 ∷ 0 ∷ 0 ∷ 3 ∷ 0 ∷ 0 ∷ 4 ∷ 0 ∷ 0 ∷ 5 ∷ 0 ∷ 0 ∷ 7 ∷ 0 ∷ 0 ∷ 8 ∷ 0 ∷ 67108864 ∷ 9 ∷ []) (interval 1 3 0 none 0 none 23 1 none ++ interval 3 4 1 23 1 none none 0 none ++ job 23 1 3 5 0 ++ interval 4 7 0 none 0 23 23 1 none ++ skipped 26 8 ++ interval 7 8 1 23 1 none 26 2 7) ∷
     answered (task 20 86 1 2 1 2) (Instant 0 0 ∷ Instant 4 0 ∷ Instant 5 1048576 ∷ Instant 6 0 ∷ Mark 255 0 ∷ Instant 7 0 ∷ Instant 8 0 ∷ []) (0 ∷ 0 ∷ 0 ∷ 0 ∷ 0 ∷ 0 ∷ 0 ∷ 0 ∷ 7 ∷ 0 ∷ 0 ∷ 7 ∷ 16 ∷ 0 ∷ 0 ∷ 8 ∷ 0 ∷ 0 ∷ 10 ∷ []) (interval 5 7 0 none 0 none 20 1 none ++ interval 7 8 1 20 1 none none 0 none) ∷
     answered (task 30 209 1 1 1 1) (Instant 282116490 0 ∷ Instant 282116491 0 ∷ Instant 282116492 0 ∷ Instant 282116494 0 ∷ Instant 282116496 0 ∷ Instant 282116498 0 ∷ Instant 282116499 0 ∷ []) (0 ∷ 0 ∷ 0 ∷ 0 ∷ 0 ∷ 0 ∷ 0 ∷ 0 ∷ 0 ∷ 0 ∷ 0 ∷ 0 ∷ 0 ∷ 0 ∷ 0 ∷ 0 ∷ []) ([]) ∷
-    answered (task 6 95 0 2 1 2 ++ task 10 103 1 2 2 2 ++ task 4 87 1 1 2 1 ++ task 11 139 1 1 2 2) (Instant 1 16 ∷ Instant 2 0 ∷ Instant 4 2048 ∷ Instant 5 0 ∷ Instant 6 0 ∷ Instant 8 0 ∷ []) (0 ∷ 0 ∷ 0 ∷ 0 ∷ 2 ∷ 0 ∷ 0 ∷ 4 ∷ 0 ∷ 0 ∷ 5 ∷ 0 ∷ 0 ∷ 6 ∷ 0 ∷ 0 ∷ 8 ∷ 0 ∷ 0 ∷ 10 ∷ []) (interval 1 2 0 none 0 none 4 1 none ++ interval 2 4 1 4 1 none none 0 none ++ job 4 1 2 5 0 ++ interval 4 6 0 none 0 4 11 1 none ++ interval 6 8 1 11 1 none none 0 none) ∷
-    answered (task 4 24 1 1 1 1 ++ task 6 216 1 1 1 1 ++ task 23 12 1 1 1 1 ++ task 30 124 1 1 1 1) (Instant 1 0 ∷ Instant 450 0 ∷ Instant 452 16 ∷ Instant 453 1082130432 ∷ Instant 454 64 ∷ Mark 23 0 ∷ Instant 455 0 ∷ Instant 456 8388624 ∷ Instant 5028372505810175681 0 ∷ Instant 457 8388672 ∷ []) (0 ∷ 0 ∷ 0 ∷ 0 ∷ 0 ∷ 0 ∷ 0 ∷ 0 ∷ 453 ∷ 0 ∷ 0 ∷ 454 ∷ 0 ∷ 0 ∷ 455 ∷ 17 ∷ 0 ∷ 0 ∷ 456 ∷ 0 ∷ 8388608 ∷ 457 ∷ 15 ∷ 0 ∷ 64 ∷ 458 ∷ []) (interval 452 453 0 none 0 none 4 1 none ++ interval 453 454 1 4 1 none 23 1 none ++ job 4 452 453 455 0 ++ interval 454 456 0 23 1 4 30 1 none ++ skipped 23 456 ++ job 23 453 454 457 1 ++ skipped 6 457) ∷
+    answered (task 6 95 0 2 1 2 ++ task 10 103 1 2 2 2 ++ task 4 87 1 1 2 1 ++ task 11 139 1 1 2 2) (Instant 1 16 ∷ Instant 2 0 ∷ Instant 4 2048 ∷ Instant 5 0 ∷ Instant 6 0 ∷ Instant 7 0 ∷ []) (0 ∷ 0 ∷ 0 ∷ 0 ∷ 2 ∷ 0 ∷ 0 ∷ 4 ∷ 0 ∷ 0 ∷ 5 ∷ 0 ∷ 0 ∷ 6 ∷ 0 ∷ 0 ∷ 8 ∷ 0 ∷ 0 ∷ 8 ∷ []) (interval 1 2 0 none 0 none 4 1 none ++ interval 2 4 1 4 1 none none 0 none ++ job 4 1 2 5 0 ++ interval 4 6 0 none 0 4 11 1 none) ∷
+    answered (task 4 24 1 1 1 1 ++ task 6 216 1 1 1 1 ++ task 23 12 1 1 1 1 ++ task 30 124 1 1 1 1) (Instant 1 0 ∷ Instant 450 0 ∷ Instant 452 16 ∷ Instant 453 1082130432 ∷ Instant 454 0 ∷ Instant 455 8388608 ∷ Instant 456 8388624 ∷ Instant 5028372505810175681 0 ∷ Instant 457 8388672 ∷ Instant 458 8388608 ∷ []) (0 ∷ 0 ∷ 0 ∷ 0 ∷ 0 ∷ 0 ∷ 0 ∷ 0 ∷ 453 ∷ 0 ∷ 0 ∷ 454 ∷ 0 ∷ 0 ∷ 455 ∷ 0 ∷ 8388608 ∷ 456 ∷ 0 ∷ 8388608 ∷ 457 ∷ 15 ∷ 0 ∷ 0 ∷ 458 ∷ 0 ∷ 8388608 ∷ 459 ∷ []) (interval 452 453 0 none 0 none 4 1 none ++ interval 453 454 1 4 1 none 23 1 none ++ job 4 452 453 455 0 ++ skipped 23 455 ++ interval 454 456 0 23 1 4 30 1 none ++ skipped 23 456 ++ job 23 453 454 457 1 ++ interval 456 458 1 30 1 23 23 1 none ++ skipped 23 458) ∷
     answered (task 6 43 1 2 3 1 ++ task 17 247 1 1 2 2) (Instant 0 0 ∷ []) (0 ∷ 0 ∷ 0 ∷ 0 ∷ []) ([]) ∷
     answered (task 13 85 0 1 1 1 ++ task 27 252 0 1 2 2 ++ task 30 20 1 1 2 1 ++ task 26 150 1 1 1 2) (Mark 30 0 ∷ Mark 13 1 ∷ Instant 4 1073741824 ∷ Instant 5 1275076608 ∷ Instant 6 201334784 ∷ Instant 7 1207967744 ∷ Mark 13 1 ∷ Instant 8 1140858880 ∷ Instant 9 8192 ∷ Instant 10 1275076608 ∷ Instant 11 134217728 ∷ Instant 12 1073750016 ∷ []) (0 ∷ 0 ∷ 0 ∷ 0 ∷ 0 ∷ 0 ∷ 5 ∷ 0 ∷ 1073741824 ∷ 6 ∷ 0 ∷ 201334784 ∷ 7 ∷ 0 ∷ 1207967744 ∷ 8 ∷ 17 ∷ 0 ∷ 67117056 ∷ 9 ∷ 0 ∷ 8192 ∷ 10 ∷ 0 ∷ 1275068416 ∷ 11 ∷ 0 ∷ 134217728 ∷ 12 ∷ 0 ∷ 8192 ∷ 13 ∷ []) (interval 4 5 0 none 0 none 30 1 none ++ skipped 30 5 ++ skipped 13 6 ++ skipped 26 6 ++ skipped 27 6 ++ interval 5 7 1 30 1 none 13 1 none ++ skipped 13 7 ++ skipped 27 7 ++ skipped 30 7 ++ job 30 4 5 8 0 ++ skipped 13 8 ++ skipped 26 8 ++ interval 7 9 0 13 1 30 30 1 none ++ skipped 13 9 ++ job 13 5 7 10 0 ++ skipped 26 10 ++ skipped 27 10 ++ skipped 30 10 ++ interval 9 11 1 30 1 13 13 1 none ++ skipped 27 11 ++ job 30 8 9 12 1 ++ skipped 13 12) ∷
     answered (task 7 172 1 1 1 1 ++ task 15 247 1 1 1 1 ++ task 28 225 1 1 1 1) (Instant 999999994 32896 ∷ Instant 999999995 268435584 ∷ Instant 999999996 32896 ∷ []) (0 ∷ 0 ∷ 0 ∷ 0 ∷ 999999995 ∷ 0 ∷ 128 ∷ 999999996 ∷ 0 ∷ 32896 ∷ 999999997 ∷ []) (interval 999999994 999999995 0 none 0 none 7 1 none ++ skipped 7 999999995 ++ interval 999999995 999999996 1 7 1 none 28 1 none ++ skipped 7 999999996 ++ skipped 15 999999996) ∷

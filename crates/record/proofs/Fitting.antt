@@ -1,5 +1,5 @@
 -- What occurs at an instant fits its fields: so do the times and tasks that the state holds, from opening on, and each step keeps it. Assumes nothing.
-use Rattle.guarantees.specs.Types.{_≡_, refl, subst, Bool, true, false, List, [], _∷_, ℕ, zero, suc, _^_, _<_, Table, Jobs, MaybeTask, NoTask, Task, Processor, Idle, CopyingIn, Executing, Finished, CopyOut, NoCopyOut, CopyingOut, CopiedOut, CopyIn, Unchosen, NoneChosen, Copying, Loaded, Cancelled, Interval, Next, NoneNext, LoadedNext, PromotedNext, Outgoing, NoneOutgoing, AwaitsCopyOut, Phase, Between, Within, State, Closed, NoInterval, Span, Stage}
+use Rattle.guarantees.specs.Types.{_≡_, refl, subst, Bool, true, false, ⊎-elim, List, [], _∷_, ℕ, zero, suc, _^_, _<_, Table, Jobs, MaybeTask, NoTask, Task, Processor, Idle, CopyingIn, Executing, Finished, CopyOut, NoCopyOut, CopyingOut, CopiedOut, CopyIn, Unchosen, NoneChosen, Copying, Loaded, Cancelled, Interval, Next, NoneNext, LoadedNext, PromotedNext, Outgoing, NoneOutgoing, AwaitsCopyOut, Phase, Between, Within, State, Closed, NoInterval, Span, Stage}
 use native.Mathlib.Omega.{arith}
 use lib.Dec.{eqb}
 use lib.ListN.{getD, replicate}
@@ -112,7 +112,7 @@ module _ (t : ℕ) (now : TimeFits t) where
   b-promoted d i NoneChosen = picked (d .table .priority) _
   b-promoted d i (Copying n until) = unfold TaskFits in tt
   b-promoted d i (Loaded n) = unfold TaskFits in tt
-  b-promoted d i (Cancelled n) = picked (d .table .priority) _
+  b-promoted d i (Cancelled n fate) = picked (d .table .priority) _
 
   b-next : (c : CopyIn) (p : MaybeTask) → CopyInFits c → TaskFits p → NextFits (next-of c p)
   b-next c (Task n) h k = k
@@ -120,7 +120,7 @@ module _ (t : ℕ) (now : TimeFits t) where
   b-next NoneChosen NoTask h k = tt
   b-next (Copying n until) NoTask h k = tt
   b-next (Loaded n) NoTask h k = h
-  b-next (Cancelled n) NoTask h k = tt
+  b-next (Cancelled n fate) NoTask h k = tt
 
   b-outgoing : (q : Processor) → ProcessorFits q → OutgoingFits (awaiting-copyout q)
   b-outgoing Idle h = tt
@@ -181,14 +181,14 @@ module _ (t : ℕ) (now : TimeFits t) where
   unfolding step-c
   c-fits d new h = record { releases = c-releases new 0 (d .jobs .release) (h .releases); phase = c-phase d new (d .phase) (h .phase) }
 
-  -- d: the job whose copy-in is cancelled stays the one chosen
+  -- d: the job whose copy-in gives way stays the one chosen
   d-fits : (d : State) (new : ℕ) → StateFits d → StateFits (step-d d new (d .phase))
   unfolding cancel
   d-fits d new h =
       d-cases StateFits d new h
       (λ i n u e s b.
       let f : PhaseFits (Within i) = subst PhaseFits e (h .phase) in
-      record { releases = h .releases; phase = (f .0, f .1, f .2, subst CopyInFits s (f .3)) })
+      record { releases = h .releases; phase = (f .0, f .1, f .2, ⊎-elim (λ x. subst CopyInFits (x .1) (f .3)) (λ x. subst CopyInFits x (f .3)) s) })
 
   -- e
   e-choose : (d : State) (i : Interval) (q : MaybeTask) → TaskFits q → ReleasesFit (d .jobs .release) → PhaseFits (Within i) → StateFits (choose d t i q)

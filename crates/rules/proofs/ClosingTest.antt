@@ -20,7 +20,7 @@ closes-at s t i h = rw (h, close-stage)
 -- an interval that is at its end is open
 open-in : (r : Registers) → is-over (phase-in r) ≡ true → phase-in r ≡ Within (interval-in r)
 unfolding phase-in is-over
-open-in r h = by-test (eqb (r .copyin) 5) (λ e. absurd (false≢true (rw e at h))) (λ e. rw e)
+open-in r h = by-test (eqb (r .copyin) 6) (λ e. absurd (false≢true (rw e at h))) (λ e. rw e)
 
 -- what the functions of the test find at an interval's end
 pub record Ends (m : Memory) (r : Registers) (t p : ℕ) (after : List ℕ) (x : Registers) (e : IntervalEntry) : Type 0 where

@@ -1,17 +1,17 @@
 -- The registers with some of them others, read back.
-use Rattle.rules.specs.Types.{Bool, true, false, ℕ, _-_, _≡_, _∙_, MaybeTask, Processor, CopyOut, CopyIn, Within, Registers}
+use Rattle.rules.specs.Types.{Bool, true, false, cond, ℕ, _-_, _≡_, refl, _∙_, MaybeTask, Processor, CopyOut, CopyIn, Cancelled, Within, Registers}
 use borrow.Author.Tests.{eq-eqb, ne-eqb}
 use lib.Dec.{eqb}
-use Rattle.sets.specs.Sets.{union, intersection}
+use Rattle.sets.specs.Sets.{union, intersection, insert}
 use Rattle.sets.proofs.Laws.{by-test}
-use Rattle.rules.specs.Instant.{processor-at, copyout-at, copyin-at, ended, completed, after-done, without-done, step-a, resting, settled, processor-task, copyout-task, copyin-task, copyin-fate, without-promoted, next-of, awaiting-copyout, stamped, with-candidates, step-c, work-of, begin-processor, begin-copyout, begin, is-over, closed-with, entry-with}
+use Rattle.rules.specs.Instant.{processor-at, copyout-at, copyin-at, ended, completed, after-done, without-done, step-a, resting, settled, processor-task, copyout-task, copyin-task, copyin-fate, without-promoted, next-of, awaiting-copyout, stamped, with-candidates, step-c, cancel, work-of, begin-processor, begin-copyout, begin, is-over, closed-with, entry-with}
 use Rattle.rules.specs.Registers.{as-task, as-processor, as-copyout, as-next, as-outgoing, processor-in, copyout-in, copyin-in, interval-in, phase-in, Memory, with-arrays, state-in}
-use Rattle.rules.specs.Steps.{CopyInAt, taken-arrays}
+use Rattle.rules.specs.Steps.{CopyInAt, GivenWay, taken-arrays}
 use Rattle.rules.proofs.Parts.{not-copying-out}
 
 -- an open interval, by its units
 pub opened-with : (m : Memory) (r : Registers) (p : Processor) (o : CopyOut) (i : CopyIn)
-    → eqb (r .copyin) 5 ≡ false → processor-in r ≡ p → copyout-in r ≡ o → copyin-in r ≡ i
+    → eqb (r .copyin) 6 ≡ false → processor-in r ≡ p → copyout-in r ≡ o → copyin-in r ≡ i
     → state-in m r ≡ record {
       table = m .table;
       marked = r .marked;
@@ -25,7 +25,7 @@ opened-with m r p o i e ep eo ei = simp (e, ep, eo, ei)
 
 -- ---- a
 
-pub not-ended : (m : Memory) (r : Registers) (t : ℕ) → r .copyin ≡ 5 → state-in m r ≡ step-a (state-in m r) t (phase-in r) .state
+pub not-ended : (m : Memory) (r : Registers) (t : ℕ) → r .copyin ≡ 6 → state-in m r ≡ step-a (state-in m r) t (phase-in r) .state
 unfolding phase-in step-a
 not-ended m r t e = simp (eq-eqb _ _ e)
 
@@ -52,7 +52,7 @@ at-end r pending kind n start until out choice = record {
 }
 
 pub ended-with : (m : Memory) (r : Registers) (t pending kind n start until out choice : ℕ)
-    → (r .copyin ≡ 5 → ⊥)
+    → (r .copyin ≡ 6 → ⊥)
     → pending ≡ after-done (r .pending) (completed (record { pending = r .pending; ready = r .ready; release = m .arrays .release; blocked = m .arrays .blocked }) t (copyout-in r))
     → as-processor kind n start until ≡ processor-at (m .table) t (processor-in r)
     → as-copyout out (r .outtask) (r .outstart) (r .outuntil) ≡ copyout-at t (copyout-in r)
@@ -67,19 +67,19 @@ ended-with m r t pending kind n start until out choice ne ej ep eo ei =
 
 -- ---- b
 
-pub none-ends : (r : Registers) → r .copyin ≡ 5 → false ≡ is-over (phase-in r)
+pub none-ends : (r : Registers) → r .copyin ≡ 6 → false ≡ is-over (phase-in r)
 unfolding phase-in is-over
 none-ends r e = simp (eq-eqb _ _ e)
 
-pub works : (r : Registers) → (r .copyin ≡ 5 → ⊥) → resting (processor-in r) ≡ false → false ≡ is-over (phase-in r)
+pub works : (r : Registers) → (r .copyin ≡ 6 → ⊥) → resting (processor-in r) ≡ false → false ≡ is-over (phase-in r)
 unfolding phase-in interval-in is-over
 works r ne p = simp (ne-eqb _ _ ne, p)
 
-pub copies : (r : Registers) → (r .copyin ≡ 5 → ⊥) → resting (processor-in r) ≡ true → r .copyout ≡ 1 → false ≡ is-over (phase-in r)
+pub copies : (r : Registers) → (r .copyin ≡ 6 → ⊥) → resting (processor-in r) ≡ true → r .copyout ≡ 1 → false ≡ is-over (phase-in r)
 unfolding phase-in interval-in is-over
 copies r ne p o = simp (ne-eqb _ _ ne, p, o)
 
-pub ends-settled : (r : Registers) (x : Bool) → (r .copyin ≡ 5 → ⊥) → resting (processor-in r) ≡ true → (r .copyout ≡ 1 → ⊥) → x ≡ settled (copyin-in r) → x ≡ is-over (phase-in r)
+pub ends-settled : (r : Registers) (x : Bool) → (r .copyin ≡ 6 → ⊥) → resting (processor-in r) ≡ true → (r .copyout ≡ 1 → ⊥) → x ≡ settled (copyin-in r) → x ≡ is-over (phase-in r)
 unfolding phase-in interval-in is-over
 ends-settled r x ne p o s =
     simp (ne-eqb _ _ ne, p, not-copying-out (r .copyout) (r .outtask) (r .outstart) (r .outuntil) (ne-eqb _ _ o), s)
@@ -93,7 +93,7 @@ entry-by r t p fate task copiedout chosen promoted a b c d e = simp (a, b, c, d,
 
 pub closed-by : (m : Memory) (r : Registers) (p : MaybeTask) (out ready work n : ℕ)
     → as-outgoing out (r .task) (r .start) ≡ awaiting-copyout (processor-in r) → ready ≡ without-promoted (r .ready) p → as-next work n ≡ next-of (copyin-in r) p
-    → state-in m (record { marked = r .marked; pending = r .pending; ready = ready; candidates = r .candidates; begin = r .begin; start = r .start; until = r .until; outstart = r .start; outuntil = r .outuntil; inuntil = r .inuntil; half = r .half; work = work; processor = r .processor; task = n; copyout = out; outtask = r .task; copyin = 5; intask = r .intask }) ≡ closed-with (state-in m r) (interval-in r) p
+    → state-in m (record { marked = r .marked; pending = r .pending; ready = ready; candidates = r .candidates; begin = r .begin; start = r .start; until = r .until; outstart = r .start; outuntil = r .outuntil; inuntil = r .inuntil; half = r .half; work = work; processor = r .processor; task = n; copyout = out; outtask = r .task; copyin = 6; intask = r .intask }) ≡ closed-with (state-in m r) (interval-in r) p
 unfolding state-in phase-in interval-in closed-with
 closed-by m r p out ready work n o a b = simp (a, b, o)
 
@@ -104,7 +104,40 @@ pub taken-with : (m : Memory) (r : Registers) (t new pending ready marked candid
     → state-in (with-arrays m (taken-arrays new t (m .arrays))) (record { marked = r .marked; pending = pending; ready = ready; candidates = candidates; begin = r .begin; start = r .start; until = r .until; outstart = r .outstart; outuntil = r .outuntil; inuntil = r .inuntil; half = r .half; work = r .work; processor = r .processor; task = r .task; copyout = r .copyout; outtask = r .outtask; copyin = r .copyin; intask = r .intask }) ≡ step-c (state-in m r) t new
 unfolding state-in phase-in interval-in step-c with-candidates
 taken-with m r t new pending ready marked candidates a b k c =
-    by-test (eqb (r .copyin) 5) (λ e. simp (e, a, b)) (λ e. simp (e, a, b, c, k))
+    by-test (eqb (r .copyin) 6) (λ e. simp (e, a, b)) (λ e. simp (e, a, b, c, k))
+
+-- ---- d
+
+abbrev with-given : Registers → ℕ → ℕ → Registers
+with-given r ready kind = record {
+  marked = r .marked;
+  pending = r .pending;
+  ready = ready;
+  candidates = r .candidates;
+  begin = r .begin;
+  start = r .start;
+  until = r .until;
+  outstart = r .outstart;
+  outuntil = r .outuntil;
+  inuntil = r .inuntil;
+  half = r .half;
+  work = r .work;
+  processor = r .processor;
+  task = r .task;
+  copyout = r .copyout;
+  outtask = r .outtask;
+  copyin = kind;
+  intask = r .intask;
+}
+
+-- the copy-in gives way
+pub given-with : (m : Memory) (r : Registers) (ready kind : ℕ) → GivenWay (r .copyin) kind → ready ≡ insert (r .intask) (r .ready)
+    → state-in m (with-given r ready kind) ≡ cancel (state-in m r) (interval-in r) (r .intask) (cond (eqb (r .copyin) 3) 3 2) true
+unfolding cancel interval-in state-in
+given-with m r ready kind g e =
+    opened-with m (with-given r ready kind) (processor-in r) (copyout-in r) (Cancelled (r .intask) (cond (eqb (r .copyin) 3) 3 2))
+    (g .stays) refl refl (g .is (r .intask) (r .inuntil))
+    ∙ simp e
 
 -- ---- g
 

@@ -1,5 +1,5 @@
 -- What stands in numbers, by its kind, where the code tests fewer kinds than there are.
-use Rattle.rules.specs.Types.{List, true, false, not, ℕ, _≡_, ap, _∙_, Table, Jobs, Registers, Done, CopyingIn, Executing, Finished, CopyingOut, Outgoing, Task, NoTask, NoneNext, NoneOutgoing, NoJob, Job}
+use Rattle.rules.specs.Types.{List, true, false, not, ℕ, _-_, _≤_, _<_, _≡_, ap, _∙_, Table, Jobs, Registers, Done, CopyingIn, Executing, Finished, CopyingOut, Outgoing, Task, NoTask, NoneNext, NoneOutgoing, NoJob, Job}
 use native.Mathlib.Omega.{arith}
 use borrow.Author.Tests.{eqb-true, eqb-false, eq-eqb, ne-eqb}
 use lib.Dec.{eqb}
@@ -53,6 +53,27 @@ copyin-stays t kind n until g =
     (λ f. simp (e, f))
     (λ f. by-test (eqb kind 3) (λ h. simp (e, f, g, h)) (λ h. simp (e, f, g, h))))
 
+-- ---- b
+
+pub no-fate-yet : (kind n until : ℕ) → kind < 3 → 0 ≡ copyin-fate (as-copyin kind n until)
+no-fate-yet kind n until l =
+    by-test (eqb kind 0)
+    (λ e. simp e)
+    (λ e. by-test (eqb kind 1)
+    (λ f. simp (e, f))
+    (λ f. by-test (eqb kind 2)
+    (λ g. simp (e, f, g))
+    (λ g. absurd (omega (arith, eqb-false kind 0 e, eqb-false kind 1 f, eqb-false kind 2 g)))))
+
+pub fate-so-far : (kind n until x : ℕ) → 3 ≤ kind → x ≡ kind - 2 → x ≡ copyin-fate (as-copyin kind n until)
+fate-so-far kind n until x l e =
+    let a : eqb kind 0 ≡ false = ne-eqb kind 0 (λ z. omega arith) in
+    let b : eqb kind 1 ≡ false = ne-eqb kind 1 (λ z. omega arith) in
+    let c : eqb kind 2 ≡ false = ne-eqb kind 2 (λ z. omega arith) in
+    by-test (eqb kind 3)
+    (λ f. let z : x ≡ 1 = omega (arith, eqb-true kind 3 f) in simp (a, b, c, f, z))
+    (λ f. simp (a, b, c, f, e))
+
 pub job-completed : (j : Jobs) (t kind n start until release blocked : ℕ)
     → kind ≡ 1 → until ≡ t → release ≡ getD (j .release) n 0 → blocked ≡ getD (j .blocked) n 0
     → Job (record { task = n; release = release; start = start; completion = t; blocked = blocked }) ≡ completed j t (as-copyout kind n start until)
@@ -68,12 +89,12 @@ unfolding completed
 nothing-completed j t kind n start until f = by-test (eqb kind 0) (λ e. simp e) (λ e. simp (e, f))
 
 pub none-completed : (m : Memory) (r : Registers) (t : ℕ)
-    → r .copyin ≡ 5 → NoJob ≡ step-a (state-in m r) t (phase-in r) .done
+    → r .copyin ≡ 6 → NoJob ≡ step-a (state-in m r) t (phase-in r) .done
 unfolding state-in phase-in interval-in step-a
 none-completed m r t e = simp (eq-eqb _ _ e)
 
 pub is-completed : (m : Memory) (r : Registers) (t : ℕ) (x : Done)
-    → (r .copyin ≡ 5 → ⊥)
+    → (r .copyin ≡ 6 → ⊥)
     → x ≡ completed (record { pending = r .pending; ready = r .ready; release = m .arrays .release; blocked = m .arrays .blocked }) t (copyout-in r)
     → x ≡ step-a (state-in m r) t (phase-in r) .done
 unfolding state-in phase-in interval-in step-a

@@ -14,11 +14,11 @@ pub no-copyout-due : (n : ℕ) (none : Bool) → copyout-due (cond none NoCopyOu
 no-copyout-due n true = refl
 no-copyout-due n false = refl
 
-pub no-copyin-due : (n : ℕ) (unchosen none loaded : Bool) → copyin-due (cond unchosen Unchosen (cond none NoneChosen (cond loaded (Loaded n) (Cancelled n)))) ≡ Never
-no-copyin-due n true none loaded = refl
-no-copyin-due n false true loaded = refl
-no-copyin-due n false false true = refl
-no-copyin-due n false false false = refl
+pub no-copyin-due : (n fate : ℕ) (unchosen none loaded : Bool) → copyin-due (cond unchosen Unchosen (cond none NoneChosen (cond loaded (Loaded n) (Cancelled n fate)))) ≡ Never
+no-copyin-due n fate true none loaded = refl
+no-copyin-due n fate false true loaded = refl
+no-copyin-due n fate false false true = refl
+no-copyin-due n fate false false false = refl
 
 -- ---- a due time as a plain number
 

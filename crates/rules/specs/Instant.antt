@@ -30,7 +30,7 @@ copyin-at t Unchosen = Unchosen
 copyin-at t NoneChosen = NoneChosen
 copyin-at t (Copying n until) = cond (eqb until t) (Loaded n) (Copying n until)
 copyin-at t (Loaded n) = Loaded n
-copyin-at t (Cancelled n) = Cancelled n
+copyin-at t (Cancelled n fate) = Cancelled n fate
 
 unfoldable pub ended : Table → ℕ → Interval → Interval
 ended table t i = record {
@@ -84,7 +84,7 @@ settled Unchosen = false
 settled NoneChosen = true
 settled (Copying n until) = false
 settled (Loaded n) = true
-settled (Cancelled n) = true
+settled (Cancelled n fate) = true
 
 -- R6: both units are at their ends
 abbrev pub over : Interval → Bool
@@ -111,23 +111,23 @@ copyin-task Unchosen = NoTask
 copyin-task NoneChosen = NoTask
 copyin-task (Copying n until) = Task n
 copyin-task (Loaded n) = Task n
-copyin-task (Cancelled n) = Task n
+copyin-task (Cancelled n fate) = Task n
 
--- 0 none, 1 done, 2 cancelled
+-- 0 none, 1 done, 2 cancelled, 3 thrown out
 abbrev pub copyin-fate : CopyIn → ℕ
 copyin-fate Unchosen = 0
 copyin-fate NoneChosen = 0
 copyin-fate (Copying n until) = 0
 copyin-fate (Loaded n) = 1
-copyin-fate (Cancelled n) = 2
+copyin-fate (Cancelled n fate) = fate
 
--- R4: where the copy-in was cancelled or none was chosen, the highest-priority marked job released in the interval and ready is promoted
+-- R4: where the copy-in was cancelled or thrown out, or none was chosen, the highest-priority marked job released in the interval and ready is promoted
 unfoldable pub promoted : State → Interval → CopyIn → MaybeTask
 promoted d i Unchosen = NoTask
 promoted d i NoneChosen = highest-of d (intersection (i .candidates) (d .jobs .ready))
 promoted d i (Copying n until) = NoTask
 promoted d i (Loaded n) = NoTask
-promoted d i (Cancelled n) = highest-of d (intersection (i .candidates) (d .jobs .ready))
+promoted d i (Cancelled n fate) = highest-of d (intersection (i .candidates) (d .jobs .ready))
 
 abbrev pub without-promoted : ℕ → MaybeTask → ℕ
 without-promoted s NoTask = s
@@ -140,7 +140,7 @@ next-of Unchosen NoTask = NoneNext
 next-of NoneChosen NoTask = NoneNext
 next-of (Copying n until) NoTask = NoneNext
 next-of (Loaded n) NoTask = LoadedNext n
-next-of (Cancelled n) NoTask = NoneNext
+next-of (Cancelled n fate) NoTask = NoneNext
 
 -- R2: the job that was executed is copied out in the next interval
 abbrev pub awaiting-copyout : Processor → Outgoing
@@ -155,7 +155,7 @@ awaiting-execution Unchosen ready = ready
 awaiting-execution NoneChosen ready = ready
 awaiting-execution (Copying n until) ready = ready
 awaiting-execution (Loaded n) ready = insert n ready
-awaiting-execution (Cancelled n) ready = ready
+awaiting-execution (Cancelled n fate) ready = ready
 
 -- blocked: such a job, where the processor executes a lower-priority one in the interval
 unfoldable pub blocks : State → Interval → ℕ
@@ -253,18 +253,20 @@ held-over (Between next outgoing) new = new
 held-over (Within i) new = 0
 
 -- ---- d. If a marked release was taken whose priority is higher than that of a copy-in under way on the engine, this copy-in is
--- cancelled and its job is ready again (R3).
+-- cancelled and its job is ready again (R3). A marked release that is taken also throws out a lower-priority copy-in that the engine has
+-- already finished in the open interval: its job is ready again, its fate is 3, and the interval counts as cancelled for promotion.
 
-unfoldable pub cancel : State → Interval → ℕ → Bool → State
-cancel d i n false = d
-cancel d i n true = with-phase (with-ready d (insert n (d .jobs .ready))) (Within (with-copyin i (Cancelled n)))
+-- the copy-in of task n gives way, or stays
+unfoldable pub cancel : State → Interval → ℕ → ℕ → Bool → State
+cancel d i n fate false = d
+cancel d i n fate true = with-phase (with-ready d (insert n (d .jobs .ready))) (Within (with-copyin i (Cancelled n fate)))
 
 unfoldable pub cancel-by : State → ℕ → Interval → CopyIn → State
 cancel-by d new i Unchosen = d
 cancel-by d new i NoneChosen = d
-cancel-by d new i (Copying n until) = cancel d i n (outranks d n (highest-of d (intersection new (d .marked))))
-cancel-by d new i (Loaded n) = d
-cancel-by d new i (Cancelled n) = d
+cancel-by d new i (Copying n until) = cancel d i n 2 (outranks d n (highest-of d (intersection new (d .marked))))
+cancel-by d new i (Loaded n) = cancel d i n 3 (outranks d n (highest-of d (intersection new (d .marked))))
+cancel-by d new i (Cancelled n fate) = d
 
 unfoldable pub step-d : State → ℕ → Phase → State
 step-d d new (Between next outgoing) = d
@@ -283,7 +285,7 @@ choose-if d t i Unchosen = cond (copying-out (i .copyout)) d (choose d t i (high
 choose-if d t i NoneChosen = d
 choose-if d t i (Copying n until) = d
 choose-if d t i (Loaded n) = d
-choose-if d t i (Cancelled n) = d
+choose-if d t i (Cancelled n fate) = d
 
 unfoldable pub step-e : State → ℕ → Phase → State
 step-e d t (Between next outgoing) = d
@@ -387,7 +389,7 @@ copyin-due Unchosen = Never
 copyin-due NoneChosen = Never
 copyin-due (Copying n until) = Tick until
 copyin-due (Loaded n) = Never
-copyin-due (Cancelled n) = Never
+copyin-due (Cancelled n fate) = Never
 
 unfoldable pub due : Phase → Due
 due (Between next outgoing) = Never

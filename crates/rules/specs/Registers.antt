@@ -1,6 +1,6 @@
 -- The state as the code has it: numbers that go by value (`Registers`) beside memory that is lent (`Memory`). Read back, they are the
 -- state that the rules speak of.
-use Rattle.rules.specs.Types.{cond, List, ℕ, Table, Clock, Unset, At, MaybeTask, NoTask, Task, Processor, Idle, CopyingIn, Executing, Finished, CopyOut, NoCopyOut, CopyingOut, CopiedOut, CopyIn, Unchosen, NoneChosen, Copying, Loaded, Cancelled, Interval, Next, NoneNext, LoadedNext, PromotedNext, Outgoing, NoneOutgoing, AwaitsCopyOut, Phase, Between, Within, State, Registers}
+use Rattle.rules.specs.Types.{Bool, cond, _||_, List, ℕ, _-_, Table, Clock, Unset, At, MaybeTask, NoTask, Task, Processor, Idle, CopyingIn, Executing, Finished, CopyOut, NoCopyOut, CopyingOut, CopiedOut, CopyIn, Unchosen, NoneChosen, Copying, Loaded, Cancelled, Interval, Next, NoneNext, LoadedNext, PromotedNext, Outgoing, NoneOutgoing, AwaitsCopyOut, Phase, Between, Within, State, Registers}
 use lib.Dec.{eqb, ltb}
 use lib.ListN.{replicate}
 
@@ -23,13 +23,18 @@ as-copyout kind n start until =
     cond (eqb kind 0) NoCopyOut
     (cond (eqb kind 1) (CopyingOut n start until) (CopiedOut n))
 
--- 0 unchosen, 1 none chosen, 2 copying, 3 loaded, 4 cancelled
+-- 0 unchosen, 1 none chosen, 2 copying, 3 loaded; 4 cancelled, 5 thrown out: two more than the fate
 abbrev pub as-copyin : ℕ → ℕ → ℕ → CopyIn
 as-copyin kind n until =
     cond (eqb kind 0) Unchosen
     (cond (eqb kind 1) NoneChosen
     (cond (eqb kind 2) (Copying n until)
-    (cond (eqb kind 3) (Loaded n) (Cancelled n))))
+    (cond (eqb kind 3) (Loaded n)
+    (Cancelled n (kind - 2)))))
+
+-- the engine holds a job: its copy-in is under way, or finished
+abbrev pub is-held : ℕ → Bool
+is-held kind = eqb kind 2 || eqb kind 3
 
 abbrev pub processor-in : Registers → Processor
 processor-in r = as-processor (r .processor) (r .task) (r .start) (r .until)
@@ -60,10 +65,10 @@ as-next work n = cond (eqb work 0) NoneNext (cond (eqb work 1) (LoadedNext n) (P
 abbrev pub as-outgoing : ℕ → ℕ → ℕ → Outgoing
 as-outgoing kind n start = cond (eqb kind 0) NoneOutgoing (AwaitsCopyOut n start)
 
--- `copyin` is 5 where no interval is open
+-- `copyin` is 6 where no interval is open
 unfoldable pub phase-in : Registers → Phase
 phase-in r =
-    cond (eqb (r .copyin) 5)
+    cond (eqb (r .copyin) 6)
     (Between (as-next (r .work) (r .task)) (as-outgoing (r .copyout) (r .outtask) (r .outstart)))
     (Within (interval-in r))
 

@@ -27,13 +27,14 @@ pub data CopyOut : Type 0 where
   CopyingOut : (task start until : ℕ) → CopyOut
   CopiedOut : (task : ℕ) → CopyOut
 
--- what the engine copies in in the open interval: the choice of it, and its fate
+-- what the engine copies in in the open interval: the choice of it, and its fate. A copy-in that gave way to a marked release has the fate
+-- 2 if it was under way and was cancelled, and 3 if it was finished and was thrown out.
 pub data CopyIn : Type 0 where
   Unchosen : CopyIn
   NoneChosen : CopyIn
   Copying : (task until : ℕ) → CopyIn
   Loaded : (task : ℕ) → CopyIn
-  Cancelled : (task : ℕ) → CopyIn
+  Cancelled : (task fate : ℕ) → CopyIn
 
 -- an open interval; `candidates` are the marked jobs released in it, of which one may be promoted at its end
 pub record Interval : Type 0 where

@@ -1,6 +1,6 @@
 -- What each function over the registers promises: read back, its outcome is that of the rules, whatever stands in the memory that it is
 -- not handed.
-use Rattle.rules.specs.Types.{Bool, List, ℕ, _-_, _^_, _≤_, _≡_, _⊎_, Table, MaybeTask, State, Done, Closed, Due, Never, Tick, Stage, Registers, Unit}
+use Rattle.rules.specs.Types.{Bool, false, cond, List, ℕ, _-_, _^_, _≤_, _≡_, _⊎_, Table, MaybeTask, Cancelled, State, Done, Closed, Due, Never, Tick, Stage, Registers, Unit}
 use lib.Dec.{eqb}
 use Rattle.rules.specs.Order.{outranks}
 use Rattle.rules.specs.Instant.{processor-at, copyin-at, step-a, resting, settled, blocks, promoted, processor-task, copyout-task, copyin-task, copyin-fate, without-promoted, next-of, awaiting-copyout, counted, closed-with, stamped, step-c, step-d, steps-c-d, step-e, begin-processor, begin-copyout, begin, step-g, processor-due, copyout-due, copyin-due}
@@ -22,7 +22,7 @@ ProcessorAt columns t p x =
 -- and an open interval stays open
 pub record CopyInAt (kind until t x : ℕ) : Type 0 where
   pub is : (n : ℕ) → as-copyin x n until ≡ copyin-at t (as-copyin kind n until)
-  pub stays : eqb x 5 ≡ eqb kind 5
+  pub stays : eqb x 6 ≡ eqb kind 6
 
 abbrev pub Completed : Registers → ℕ → Arrays → Done → Type 0
 Completed r t a x = (m : Memory) → x ≡ step-a (state-in (with-arrays m a) r) t (phase-in r) .done
@@ -94,6 +94,11 @@ Taken r new x =
     → state-in (with-arrays m (taken-arrays new t (m .arrays))) x ≡ step-c (state-in m r) t new
 
 -- ---- d
+
+-- a copy-in that has given way was under way, or finished
+pub record GivenWay (kind x : ℕ) : Type 0 where
+  pub is : (n until : ℕ) → as-copyin x n until ≡ Cancelled n (cond (eqb kind 3) 3 2)
+  pub stays : eqb x 6 ≡ false
 
 abbrev pub CancelledTo : Registers → ℕ → List ℕ → Registers → Type 0
 CancelledTo r new priority x =

@@ -27,7 +27,9 @@ pub const LOADED: u8 = 3;
 
 pub const CANCELLED: u8 = 4;
 
-pub const NO_INTERVAL: u8 = 5;
+pub const THROWN_OUT: u8 = 5;
+
+pub const NO_INTERVAL: u8 = 6;
 
 // The processor's work in the open interval, or, where none is open, in the next one.
 pub const NO_WORK: u8 = 0;
@@ -36,12 +38,8 @@ pub const EXECUTE: u8 = 1;
 
 pub const COPY_IN_AND_EXECUTE: u8 = 2;
 
-// The fate of a copy-in, as an entry has it.
+// The fate that an entry has where no copy-in was done or gave way. Else it is the copy-in's number less two: 1 done, 2 cancelled, 3 thrown out.
 pub const FATE_NONE: u8 = 0;
-
-pub const FATE_DONE: u8 = 1;
-
-pub const FATE_CANCELLED: u8 = 2;
 
 // No task: there are 32.
 pub const NO_TASK: u8 = 32;

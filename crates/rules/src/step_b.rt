@@ -65,8 +65,8 @@ pub fn count_blocked(r: Registers, priority: &[u8; 32], blocked: &mut [u8; 32])
     }
 }
 
-// R4: where the copy-in was cancelled or none was chosen, the highest-priority marked job released in the interval and ready is
-// promoted, or NO_TASK.
+// R4: where the copy-in was cancelled or thrown out, or none was chosen, the highest-priority marked job released in the interval and
+// ready is promoted, or NO_TASK.
 pub fn promoted(r: Registers, priority: &[u8; 32]) -> u8
     ensures { λ x. ⌜ Promoted r (now (priority .entry)) x ⌝ }
 {
@@ -124,19 +124,10 @@ fn copyin_task(kind: u8, n: u8) -> MaybeTask
 fn copyin_fate(kind: u8) -> u8
     ensures { λ x. ⌜ CopyInFate kind x ⌝ }
 {
-    if kind == codes::LOADED {
-        return codes::FATE_DONE;
-    }
-    if kind == codes::UNCHOSEN {
+    if kind < codes::LOADED {
         return codes::FATE_NONE;
     }
-    if kind == codes::NONE_CHOSEN {
-        return codes::FATE_NONE;
-    }
-    if kind == codes::COPYING {
-        return codes::FATE_NONE;
-    }
-    codes::FATE_CANCELLED
+    kind - 2
 }
 
 pub fn interval_entry(r: Registers, t: u64, promoted: u8) -> IntervalEntry

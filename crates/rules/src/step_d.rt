@@ -1,25 +1,47 @@
 // d. If a marked release was taken whose priority is higher than that of a copy-in under way on the engine, this copy-in is
-// cancelled and its job is ready again (R3).
+// cancelled and its job is ready again (R3). It also throws out a lower-priority copy-in that the engine has already finished in the
+// open interval.
 use crate::Registers;
 use crate::arrays::stamp;
 use crate::codes;
 use crate::order::first;
 use crate::order::outranks;
 use crate::step_c::taken;
-ghost use Rattle.rules.specs.Registers.{arrays};
-ghost use Rattle.rules.specs.Steps.{CancelledTo, StepsCD};
+ghost use mathlib.Core.Path.{_≡_};
+ghost use Rattle.rules.specs.Registers.{is-held, arrays};
+ghost use Rattle.rules.specs.Steps.{GivenWay, CancelledTo, StepsCD};
+
+// The engine holds a job: its copy-in is under way, or finished.
+fn holds(kind: u8) -> bool
+    ensures { λ x. ⌜ x ≡ is-held kind ⌝ }
+{
+    if kind == codes::COPYING {
+        return true;
+    }
+    kind == codes::LOADED
+}
+
+// What such a copy-in is once it has given way.
+fn given_way(kind: u8) -> u8
+    ensures { λ x. ⌜ GivenWay kind x ⌝ }
+{
+    if kind == codes::LOADED {
+        return codes::THROWN_OUT;
+    }
+    codes::CANCELLED
+}
 
 fn cancelled(r: Registers, new: u32, priority: &[u8; 32]) -> Registers
     ensures { λ x. ⌜ CancelledTo r new (now (priority .entry)) x ⌝ }
 {
-    if r.copyin != codes::COPYING {
+    if !holds(r.copyin) {
         return r;
     }
     let by = first(priority, sets::intersection(new, r.marked));
     if outranks(priority, by, r.intask) {
         return Registers {
             ready: sets::insert(r.ready, r.intask),
-            copyin: codes::CANCELLED,
+            copyin: given_way(r.copyin),
             ..r
         };
     }

@@ -31,9 +31,9 @@ none-cancelled-by : (d : State) (i : Interval) (c : CopyIn) → d ≡ cancel-by 
 unfolding cancel cancel-by
 none-cancelled-by d i Unchosen = refl
 none-cancelled-by d i NoneChosen = refl
-none-cancelled-by d i (Copying n until) = sym (ap (λ x. cancel d i n (outranks d n x)) (ap (highest (d .table .priority)) (intersection-none (d .marked)) ∙ highest-none (d .table .priority)))
-none-cancelled-by d i (Loaded n) = refl
-none-cancelled-by d i (Cancelled n) = refl
+none-cancelled-by d i (Copying n until) = sym (ap (λ x. cancel d i n 2 (outranks d n x)) (ap (highest (d .table .priority)) (intersection-none (d .marked)) ∙ highest-none (d .table .priority)))
+none-cancelled-by d i (Loaded n) = sym (ap (λ x. cancel d i n 3 (outranks d n x)) (ap (highest (d .table .priority)) (intersection-none (d .marked)) ∙ highest-none (d .table .priority)))
+none-cancelled-by d i (Cancelled n fate) = refl
 
 none-cancelled : (d : State) (x : Phase) → d ≡ step-d d 0 x
 unfolding step-d

@@ -14,7 +14,7 @@ unfolding choose-if step-e interval-in phase-in
 returns c m p q =
     let k = c .before .before .args .r .copyin in
     let n = ne-eqb k 0 (c .if1 .taken) in
-    by-test (eqb k 5)
+    by-test (eqb k 6)
     (λ e. simp e)
     (λ f.
     by-test (eqb k 1)

@@ -7,7 +7,7 @@ use Rattle.rules.specs.Registers.{as-next, as-outgoing, phase-in, state-
 use Rattle.rules.proofs.step_g.begun.Statement.{statement}
 use Rattle.rules.proofs.step_g.begun.Tie as tie
 
-none-open : (r : Registers) → r .copyin ≡ 5 → phase-in r ≡ Between (as-next (r .work) (r .task)) (as-outgoing (r .copyout) (r .outtask) (r .outstart))
+none-open : (r : Registers) → r .copyin ≡ 6 → phase-in r ≡ Between (as-next (r .work) (r .task)) (as-outgoing (r .copyout) (r .outtask) (r .outstart))
 unfolding phase-in
 none-open r e = rw e
 
