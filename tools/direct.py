@@ -82,6 +82,18 @@ def part_end(a, b, s):
     return number(16 if len(s) in (16, 26) else 0)
 
 
+# The numbers of an interval's units, as rules/specs/Registers has them: copy-ins that are settled, processors at rest, and a copy-out under way.
+SETTLED, AT_REST, COPYING_OUT = (1, 3, 4, 5), (0, 3), 1
+
+
+def blockable(a, b, s):
+    """Of the tasks a those that an interval can block, by its copy-in, processor, copy-out and task, and the 32 priorities behind them."""
+    copyin, processor, copyout, task, *ranks = s
+    if copyin not in SETTLED or processor not in AT_REST or copyout == COPYING_OUT or processor == 0:
+        return number(0)
+    return task_set(other for other in members(a) if ranks[other] < ranks[task])
+
+
 # Arguments: lists of a, b and s.
 
 def some_set(rng):
@@ -135,6 +147,12 @@ def file_or_not(_):
     return [(0, 0, data[:end]) for end in range(len(data) + 1)]
 
 
+def set_and_interval(rng):
+    """Intervals, most of them at their end, over priorities of which some are alike."""
+    return [(some_set(rng), 0, bytes((rng.choice((*SETTLED, *range(7))), rng.choice((0, 3, 3, 3, 1, 2)), rng.randrange(3), rng.randrange(32),
+                                      *(rng.randrange(9) for _ in range(32))))) for _ in range(EACH)]
+
+
 CALLS = (
     Call("say(if sets::contains(a, task) { 1 } else { 0 })", lambda a, b, s: number(int(b in members(a))), set_and_task),
     Call("say(sets::insert(a, task) as u64)", lambda a, b, s: task_set(members(a) | {b}), set_and_task),
@@ -154,9 +172,10 @@ CALLS = (
     Call("say_filled(record_lines::fill(s, at, &mut lent[..room]))", filled, room_and_record),
     Call("say_record_entry(entries::record_entry_at(s, at))", refusal((JOB_DONE, INTERVAL, SKIPPED)), record_and_place),
     Call("say(run::check_file(s).end as u64)", part_end, file_or_not),
+    Call("say(blockable(s, a) as u64)", blockable, set_and_interval),
 )
 
-NEEDS = ("entries", "record_lines", "run", "sets", "words", "io", "libc")
+NEEDS = ("entries", "record_lines", "rules", "run", "sets", "words", "io", "libc")
 
 SOURCE = """
 use entries::Entry;
@@ -164,6 +183,24 @@ use libc::STDIN_FILENO;
 use libc::STDOUT_FILENO;
 use entries::RecordEntry;
 use record_lines::Filled;
+use rules::Registers;
+
+fn blockable(s: &[u8], present: u32) -> u32 {
+    let mut ranks = [0u8; 32];
+    let mut k = 0;
+    while k < 32 {
+        ranks[k] = s[4 + k];
+        k += 1;
+    }
+    let r = Registers {
+        copyin: s[0],
+        processor: s[1],
+        copyout: s[2],
+        task: s[3],
+        ..rules::empty(0)
+    };
+    rules::blockable(r, present, &ranks)
+}
 
 fn read(s: &[u8], at: usize) -> u32 {
     let low = s[at] as u32 + 256 * s[at + 1] as u32;

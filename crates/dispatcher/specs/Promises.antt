@@ -12,15 +12,15 @@ abbrev pub MarkRefuses : ℕ → ℕ → ℕ → ℕ → ℕ → Type 0
 MarkRefuses present pending n m x = (d : State) → d .table .present ≡ present → d .jobs .pending ≡ pending → x ≡ mark-refusal d n m
 
 -- steps a and b
-abbrev pub StepsAB : Registers → ℕ → List ℕ → List ℕ → List ℕ → List ℕ → Tested → Type 0
-StepsAB r t priority columns before after x =
-    (m : Memory) → m .table .priority ≡ priority → m .table .columns ≡ columns
+abbrev pub StepsAB : Registers → ℕ → ℕ → List ℕ → List ℕ → List ℕ → List ℕ → Tested → Type 0
+StepsAB r t present priority columns before after x =
+    (m : Memory) → m .table .present ≡ present → m .table .priority ≡ priority → m .table .columns ≡ columns
     → TestedTo (at-b (state-in (with-counts m before) r) t) (with-counts (at-tick m t) after) (x .registers) (x .closed)
 
 -- steps c to f
-abbrev pub StepsCToF : Registers → ℕ → ℕ → List ℕ → List ℕ → Arrays → Arrays → Tested → Type 0
-StepsCToF r t new priority columns before after x =
-    (m : Memory) → m .table .priority ≡ priority → m .table .columns ≡ columns
+abbrev pub StepsCToF : Registers → ℕ → ℕ → ℕ → List ℕ → List ℕ → Arrays → Arrays → Tested → Type 0
+StepsCToF r t new present priority columns before after x =
+    (m : Memory) → m .table .present ≡ present → m .table .priority ≡ priority → m .table .columns ≡ columns
     → TestedTo (steps-c-to-f (state-in (with-arrays m before) r) t new) (with-arrays m after) (x .registers) (x .closed)
 
 -- steps a to g
@@ -28,7 +28,7 @@ pub record SteppedTo (d : State) (t set : ℕ) (m : Memory) (x : Stepped) : Type
   pub state : state-in (at-tick m t) (x .registers) ≡ at-g d t set
   pub occurs : x .occurred ≡ occurred d t set
 
-abbrev pub StepsAToG : Registers → ℕ → ℕ → List ℕ → List ℕ → Arrays → Arrays → Stepped → Type 0
-StepsAToG r t set priority columns before after x =
-    (m : Memory) → m .table .priority ≡ priority → m .table .columns ≡ columns
+abbrev pub StepsAToG : Registers → ℕ → ℕ → ℕ → List ℕ → List ℕ → Arrays → Arrays → Stepped → Type 0
+StepsAToG r t set present priority columns before after x =
+    (m : Memory) → m .table .present ≡ present → m .table .priority ≡ priority → m .table .columns ≡ columns
     → SteppedTo (state-in (with-arrays m before) r) t set (with-arrays m after) x

@@ -94,16 +94,17 @@ fn closing(before: Closed, after: Closed) -> Closing
 pub fn steps_a_b(
     r: Registers,
     t: u64,
+    present: u32,
     priority: &[u8; 32],
     columns: &Columns,
     blocked: &mut [u8; 32],
 ) -> Tested
-    ensures { λ x. ⌜ StepsAB r t (now (priority .entry)) (now (columns .entry)) (now (blocked .entry)) (now (blocked .exit)) x ⌝ }
+    ensures { λ x. ⌜ StepsAB r t present (now (priority .entry)) (now (columns .entry)) (now (blocked .entry)) (now (blocked .exit)) x ⌝ }
 {
     let a = ended(r, t, columns);
     if is_over(a) {
         let p = promoted(a, priority);
-        count_blocked(a, priority, blocked);
+        count_blocked(a, present, priority, blocked);
         return Tested {
             registers: close(a, p),
             closed: Closed::Span(interval_entry(a, t, p)),
@@ -120,18 +121,19 @@ pub fn steps_c_to_f(
     r: Registers,
     t: u64,
     new: u32,
+    present: u32,
     priority: &[u8; 32],
     columns: &Columns,
     release: &mut [u64; 32],
     blocked: &mut [u8; 32],
 ) -> Tested
-    ensures { λ x. ⌜ StepsCToF r t new (now (priority .entry)) (now (columns .entry)) (arrays (now (release .entry)) (now (blocked .entry))) (arrays (now (release .exit)) (now (blocked .exit))) x ⌝ }
+    ensures { λ x. ⌜ StepsCToF r t new present (now (priority .entry)) (now (columns .entry)) (arrays (now (release .entry)) (now (blocked .entry))) (arrays (now (release .exit)) (now (blocked .exit))) x ⌝ }
 {
     let d = steps_c_d(r, t, new, priority, release, blocked);
     let e = chosen(d, t, priority, columns);
     if is_over(e) {
         let p = promoted(e, priority);
-        count_blocked(e, priority, blocked);
+        count_blocked(e, present, priority, blocked);
         return Tested {
             registers: close(e, p),
             closed: Closed::Span(interval_entry(e, t, p)),
@@ -148,20 +150,21 @@ fn steps_a_to_g<'a>(
     r: Registers,
     t: u64,
     set: u32,
+    present: u32,
     priority: &'a [u8; 32],
     columns: &'a Columns,
     release: &mut [u64; 32],
     blocked: &mut [u8; 32],
 ) -> Stepped
-    ensures { λ x. ⌜ StepsAToG r t set (now (priority .entry)) (now (columns .entry)) (arrays (now (release .entry)) (now (blocked .entry))) (arrays (now (release .exit)) (now (blocked .exit))) x ⌝ }
+    ensures { λ x. ⌜ StepsAToG r t set present (now (priority .entry)) (now (columns .entry)) (arrays (now (release .entry)) (now (blocked .entry))) (arrays (now (release .exit)) (now (blocked .exit))) x ⌝ }
 {
     let done = completed(r, t, release, blocked);
-    let b = steps_a_b(r, t, priority, columns, blocked);
+    let b = steps_a_b(r, t, present, priority, columns, blocked);
     let first = b.closed;
     let open = b.registers;
     let new = sets::difference(set, open.pending);
     let skipped = sets::intersection(set, open.pending);
-    let f = steps_c_to_f(open, t, new, priority, columns, release, blocked);
+    let f = steps_c_to_f(open, t, new, present, priority, columns, release, blocked);
     let last = f.closed;
     let left = f.registers;
     let held = held_over(open, new);
@@ -188,6 +191,7 @@ fn served(d: Dispatcher, t: u64, set: u32) -> Step
         d.registers,
         t,
         set,
+        d.table.present,
         &d.table.priority,
         &d.table.columns,
         &mut release,

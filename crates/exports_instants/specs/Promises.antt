@@ -73,7 +73,7 @@ pub record LeftTo (d : State) (t set : ℕ) (m : Memory) (x : Left) (skipped : �
   pub interval-times-is : after .interval-times ≡ closing-times (occurred d t set .closed) (before .interval-times)
   pub interval-bytes-is : after .interval-bytes ≡ closing-bytes (occurred d t set .closed) (before .interval-bytes)
 
-abbrev pub StepsTold : Registers → ℕ → ℕ → List ℕ → List ℕ → Arrays → Arrays → Left → ℕ → Occurrences → Occurrences → Type 0
-StepsTold r t set priority columns a a′ x skipped before after =
-    (m : Memory) → m .table .priority ≡ priority → m .table .columns ≡ columns
+abbrev pub StepsTold : Registers → ℕ → ℕ → ℕ → List ℕ → List ℕ → Arrays → Arrays → Left → ℕ → Occurrences → Occurrences → Type 0
+StepsTold r t set present priority columns a a′ x skipped before after =
+    (m : Memory) → m .table .present ≡ present → m .table .priority ≡ priority → m .table .columns ≡ columns
     → LeftTo (state-in (with-arrays m a) r) t set (with-arrays m a′) x skipped before after

@@ -192,6 +192,7 @@ fn steps(
     r: Registers,
     t: u64,
     set: u32,
+    present: u32,
     priority: &[u8; 32],
     columns: &[u32; 96],
     release: &mut [u64; 32],
@@ -202,16 +203,16 @@ fn steps(
     spantimes: &mut [u64; 2],
     spanbytes: &mut [u8; 7],
 ) -> Left
-    ensures { λ x. ⌜ StepsTold r t set (now (priority .entry)) (now (columns .entry)) (arrays (now (release .entry)) (now (blocked .entry))) (arrays (now (release .exit)) (now (blocked .exit))) x (now (skipped .exit)) (occurrences (now (jobtimes .entry)) (now (jobbytes .entry)) (now (spantimes .entry)) (now (spanbytes .entry))) (occurrences (now (jobtimes .exit)) (now (jobbytes .exit)) (now (spantimes .exit)) (now (spanbytes .exit))) ⌝ }
+    ensures { λ x. ⌜ StepsTold r t set present (now (priority .entry)) (now (columns .entry)) (arrays (now (release .entry)) (now (blocked .entry))) (arrays (now (release .exit)) (now (blocked .exit))) x (now (skipped .exit)) (occurrences (now (jobtimes .entry)) (now (jobbytes .entry)) (now (spantimes .entry)) (now (spanbytes .entry))) (occurrences (now (jobtimes .exit)) (now (jobbytes .exit)) (now (spantimes .exit)) (now (spanbytes .exit))) ⌝ }
 {
     let done = put_job(rules::completed(r, t, release, blocked), jobtimes, jobbytes);
-    let b = dispatcher::steps_a_b(r, t, priority, columns, blocked);
+    let b = dispatcher::steps_a_b(r, t, present, priority, columns, blocked);
     let before = b.closed;
     let first = put_first(before, spantimes, spanbytes);
     let open = b.registers;
     let new = sets::difference(set, open.pending);
     *skipped = sets::intersection(set, open.pending);
-    let f = dispatcher::steps_c_to_f(open, t, new, priority, columns, release, blocked);
+    let f = dispatcher::steps_c_to_f(open, t, new, present, priority, columns, release, blocked);
     let after = f.closed;
     let closed = put_last(first, after, spantimes, spanbytes);
     let left = f.registers;
@@ -257,6 +258,7 @@ pub extern "C" fn gateway_instant_parts(
         r,
         time,
         set,
+        present,
         priority,
         columns,
         release,

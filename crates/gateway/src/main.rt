@@ -77,6 +77,7 @@ fn print_run(input: &[u8], part: TaskPart, out: &mut [u8])
         let x = run::advance(
             &input[at..],
             r,
+            part.table.present,
             &part.table.priority,
             &part.table.columns,
             &mut release,

@@ -58,6 +58,10 @@ frame-g d t set =
     g-frame (at-f d t set .state) t (held-at d t set)
     ∙ b-frame (fresh-stage (at-e d t set)) t ∙ frame-e d t set
 
+pub table-a : (d : State) (t : ℕ) → at-a d t .state .table ≡ d .table
+unfolding at-a
+table-a d t = ap (λ (x : Frame). x .table) (a-frame (at-clock d t) t)
+
 pub table-b : (d : State) (t : ℕ) → at-b d t .state .table ≡ d .table
 table-b d t = ap (λ (x : Frame). x .table) (frame-b d t)
 

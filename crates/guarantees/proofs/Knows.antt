@@ -32,7 +32,7 @@ module _ (pr : List ℕ) (n : ℕ) where
   lower-more (q ∷ w) r = omega (arith, lower-more w r)
 
   -- none is lower than itself
-  not-itself : (m : ℕ) → eqb n m ≡ true → is-lower pr n (Task m) ≡ false
+  pub not-itself : (m : ℕ) → eqb n m ≡ true → is-lower pr n (Task m) ≡ false
   not-itself m e = subst (λ (k : ℕ). ltb (getD pr n 0) (getD pr k 0) ≡ false) (eqb-true n m e) (le-ltb (getD pr n 0) (getD pr n 0) (omega arith))
 
 -- ---- what a state knows of a task's last job
@@ -279,14 +279,14 @@ module _ (pr : List ℕ) (n : ℕ) (small : n < 32) where
 
   -- ---- b, f
 
-  awaits-in : (ready : ℕ) (c : CopyIn) → settled c ≡ true → Awaits pr n small ready (held-task c) → member n (awaiting-execution c ready) ≡ true
+  pub awaits-in : (ready : ℕ) (c : CopyIn) → settled c ≡ true → Awaits pr n small ready (held-task c) → member n (awaiting-execution c ready) ≡ true
   awaits-in ready Unchosen h w = absurd (false≢true h)
   awaits-in ready NoneChosen h w = ⊎-elim (λ m. m) (λ e. absurd (false≢true e)) w
   awaits-in ready (Copying m until) h w = absurd (false≢true h)
   awaits-in ready (Loaded m) h w = ⊎-elim (λ y. insert-other m ready n small y) (λ e. insert-same m ready n small e) w
   awaits-in ready (Cancelled m fate) h w = ⊎-elim (λ m. m) (λ e. absurd (false≢true e)) w
 
-  higher-is : (d : State) (s : ℕ) (r : MaybeTask) → d .table .priority ≡ pr → member n (higher d r s) ≡ (member n s && is-lower pr n r)
+  pub higher-is : (d : State) (s : ℕ) (r : MaybeTask) → d .table .priority ≡ pr → member n (higher d r s) ≡ (member n s && is-lower pr n r)
   unfolding higher-than
   higher-is d s NoTask e = none n ∙ go (member n s)
     where
@@ -302,7 +302,7 @@ module _ (pr : List ℕ) (n : ℕ) (small : n < 32) where
   one false c l = omega arith
 
   -- the count after an interval's end
-  close-count : (d : State) (i : Interval) → n < length (d .jobs .blocked) → getD (d .jobs .blocked) n 0 ≤ 2
+  pub close-count : (d : State) (i : Interval) → n < length (d .jobs .blocked) → getD (d .jobs .blocked) n 0 ≤ 2
       → getD (close d i .jobs .blocked) n 0 ≡ getD (d .jobs .blocked) n 0 + cond (member n (blocks d i)) 1 0
   unfolding close
   close-count d i l b =
@@ -310,7 +310,7 @@ module _ (pr : List ℕ) (n : ℕ) (small : n < 32) where
       ∙ ap (λ (j : ℕ). cond (member j (blocks d i)) (min (getD (d .jobs .blocked) n 0 + 1) 255) (getD (d .jobs .blocked) n 0)) (zero-add n)
       ∙ one (member n (blocks d i)) (getD (d .jobs .blocked) n 0) b
 
-  blocks-is : (d : State) (i : Interval) → d .table .priority ≡ pr
+  pub blocks-is : (d : State) (i : Interval) → d .table .priority ≡ pr
       → member n (blocks d i) ≡ (member n (awaiting-execution (i .copyin) (d .jobs .ready)) && is-lower pr n (processor-task (i .processor)))
   unfolding blocks
   blocks-is d i e = higher-is d (awaiting-execution (i .copyin) (d .jobs .ready)) (processor-task (i .processor)) e
@@ -322,7 +322,7 @@ module _ (pr : List ℕ) (n : ℕ) (small : n < 32) where
   leaves s (Executing m start until) r = absurd r
   leaves s (Finished m start) r = (r, not-itself pr n m (r .0))
 
-  and-false : (b : Bool) → (b && false) ≡ false
+  pub and-false : (b : Bool) → (b && false) ≡ false
   and-false true = refl
   and-false false = refl
 

@@ -28,5 +28,6 @@ pub mod Tallies
 pub mod Knows
 pub mod Closings
 pub mod Told
+pub mod Counts
 pub mod Demand3
 pub mod Arithmetic

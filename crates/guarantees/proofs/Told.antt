@@ -77,7 +77,7 @@ module _ (table : Table) (marks : ℕ) (fair : Fair table marks) (n : ℕ) (smal
     abbrev begins-g : List Event
     begins-g = begin-events t (at-f d t set .state .phase) (at-g d t set .phase) ++ start-events t (at-f d t set .state .phase) (at-g d t set .phase)
 
-    knows-a : K (tally n x ended-a) (at-a d t .state)
+    pub knows-a : K (tally n x ended-a) (at-a d t .state)
     unfolding at-a
     knows-a = a-knows pr n small (at-clock d t) t (d .phase) x refl (clock-knows d t x k)
 
@@ -88,7 +88,7 @@ module _ (table : Table) (marks : ℕ) (fair : Fair table marks) (n : ℕ) (smal
     parted-b : Parted (table .present) (fair .present) (at-b d t .state) (at-b d t .state .phase)
     parted-b = to-b (table .present) (fair .present) d t (g .parted) .parted
 
-    knows-e : K (tally n (tally n (tally n x ended-a) ends-b) takes-c) (at-e d t set)
+    pub knows-e : K (tally n (tally n (tally n x ended-a) ends-b) takes-c) (at-e d t set)
     unfolding at-e
     knows-e =
         let b : State = at-b d t .state in
@@ -100,7 +100,7 @@ module _ (table : Table) (marks : ℕ) (fair : Fair table marks) (n : ℕ) (smal
         (c-knows pr n small (table .present) (fair .present) b t new (d .marked) (tally n (tally n x ended-a) ends-b) parted-b
         (λ j m. unfold new-at taken in difference-right set (b .jobs .pending) j m) knows-b))
 
-    parted-e : Parted (table .present) (fair .present) (at-e d t set) (at-e d t set .phase)
+    pub parted-e : Parted (table .present) (fair .present) (at-e d t set) (at-e d t set .phase)
     parted-e = to-e (table .present) (fair .present) d t set known parted-b .parted
 
     knows-f : K (tally n (tally n (tally n (tally n x ended-a) ends-b) takes-c) ends-f) (at-f d t set .state)

@@ -3,4 +3,5 @@ pub mod History
 pub mod Queries
 pub mod Entries
 pub mod Claim
+pub mod Counting
 pub mod States

@@ -102,6 +102,7 @@ fn replays(s: &[u8], part: TaskPart, budget: usize, stored: &[u8]) -> bool
         let x = run::advance(
             &s[at..],
             r,
+            part.table.present,
             &part.table.priority,
             &part.table.columns,
             &mut release,

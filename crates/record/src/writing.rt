@@ -25,6 +25,7 @@ fn run_over(s: &[u8], part: TaskPart, budget: usize, out: &mut [u8], keep: bool)
         let x = run::advance(
             &s[at..],
             r,
+            part.table.present,
             &part.table.priority,
             &part.table.columns,
             &mut release,

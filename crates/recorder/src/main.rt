@@ -58,6 +58,7 @@ fn write_run(input: &[u8], part: TaskPart, out: &mut [u8])
         let x = run::advance(
             &input[at..],
             r,
+            part.table.present,
             &part.table.priority,
             &part.table.columns,
             &mut release,

@@ -1,4 +1,4 @@
--- A loop from member to member of a set that stores into an array at each: `count_higher` and `stamp`.
+-- A loop from member to member of a set that stores into an array at each: `count_all` and `stamp`.
 use Rattle.rules.specs.Types.{cond, List, [], _∷_, ℕ, zero, suc, _+_, _^_, _<_, _≡_, refl, sym, ap, _∙_, subst}
 use native.Mathlib.Omega.{arith}
 use native.Mathlib.Nat.{le-of-suc-le-suc, not-suc-le-zero}

@@ -1,11 +1,11 @@
 -- The test of steps b and f over the registers: an interval that is at its end closes, any other stays. Assumes nothing.
-use Rattle.rules.specs.Types.{true, false, List, ℕ, Interval, Phase, Between, Within, State, IntervalEntry, NoInterval, Span, Stage, Registers, _≡_, refl, sym, ap, _∙_, subst}
+use Rattle.rules.specs.Types.{Bool, true, false, cond, List, ℕ, Interval, Phase, Between, Within, State, IntervalEntry, NoInterval, Span, Stage, Registers, _≡_, refl, sym, ap, _∙_, subst}
 use mathlib.Core.Bool.{false≢true}
 use lib.Dec.{eqb}
 use Rattle.sets.proofs.Laws.{by-test}
 use Rattle.rules.specs.Instant.{fresh-stage, over, is-over, promoted, blocks, counted, closed-with, close, entry-with, interval-entry, close-stage, step-a, step-b, step-e, steps-c-d, steps-c-to-e, steps-c-to-f, at-a, at-b}
 use Rattle.rules.specs.Registers.{as-task, copyin-in, interval-in, phase-in, Arrays, Memory, with-arrays, with-counts, at-tick, state-in}
-use Rattle.rules.specs.Steps.{TestedTo}
+use Rattle.rules.specs.Steps.{TestedTo, blocks-at-end}
 use Rattle.rules.proofs.BySteps.{none-closed, chosen-after}
 
 stays-at : (s : Stage) (t : ℕ) (p : Phase) → is-over p ≡ false → step-b s t p ≡ s
@@ -18,7 +18,7 @@ unfolding step-b close-stage
 closes-at s t i h = rw (h, close-stage)
 
 -- an interval that is at its end is open
-open-in : (r : Registers) → is-over (phase-in r) ≡ true → phase-in r ≡ Within (interval-in r)
+pub open-in : (r : Registers) → is-over (phase-in r) ≡ true → phase-in r ≡ Within (interval-in r)
 unfolding phase-in is-over
 open-in r h = by-test (eqb (r .copyin) 6) (λ e. absurd (false≢true (rw e at h))) (λ e. rw e)
 
@@ -26,7 +26,7 @@ open-in r h = by-test (eqb (r .copyin) 6) (λ e. absurd (false≢true (rw e at h
 pub record Ends (m : Memory) (r : Registers) (t p : ℕ) (after : List ℕ) (x : Registers) (e : IntervalEntry) : Type 0 where
   pub ends-now : is-over (phase-in r) ≡ true
   pub promoted-is : as-task p ≡ promoted (state-in m r) (interval-in r) (copyin-in r)
-  pub counted-is : after ≡ counted (blocks (state-in m r) (interval-in r)) 0 (m .arrays .blocked)
+  pub counted-is : after ≡ counted (blocks-at-end (state-in m r) r) 0 (m .arrays .blocked)
   pub closed-is : state-in (with-counts m after) x ≡ closed-with (state-in (with-counts m after) r) (interval-in r) (as-task p)
   pub entry-is : e ≡ entry-with (r .half) t (interval-in r) (as-task p)
 
@@ -55,7 +55,7 @@ module _ (m : Memory) (r : Registers) (t : ℕ) (s : Stage) (state : state-in m 
     ends-at : TestedTo (step-b s t (phase-in r)) (with-counts m after) x (Span e)
     ends-at = record {
       state = h .closed-is
-          ∙ ap (λ (w : List ℕ). closed-with (state-in (with-counts m w) r) i (as-task p)) (h .counted-is)
+          ∙ ap (λ (w : List ℕ). closed-with (state-in (with-counts m w) r) i (as-task p)) (h .counted-is ∙ ap (λ (b : Bool). counted (cond b (blocks d i) 0) 0 (m .arrays .blocked)) (h .ends-now))
           ∙ ap (closed-with (state-in (with-counts m (counted (blocks d i) 0 (m .arrays .blocked))) r) i) (h .promoted-is)
           ∙ same-state
           ∙ sym (ap (λ (w : Stage). w .state) is-closed);

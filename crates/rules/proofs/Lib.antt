@@ -4,6 +4,7 @@ pub mod Parts
 pub mod Fields
 pub mod BySteps
 pub mod ClosingTest
+pub mod Blocked
 pub mod Ticks
 pub mod Numbers
 pub mod Cut

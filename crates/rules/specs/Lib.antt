@@ -3,6 +3,7 @@ pub mod Types
 pub mod With
 pub mod Order
 pub mod Instant
+pub mod Blocking
 pub mod Registers
 pub mod Calls
 pub mod Cut

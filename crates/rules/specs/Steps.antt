@@ -1,9 +1,12 @@
 -- What each function over the registers promises: read back, its outcome is that of the rules, whatever stands in the memory that it is
 -- not handed.
-use Rattle.rules.specs.Types.{Bool, false, cond, List, ℕ, _-_, _^_, _≤_, _≡_, _⊎_, Table, MaybeTask, Cancelled, State, Done, Closed, Due, Never, Tick, Stage, Registers, Unit}
+use Rattle.rules.specs.Types.{Bool, true, false, cond, List, ℕ, _-_, _^_, _≤_, _≡_, _⊎_, Table, MaybeTask, Cancelled, State, Done, Closed, Due, Never, Tick, Stage, Registers, Unit}
+use mathlib.Core.Logic.{_↔_}
 use lib.Dec.{eqb}
+use Rattle.sets.specs.Sets.{member}
 use Rattle.rules.specs.Order.{outranks}
-use Rattle.rules.specs.Instant.{processor-at, copyin-at, step-a, resting, settled, blocks, promoted, processor-task, copyout-task, copyin-task, copyin-fate, without-promoted, next-of, awaiting-copyout, counted, closed-with, stamped, step-c, step-d, steps-c-d, step-e, begin-processor, begin-copyout, begin, step-g, processor-due, copyout-due, copyin-due}
+use Rattle.rules.specs.Instant.{processor-at, copyin-at, step-a, resting, settled, is-over, blocks, promoted, processor-task, copyout-task, copyin-task, copyin-fate, without-promoted, next-of, awaiting-copyout, counted, closed-with, stamped, step-c, step-d, steps-c-d, step-e, begin-processor, begin-copyout, begin, step-g, processor-due, copyout-due, copyin-due}
+use Rattle.rules.specs.Blocking.{blockable, CanBlock}
 use Rattle.rules.specs.Calls.{opened}
 use Rattle.rules.specs.Registers.{as-task, as-processor, as-copyout, as-copyin, as-next, as-outgoing, copyin-in, interval-in, phase-in, Arrays, arrays, Memory, with-arrays, first-memory, state-in}
 
@@ -40,11 +43,30 @@ Resting kind x = (n start until : ℕ) → x ≡ resting (as-processor kind n st
 abbrev pub Settled : ℕ → Bool → Type 0
 Settled kind x = (n until : ℕ) → x ≡ settled (as-copyin kind n until)
 
--- one more for each job that the interval blocks
-abbrev pub CountsBlocked : Registers → List ℕ → List ℕ → List ℕ → Type 0
-CountsBlocked r priority before after =
-    (m : Memory) → m .table .priority ≡ priority
-    → after ≡ counted (blocks (state-in m r) (interval-in r)) 0 before
+-- an interval is at its end whose processor, which is not idle, executed a job
+abbrev pub executed-at-end : Registers → Bool
+executed-at-end r = cond (eqb (r .processor) 0) false (is-over (phase-in r))
+
+-- the set of tasks that the interval can block: as it is defined, and in words
+pub record BlockableIn (d : State) (x : ℕ) : Type 0 where
+  pub is : x ≡ blockable d
+  pub exactly : (k : ℕ) → (member k x ≡ true) ↔ CanBlock d k
+
+abbrev pub Blockable : Registers → ℕ → List ℕ → ℕ → Type 0
+Blockable r present priority x = (m : Memory) → m .table .present ≡ present → m .table .priority ≡ priority → BlockableIn (state-in m r) x
+
+-- the jobs that an interval blocks, if it is at its end
+abbrev pub blocks-at-end : State → Registers → ℕ
+blocks-at-end d r = cond (is-over (phase-in r)) (blocks d (interval-in r)) 0
+
+abbrev pub BlockedJobs : Registers → ℕ → List ℕ → ℕ → Type 0
+BlockedJobs r present priority x = (m : Memory) → m .table .present ≡ present → m .table .priority ≡ priority → x ≡ blocks-at-end (state-in m r) r
+
+-- one more for each of them
+abbrev pub CountsBlocked : Registers → ℕ → List ℕ → List ℕ → List ℕ → Type 0
+CountsBlocked r present priority before after =
+    (m : Memory) → m .table .present ≡ present → m .table .priority ≡ priority
+    → after ≡ counted (blocks-at-end (state-in m r) r) 0 before
 
 abbrev pub Promoted : Registers → List ℕ → ℕ → Type 0
 Promoted r priority x =

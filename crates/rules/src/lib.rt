@@ -20,6 +20,7 @@ pub use next_due::due_tick;
 pub use next_due::least;
 pub use step_a::completed;
 pub use step_a::ended;
+pub use step_b::blockable;
 pub use step_b::close;
 pub use step_b::count_blocked;
 pub use step_b::interval_entry;

@@ -52,19 +52,32 @@ fn can_rise(count: u8) -> bool
     count < 255
 }
 
-// One more, held at 255, for each task of a set that has a higher priority than task `n`. The loop goes from member to member.
-pub fn count_higher(priority: &[u8; 32], n: u8, set: u32, counts: &mut [u8; 32])
-    ensures { λ _. ⌜ now (counts .exit) ≡ instant.counted (order.higher-than (now (priority .entry)) n set) 0 (now (counts .entry)) ⌝ }
+// The tasks of a set with a higher priority than task `n`. All 32 are compared at once, which is faster than to go from member to member.
+pub fn higher(priority: &[u8; 32], n: u8, set: u32) -> u32
+    ensures { λ r. ⌜ r ≡ order.higher-than (now (priority .entry)) n set ⌝ }
 {
     let limit = byte_of(priority, n);
+    let mut found: u32 = 0;
+    let mut k: u8 = 0;
+    while k < NO_TASK {
+        if priority[k as usize] < limit {
+            found = sets::insert(found, k);
+        }
+        k += 1;
+    }
+    sets::intersection(found, set)
+}
+
+// One more, held at 255, for each task of a set. The loop goes from member to member.
+pub fn count_all(set: u32, counts: &mut [u8; 32])
+    ensures { λ _. ⌜ now (counts .exit) ≡ instant.counted set 0 (now (counts .entry)) ⌝ }
+{
     let mut left = set;
     while left != 0 {
         let i = sets::lowest(left) as usize;
-        if priority[i] < limit {
-            let count = counts[i];
-            if can_rise(count) {
-                counts[i] = count + 1;
-            }
+        let count = counts[i];
+        if can_rise(count) {
+            counts[i] = count + 1;
         }
         left = sets::rest(left);
     }

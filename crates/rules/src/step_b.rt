@@ -2,14 +2,15 @@
 // it ends.
 use crate::Registers;
 use crate::codes;
-use crate::order::count_higher;
+use crate::order::count_all;
 use crate::order::first;
+use crate::order::higher;
 use entries::IntervalEntry;
 use entries::MaybeTask;
 ghost use mathlib.Core.Path.{_≡_};
 ghost use Rattle.rules.specs.Instant as instant;
 ghost use Rattle.rules.specs.Registers.{as-task, copyin-in, interval-in, phase-in};
-ghost use Rattle.rules.specs.Steps.{Resting, Settled, CountsBlocked, Promoted, ProcessorTask, CopyOutTask, CopyInTask, CopyInFate, AwaitingCopyOut, BetweenWith, ClosedTo};
+ghost use Rattle.rules.specs.Steps.{Resting, Settled, executed-at-end, Blockable, BlockedJobs, CountsBlocked, Promoted, ProcessorTask, CopyOutTask, CopyInTask, CopyInFate, AwaitingCopyOut, BetweenWith, ClosedTo};
 
 fn resting(kind: u8) -> bool
     ensures { λ x. ⌜ Resting kind x ⌝ }
@@ -56,13 +57,52 @@ fn awaiting_execution(r: Registers) -> u32
     r.ready
 }
 
-// One more blocked interval for each job that the interval blocks: the processor executes a lower-priority one in it.
-pub fn count_blocked(r: Registers, priority: &[u8; 32], blocked: &mut [u8; 32])
-    ensures { λ _. ⌜ CountsBlocked r (now (priority .entry)) (now (blocked .entry)) (now (blocked .exit)) ⌝ }
+// An interval is at its end whose processor executed a job.
+fn executed(r: Registers) -> bool
+    ensures { λ x. ⌜ x ≡ executed-at-end r ⌝ }
 {
-    if r.processor != codes::IDLE {
-        count_higher(priority, r.task, awaiting_execution(r), blocked);
+    if r.processor == codes::IDLE {
+        return false;
     }
+    is_over(r)
+}
+
+// The tasks that the interval can block: those of the table with a higher priority than the one that the processor executed, and none if it
+// idled. It is gathered once, before the jobs are walked.
+pub fn blockable(r: Registers, present: u32, priority: &[u8; 32]) -> u32
+    ensures { λ x. ⌜ Blockable r present (now (priority .entry)) x ⌝ }
+{
+    if !executed(r) {
+        return 0;
+    }
+    higher(priority, r.task, present)
+}
+
+// The jobs that the interval blocks: those that await execution and whose task is in the set. A job of a task that is not in the table, which
+// no state that calls made has, is compared for itself.
+fn blocked_jobs(r: Registers, present: u32, priority: &[u8; 32]) -> u32
+    ensures { λ x. ⌜ BlockedJobs r present (now (priority .entry)) x ⌝ }
+{
+    let waiting = awaiting_execution(r);
+    if waiting == 0 {
+        return 0;
+    }
+    if !executed(r) {
+        return 0;
+    }
+    let blocks = sets::intersection(waiting, blockable(r, present, priority));
+    let strays = sets::difference(waiting, present);
+    if strays == 0 {
+        return blocks;
+    }
+    sets::union(blocks, higher(priority, r.task, strays))
+}
+
+// One more blocked interval for each job that the interval blocks.
+pub fn count_blocked(r: Registers, present: u32, priority: &[u8; 32], blocked: &mut [u8; 32])
+    ensures { λ _. ⌜ CountsBlocked r present (now (priority .entry)) (now (blocked .entry)) (now (blocked .exit)) ⌝ }
+{
+    count_all(blocked_jobs(r, present, priority), blocked);
 }
 
 // R4: where the copy-in was cancelled or thrown out, or none was chosen, the highest-priority marked job released in the interval and

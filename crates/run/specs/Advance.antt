@@ -33,26 +33,26 @@ pub record SteppedAB (r : Registers) (t : ℕ) (m : Memory) (out : List ℕ) (x 
   pub state : state-in (with-counts (at-tick m t) after) (x .registers) ≡ at-b (state-in m r) t .state
   pub puts : Puts 0 (stage-entries (at-b (state-in m r) t)) out (x .end) out-after
 
-abbrev pub StepsAB : Registers → ℕ → List ℕ → List ℕ → Arrays → List ℕ → Placed → List ℕ → List ℕ → Type 0
-StepsAB r t priority columns before out x after out-after =
-    (m : Memory) → m .table .priority ≡ priority → m .table .columns ≡ columns → SteppedAB r t (with-arrays m before) out x after out-after
+abbrev pub StepsAB : Registers → ℕ → ℕ → List ℕ → List ℕ → Arrays → List ℕ → Placed → List ℕ → List ℕ → Type 0
+StepsAB r t present priority columns before out x after out-after =
+    (m : Memory) → m .table .present ≡ present → m .table .priority ≡ priority → m .table .columns ≡ columns → SteppedAB r t (with-arrays m before) out x after out-after
 
 pub record SteppedCToF (at : ℕ) (r : Registers) (t new : ℕ) (m : Memory) (out : List ℕ) (x : Placed) (after : Arrays) (out-after : List ℕ) : Type 0 where
   pub state : state-in (with-arrays m after) (x .registers) ≡ steps-c-to-f (state-in m r) t new .state
   pub puts : Puts at (span-entries (steps-c-to-f (state-in m r) t new .closed)) out (x .end) out-after
 
-abbrev pub StepsCToF : ℕ → Registers → ℕ → ℕ → List ℕ → List ℕ → Arrays → List ℕ → Placed → Arrays → List ℕ → Type 0
-StepsCToF at r t new priority columns before out x after out-after =
-    (m : Memory) → m .table .priority ≡ priority → m .table .columns ≡ columns → SteppedCToF at r t new (with-arrays m before) out x after out-after
+abbrev pub StepsCToF : ℕ → Registers → ℕ → ℕ → ℕ → List ℕ → List ℕ → Arrays → List ℕ → Placed → Arrays → List ℕ → Type 0
+StepsCToF at r t new present priority columns before out x after out-after =
+    (m : Memory) → m .table .present ≡ present → m .table .priority ≡ priority → m .table .columns ≡ columns → SteppedCToF at r t new (with-arrays m before) out x after out-after
 
 -- steps a to g
 pub record SteppedAToG (r : Registers) (t set : ℕ) (m : Memory) (out : List ℕ) (x : Placed) (after : Arrays) (out-after : List ℕ) : Type 0 where
   pub state : state-in (with-arrays (at-tick m t) after) (x .registers) ≡ at-g (state-in m r) t set
   pub puts : Puts 0 (moment-entries (record { time = t; occurred = occurred (state-in m r) t set })) out (x .end) out-after
 
-abbrev pub StepsAToG : Registers → ℕ → ℕ → List ℕ → List ℕ → Arrays → List ℕ → Placed → Arrays → List ℕ → Type 0
-StepsAToG r t set priority columns before out x after out-after =
-    (m : Memory) → m .table .priority ≡ priority → m .table .columns ≡ columns → SteppedAToG r t set (with-arrays m before) out x after out-after
+abbrev pub StepsAToG : Registers → ℕ → ℕ → ℕ → List ℕ → List ℕ → Arrays → List ℕ → Placed → Arrays → List ℕ → Type 0
+StepsAToG r t set present priority columns before out x after out-after =
+    (m : Memory) → m .table .present ≡ present → m .table .priority ≡ priority → m .table .columns ≡ columns → SteppedAToG r t set (with-arrays m before) out x after out-after
 
 -- ---- A run advanced
 
@@ -78,6 +78,6 @@ pub record AdvancedTo (rest : List ℕ) (m : Memory) (r : Registers) (out : List
   pub ended : x .time ≡ 2 ^ 64 - 1 → Ended r (m .arrays) out x after out-after
   pub made : (x .time ≡ 2 ^ 64 - 1 → ⊥) → Made rest m r out x after out-after
 
-abbrev pub Advances : List ℕ → Registers → List ℕ → List ℕ → Arrays → List ℕ → Advanced → Arrays → List ℕ → Type 0
-Advances rest r priority columns before out x after out-after =
-    (m : Memory) → m .table .priority ≡ priority → m .table .columns ≡ columns → AdvancedTo rest (with-arrays m before) r out x after out-after
+abbrev pub Advances : List ℕ → Registers → ℕ → List ℕ → List ℕ → Arrays → List ℕ → Advanced → Arrays → List ℕ → Type 0
+Advances rest r present priority columns before out x after out-after =
+    (m : Memory) → m .table .present ≡ present → m .table .priority ≡ priority → m .table .columns ≡ columns → AdvancedTo rest (with-arrays m before) r out x after out-after

@@ -23,19 +23,20 @@ fn steps_a_b(
     out: &mut [u8],
     r: Registers,
     t: u64,
+    present: u32,
     priority: &[u8; 32],
     columns: &Columns,
     release: &[u64; 32],
     blocked: &mut [u8; 32],
 ) -> Placed
-    ensures { λ x. ⌜ StepsAB r t (now (priority .entry)) (now (columns .entry)) (arrays (now (release .entry)) (now (blocked .entry))) (now (out .entry)) x (now (blocked .exit)) (now (out .exit)) ⌝ }
+    ensures { λ x. ⌜ StepsAB r t present (now (priority .entry)) (now (columns .entry)) (arrays (now (release .entry)) (now (blocked .entry))) (now (out .entry)) x (now (blocked .exit)) (now (out .exit)) ⌝ }
 {
     let done = rules::completed(r, t, release, blocked);
     let end = done_at(out, 0, done);
     let a = rules::ended(r, t, columns);
     if rules::is_over(a) {
         let p = rules::promoted(a, priority);
-        rules::count_blocked(a, priority, blocked);
+        rules::count_blocked(a, present, priority, blocked);
         let last = interval_at(out, end, rules::interval_entry(a, t, p));
         return Placed {
             registers: rules::close(a, p),
@@ -52,19 +53,20 @@ fn steps_c_to_f(
     r: Registers,
     t: u64,
     new: u32,
+    present: u32,
     priority: &[u8; 32],
     columns: &Columns,
     release: &mut [u64; 32],
     blocked: &mut [u8; 32],
 ) -> Placed
     requires { ⌜ at ≤ 1000 ⌝ }
-    ensures { λ x. ⌜ StepsCToF at r t new (now (priority .entry)) (now (columns .entry)) (arrays (now (release .entry)) (now (blocked .entry))) (now (out .entry)) x (arrays (now (release .exit)) (now (blocked .exit))) (now (out .exit)) ⌝ }
+    ensures { λ x. ⌜ StepsCToF at r t new present (now (priority .entry)) (now (columns .entry)) (arrays (now (release .entry)) (now (blocked .entry))) (now (out .entry)) x (arrays (now (release .exit)) (now (blocked .exit))) (now (out .exit)) ⌝ }
 {
     let d = rules::steps_c_d(r, t, new, priority, release, blocked);
     let e = rules::chosen(d, t, priority, columns);
     if rules::is_over(e) {
         let p = rules::promoted(e, priority);
-        rules::count_blocked(e, priority, blocked);
+        rules::count_blocked(e, present, priority, blocked);
         let last = interval_at(out, at, rules::interval_entry(e, t, p));
         return Placed {
             registers: rules::close(e, p),
@@ -83,18 +85,30 @@ fn steps_a_to_g(
     r: Registers,
     t: u64,
     set: u32,
+    present: u32,
     priority: &[u8; 32],
     columns: &Columns,
     release: &mut [u64; 32],
     blocked: &mut [u8; 32],
 ) -> Placed
-    ensures { λ x. ⌜ StepsAToG r t set (now (priority .entry)) (now (columns .entry)) (arrays (now (release .entry)) (now (blocked .entry))) (now (out .entry)) x (arrays (now (release .exit)) (now (blocked .exit))) (now (out .exit)) ⌝ }
+    ensures { λ x. ⌜ StepsAToG r t set present (now (priority .entry)) (now (columns .entry)) (arrays (now (release .entry)) (now (blocked .entry))) (now (out .entry)) x (arrays (now (release .exit)) (now (blocked .exit))) (now (out .exit)) ⌝ }
 {
-    let b = steps_a_b(out, r, t, priority, columns, release, blocked);
+    let b = steps_a_b(out, r, t, present, priority, columns, release, blocked);
     let open = b.registers;
     let new = sets::difference(set, open.pending);
     let last = skips_at(out, b.end, sets::intersection(set, open.pending), t);
-    let f = steps_c_to_f(out, last, open, t, new, priority, columns, release, blocked);
+    let f = steps_c_to_f(
+        out,
+        last,
+        open,
+        t,
+        new,
+        present,
+        priority,
+        columns,
+        release,
+        blocked,
+    );
     let held = rules::held_over(open, new);
     let registers = rules::begun(f.registers, t, held, priority, columns);
     let end = f.end;
@@ -106,13 +120,14 @@ fn steps_a_to_g(
 pub fn advance<'a>(
     rest: &[u8],
     r: Registers,
+    present: u32,
     priority: &'a [u8; 32],
     columns: &'a Columns,
     release: &mut [u64; 32],
     blocked: &mut [u8; 32],
     out: &mut [u8],
 ) -> Advanced
-    ensures { λ x. ⌜ Advances (now (rest .entry)) r (now (priority .entry)) (now (columns .entry)) (arrays (now (release .entry)) (now (blocked .entry))) (now (out .entry)) x (arrays (now (release .exit)) (now (blocked .exit))) (now (out .exit)) ⌝ }
+    ensures { λ x. ⌜ Advances (now (rest .entry)) r present (now (priority .entry)) (now (columns .entry)) (arrays (now (release .entry)) (now (blocked .entry))) (now (out .entry)) x (arrays (now (release .exit)) (now (blocked .exit))) (now (out .exit)) ⌝ }
 {
     let time = next_tick(rest, r);
     if time == u64::MAX {
@@ -124,7 +139,17 @@ pub fn advance<'a>(
         };
     }
     let batch = gather(rest, time);
-    let x = steps_a_to_g(out, r, time, batch.set, priority, columns, release, blocked);
+    let x = steps_a_to_g(
+        out,
+        r,
+        time,
+        batch.set,
+        present,
+        priority,
+        columns,
+        release,
+        blocked,
+    );
     let registers = x.registers;
     Advanced {
         registers,

@@ -49,7 +49,7 @@ returns-2 c =
     let left = c .before .before .before .before .before .before .before .before .steps in
     let put = c .before .before .before .before .put-registers in
     let due = c .before .put-due in
-    instant-at st (s .time) (s .set) (tells (s .flags .now) (s .skipped .now) (s .due .now) (s .jobtimes .now) (s .jobbytes .now) (s .spantimes .now) (s .spanbytes .now)) _ n (c .before .before .before .before .before .before .before .before .before .before .before .before .before .before .before .before .if1 .left) _ (read .ensures) _ _ _ _ (left .ensures (memory-in st) refl refl)
+    instant-at st (s .time) (s .set) (tells (s .flags .now) (s .skipped .now) (s .due .now) (s .jobtimes .now) (s .jobbytes .now) (s .spantimes .now) (s .spanbytes .now)) _ n (c .before .before .before .before .before .before .before .before .before .before .before .before .before .before .before .before .if1 .left) _ (read .ensures) _ _ _ _ (left .ensures (memory-in st) refl refl refl)
     (put .ensures .0) (put .ensures .1 .0) (put .ensures .1 .1) _ (c .before .before .before .due .ensures) (due .ensures .0) (due .ensures .1)
 
 pub gateway-instant-parts-spec : {M : Type 1} → statement M

@@ -41,7 +41,7 @@ begun-requires c κs = search needs
 
 returns : tie.Need-returns
 unfolding state-in taken at-a at-b
-returns c m p e =
+returns c m tasks p e =
     let last = c .before .before .before .put-last in
     let second = c .before .before .before .before .before .before .steps-c-to-f in
     let skips = c .before .before .before .before .before .before .before .before .before .intersection in
@@ -55,10 +55,10 @@ returns c m p e =
     let at = with-arrays m (arrays (s .release .now) (s .blocked .now)) in
     let d = state-in at (s .r) in
     let a = at-a d t in
-    let b-memory = with-counts (at-tick at t) (first .last .1 .1 .1 .1 .0) in
-    let b = first .ensures at p e in
-    let f = second .ensures b-memory p e in
-    let f-memory = with-arrays (at-tick m t) (arrays (second .last .1 .1 .1 .1 .1 .0) (second .last .1 .1 .1 .1 .1 .1 .0)) in
+    let b-memory = with-counts (at-tick at t) (first .last .1 .1 .1 .1 .1 .0) in
+    let b = first .ensures at tasks p e in
+    let f = second .ensures b-memory tasks p e in
+    let f-memory = with-arrays (at-tick m t) (arrays (second .last .1 .1 .1 .1 .1 .1 .0) (second .last .1 .1 .1 .1 .1 .1 .1 .0)) in
     let steps : Steps d t (s .set) (new .result) (c .before .held-over .result)
     (state-in b-memory (first .result .registers))
     (state-in f-memory (second .result .registers))

@@ -54,13 +54,13 @@ advance-requires : tie.Need-advance-requires Inv-loop μ-loop
 advance-requires c κs = search needs
 
 add-make-room : tie.Need-add-make-room Inv-loop μ-loop
-add-make-room c = omega (arith, c .before .before .before .before .before .before .before .before .before .before .before .before .before .before .before .loop .inv .0, c .before .before .before .before .before .before .before .before .before .before .before .before .before .before .before .loop .inv .4, size-most (c .before .before .before .before .before .before .advance .ensures (record { table = c .before .before .before .before .before .before .before .before .before .before .before .before .before .before .before .before .before .before .before .args .t2 .table; clock = Unset; arrays = arrays (c .before .before .before .before .before .before .before .before .before .before .before .before .before .before .before .loop .release) (c .before .before .before .before .before .before .before .before .before .before .before .before .before .before .before .loop .blocked) }) refl refl))
+add-make-room c = omega (arith, c .before .before .before .before .before .before .before .before .before .before .before .before .before .before .before .loop .inv .0, c .before .before .before .before .before .before .before .before .before .before .before .before .before .before .before .loop .inv .4, size-most (c .before .before .before .before .before .before .advance .ensures (record { table = c .before .before .before .before .before .before .before .before .before .before .before .before .before .before .before .before .before .before .before .args .t2 .table; clock = Unset; arrays = arrays (c .before .before .before .before .before .before .before .before .before .before .before .before .before .before .before .loop .release) (c .before .before .before .before .before .before .before .before .before .before .before .before .before .before .before .loop .blocked) }) refl refl refl))
 
 make-room-requires : tie.Need-make-room-requires Inv-loop μ-loop
-make-room-requires c κs = (omega (arith, c .before .before .before .before .before .before .before .before .before .before .before .before .before .before .before .loop .inv .0, size-most (c .before .before .before .before .before .before .advance .ensures (record { table = c .before .before .before .before .before .before .before .before .before .before .before .before .before .before .before .before .before .before .before .args .t2 .table; clock = Unset; arrays = arrays (c .before .before .before .before .before .before .before .before .before .before .before .before .before .before .before .loop .release) (c .before .before .before .before .before .before .before .before .before .before .before .before .before .before .before .loop .blocked) }) refl refl), rest-length (c .before .before .before .before .before .before .before .before .before .before .before .before .before .before .before .loop .len) (c .before .before .before .before .before .before .before .before .before .before .before .before .before .before .before .loop .out) (c .before .before .before .before .before .before .advance .last .1 .1 .1 .1 .1 .1 .0) (same-size (c .before .before .before .before .before .before .advance .ensures (record { table = c .before .before .before .before .before .before .before .before .before .before .before .before .before .before .before .before .before .before .before .args .t2 .table; clock = Unset; arrays = arrays (c .before .before .before .before .before .before .before .before .before .before .before .before .before .before .before .loop .release) (c .before .before .before .before .before .before .before .before .before .before .before .before .before .before .before .loop .blocked) }) refl refl))), omega (arith, c .before .before .before .before .before .before .before .before .before .before .before .before .before .before .before .loop .inv .0, rest-length (c .before .before .before .before .before .before .before .before .before .before .before .before .before .before .before .loop .len) (c .before .before .before .before .before .before .before .before .before .before .before .before .before .before .before .loop .out) (c .before .before .before .before .before .before .advance .last .1 .1 .1 .1 .1 .1 .0) (same-size (c .before .before .before .before .before .before .advance .ensures (record { table = c .before .before .before .before .before .before .before .before .before .before .before .before .before .before .before .before .before .before .before .args .t2 .table; clock = Unset; arrays = arrays (c .before .before .before .before .before .before .before .before .before .before .before .before .before .before .before .loop .release) (c .before .before .before .before .before .before .before .before .before .before .before .before .before .before .before .loop .blocked) }) refl refl))))
+make-room-requires c κs = (omega (arith, c .before .before .before .before .before .before .before .before .before .before .before .before .before .before .before .loop .inv .0, size-most (c .before .before .before .before .before .before .advance .ensures (record { table = c .before .before .before .before .before .before .before .before .before .before .before .before .before .before .before .before .before .before .before .args .t2 .table; clock = Unset; arrays = arrays (c .before .before .before .before .before .before .before .before .before .before .before .before .before .before .before .loop .release) (c .before .before .before .before .before .before .before .before .before .before .before .before .before .before .before .loop .blocked) }) refl refl refl), rest-length (c .before .before .before .before .before .before .before .before .before .before .before .before .before .before .before .loop .len) (c .before .before .before .before .before .before .before .before .before .before .before .before .before .before .before .loop .out) (c .before .before .before .before .before .before .advance .last .1 .1 .1 .1 .1 .1 .1 .0) (same-size (c .before .before .before .before .before .before .advance .ensures (record { table = c .before .before .before .before .before .before .before .before .before .before .before .before .before .before .before .before .before .before .before .args .t2 .table; clock = Unset; arrays = arrays (c .before .before .before .before .before .before .before .before .before .before .before .before .before .before .before .loop .release) (c .before .before .before .before .before .before .before .before .before .before .before .before .before .before .before .loop .blocked) }) refl refl refl))), omega (arith, c .before .before .before .before .before .before .before .before .before .before .before .before .before .before .before .loop .inv .0, rest-length (c .before .before .before .before .before .before .before .before .before .before .before .before .before .before .before .loop .len) (c .before .before .before .before .before .before .before .before .before .before .before .before .before .before .before .loop .out) (c .before .before .before .before .before .before .advance .last .1 .1 .1 .1 .1 .1 .1 .0) (same-size (c .before .before .before .before .before .before .advance .ensures (record { table = c .before .before .before .before .before .before .before .before .before .before .before .before .before .before .before .before .before .before .before .args .t2 .table; clock = Unset; arrays = arrays (c .before .before .before .before .before .before .before .before .before .before .before .before .before .before .before .loop .release) (c .before .before .before .before .before .before .before .before .before .before .before .before .before .before .before .loop .blocked) }) refl refl refl))))
 
 add-at : tie.Need-add-at Inv-loop μ-loop
-add-at c = omega (arith, c .before .before .before .before .before .before .before .before .before .before .before .before .before .before .before .before .before .before .before .before .loop .inv .1, c .before .before .before .before .before .before .before .before .before .before .before .before .before .before .before .before .before .before .before .before .loop .inv .3, read-most (c .before .before .before .before .before .before .before .before .before .before .before .advance .ensures (record { table = c .before .before .before .before .before .before .before .before .before .before .before .before .before .before .before .before .before .before .before .before .before .before .before .before .args .t2 .table; clock = Unset; arrays = arrays (c .before .before .before .before .before .before .before .before .before .before .before .before .before .before .before .before .before .before .before .before .loop .release) (c .before .before .before .before .before .before .before .before .before .before .before .before .before .before .before .before .before .before .before .before .loop .blocked) }) refl refl), ap length (rest-whole (c .before .before .before .before .before .before .before .before .before .before .before .before .before .before .before .before .before .before .before .before .loop .at) (c .before .before .before .before .before .before .before .before .before .before .before .before .before .before .before .before .before .before .before .before .before .before .before .before .args .input .now)), length-drop (c .before .before .before .before .before .before .before .before .before .before .before .before .before .before .before .before .before .before .before .before .loop .at) (c .before .before .before .before .before .before .before .before .before .before .before .before .before .before .before .before .before .before .before .before .before .before .before .before .args .input .now))
+add-at c = omega (arith, c .before .before .before .before .before .before .before .before .before .before .before .before .before .before .before .before .before .before .before .before .loop .inv .1, c .before .before .before .before .before .before .before .before .before .before .before .before .before .before .before .before .before .before .before .before .loop .inv .3, read-most (c .before .before .before .before .before .before .before .before .before .before .before .advance .ensures (record { table = c .before .before .before .before .before .before .before .before .before .before .before .before .before .before .before .before .before .before .before .before .before .before .before .before .args .t2 .table; clock = Unset; arrays = arrays (c .before .before .before .before .before .before .before .before .before .before .before .before .before .before .before .before .before .before .before .before .loop .release) (c .before .before .before .before .before .before .before .before .before .before .before .before .before .before .before .before .before .before .before .before .loop .blocked) }) refl refl refl), ap length (rest-whole (c .before .before .before .before .before .before .before .before .before .before .before .before .before .before .before .before .before .before .before .before .loop .at) (c .before .before .before .before .before .before .before .before .before .before .before .before .before .before .before .before .before .before .before .before .before .before .before .before .args .input .now)), length-drop (c .before .before .before .before .before .before .before .before .before .before .before .before .before .before .before .before .before .before .before .before .loop .at) (c .before .before .before .before .before .before .before .before .before .before .before .before .before .before .before .before .before .before .before .before .before .before .before .before .args .input .now))
 
 sub-left : tie.Need-sub-left Inv-loop μ-loop
 sub-left c = omega (arith, c .before .before .before .before .before .before .before .before .before .before .before .before .before .before .before .before .before .before .before .loop-test .taken)
@@ -69,16 +69,16 @@ loop-less : tie.Need-loop-less Inv-loop μ-loop
 loop-less c = omega (arith, c .before .before .before .before .before .before .before .before .before .before .before .before .before .before .before .before .before .before .before .loop-test .taken)
 
 loop-again : tie.Need-loop-again Inv-loop μ-loop
-loop-again c = (c .before .before .before .before .make-room .ensures, omega (arith, c .before .before .before .before .before .before .before .before .before .before .before .before .before .before .before .before .before .before .before .before .loop .inv .1, c .before .before .before .before .before .before .before .before .before .before .before .before .before .before .before .before .before .before .before .before .loop .inv .3, read-most (c .before .before .before .before .before .before .before .before .before .before .before .advance .ensures (record { table = c .before .before .before .before .before .before .before .before .before .before .before .before .before .before .before .before .before .before .before .before .before .before .before .before .args .t2 .table; clock = Unset; arrays = arrays (c .before .before .before .before .before .before .before .before .before .before .before .before .before .before .before .before .before .before .before .before .loop .release) (c .before .before .before .before .before .before .before .before .before .before .before .before .before .before .before .before .before .before .before .before .loop .blocked) }) refl refl), ap length (rest-whole (c .before .before .before .before .before .before .before .before .before .before .before .before .before .before .before .before .before .before .before .before .loop .at) (c .before .before .before .before .before .before .before .before .before .before .before .before .before .before .before .before .before .before .before .before .before .before .before .before .args .input .now)), length-drop (c .before .before .before .before .before .before .before .before .before .before .before .before .before .before .before .before .before .before .before .before .loop .at) (c .before .before .before .before .before .before .before .before .before .before .before .before .before .before .before .before .before .before .before .before .before .before .before .before .args .input .now)), rest-length (c .before .before .before .before .before .before .before .before .before .before .before .before .before .before .before .before .before .before .before .before .loop .len) (c .before .before .before .before .before .before .before .before .before .before .before .before .before .before .before .before .before .before .before .before .loop .out) (c .before .before .before .before .before .before .before .before .before .before .before .advance .last .1 .1 .1 .1 .1 .1 .0) (same-size (c .before .before .before .before .before .before .before .before .before .before .before .advance .ensures (record { table = c .before .before .before .before .before .before .before .before .before .before .before .before .before .before .before .before .before .before .before .before .before .before .before .before .args .t2 .table; clock = Unset; arrays = arrays (c .before .before .before .before .before .before .before .before .before .before .before .before .before .before .before .before .before .before .before .before .loop .release) (c .before .before .before .before .before .before .before .before .before .before .before .before .before .before .before .before .before .before .before .before .loop .blocked) }) refl refl)) ∙ c .before .before .before .before .before .before .before .before .before .before .before .before .before .before .before .before .before .before .before .before .loop .inv .2, c .before .before .before .before .before .before .before .before .before .before .before .before .before .before .before .before .before .before .before .before .loop .inv .3, omega (arith, rest-length (c .before .before .before .before .before .before .before .before .before .before .before .before .before .before .before .before .before .before .before .before .loop .len) (c .before .before .before .before .before .before .before .before .before .before .before .before .before .before .before .before .before .before .before .before .loop .out) (c .before .before .before .before .before .before .before .before .before .before .before .advance .last .1 .1 .1 .1 .1 .1 .0) (same-size (c .before .before .before .before .before .before .before .before .before .before .before .advance .ensures (record { table = c .before .before .before .before .before .before .before .before .before .before .before .before .before .before .before .before .before .before .before .before .before .before .before .before .args .t2 .table; clock = Unset; arrays = arrays (c .before .before .before .before .before .before .before .before .before .before .before .before .before .before .before .before .before .before .before .before .loop .release) (c .before .before .before .before .before .before .before .before .before .before .before .before .before .before .before .before .before .before .before .before .loop .blocked) }) refl refl)), c .before .before .before .before .before .before .before .before .before .before .before .before .before .before .before .before .before .before .before .before .loop .inv .4))
+loop-again c = (c .before .before .before .before .make-room .ensures, omega (arith, c .before .before .before .before .before .before .before .before .before .before .before .before .before .before .before .before .before .before .before .before .loop .inv .1, c .before .before .before .before .before .before .before .before .before .before .before .before .before .before .before .before .before .before .before .before .loop .inv .3, read-most (c .before .before .before .before .before .before .before .before .before .before .before .advance .ensures (record { table = c .before .before .before .before .before .before .before .before .before .before .before .before .before .before .before .before .before .before .before .before .before .before .before .before .args .t2 .table; clock = Unset; arrays = arrays (c .before .before .before .before .before .before .before .before .before .before .before .before .before .before .before .before .before .before .before .before .loop .release) (c .before .before .before .before .before .before .before .before .before .before .before .before .before .before .before .before .before .before .before .before .loop .blocked) }) refl refl refl), ap length (rest-whole (c .before .before .before .before .before .before .before .before .before .before .before .before .before .before .before .before .before .before .before .before .loop .at) (c .before .before .before .before .before .before .before .before .before .before .before .before .before .before .before .before .before .before .before .before .before .before .before .before .args .input .now)), length-drop (c .before .before .before .before .before .before .before .before .before .before .before .before .before .before .before .before .before .before .before .before .loop .at) (c .before .before .before .before .before .before .before .before .before .before .before .before .before .before .before .before .before .before .before .before .before .before .before .before .args .input .now)), rest-length (c .before .before .before .before .before .before .before .before .before .before .before .before .before .before .before .before .before .before .before .before .loop .len) (c .before .before .before .before .before .before .before .before .before .before .before .before .before .before .before .before .before .before .before .before .loop .out) (c .before .before .before .before .before .before .before .before .before .before .before .advance .last .1 .1 .1 .1 .1 .1 .1 .0) (same-size (c .before .before .before .before .before .before .before .before .before .before .before .advance .ensures (record { table = c .before .before .before .before .before .before .before .before .before .before .before .before .before .before .before .before .before .before .before .before .before .before .before .before .args .t2 .table; clock = Unset; arrays = arrays (c .before .before .before .before .before .before .before .before .before .before .before .before .before .before .before .before .before .before .before .before .loop .release) (c .before .before .before .before .before .before .before .before .before .before .before .before .before .before .before .before .before .before .before .before .loop .blocked) }) refl refl refl)) ∙ c .before .before .before .before .before .before .before .before .before .before .before .before .before .before .before .before .before .before .before .before .loop .inv .2, c .before .before .before .before .before .before .before .before .before .before .before .before .before .before .before .before .before .before .before .before .loop .inv .3, omega (arith, rest-length (c .before .before .before .before .before .before .before .before .before .before .before .before .before .before .before .before .before .before .before .before .loop .len) (c .before .before .before .before .before .before .before .before .before .before .before .before .before .before .before .before .before .before .before .before .loop .out) (c .before .before .before .before .before .before .before .before .before .before .before .advance .last .1 .1 .1 .1 .1 .1 .1 .0) (same-size (c .before .before .before .before .before .before .before .before .before .before .before .advance .ensures (record { table = c .before .before .before .before .before .before .before .before .before .before .before .before .before .before .before .before .before .before .before .before .before .before .before .before .args .t2 .table; clock = Unset; arrays = arrays (c .before .before .before .before .before .before .before .before .before .before .before .before .before .before .before .before .before .before .before .before .loop .release) (c .before .before .before .before .before .before .before .before .before .before .before .before .before .before .before .before .before .before .before .before .loop .blocked) }) refl refl refl)), c .before .before .before .before .before .before .before .before .before .before .before .before .before .before .before .before .before .before .before .before .loop .inv .4))
 
 print-requires : tie.Need-print-requires Inv-loop μ-loop
-print-requires c κs = ⊎-elim (λ w. omega (arith, c .before .before .loop .inv .0, ap length (w .1))) (λ w. omega (arith, c .before .before .loop .inv .0, ap length (w .13), rest-length (c .before .before .loop .len) (c .before .before .loop .out) (w .8 .last .1 .1 .1 .1 .1 .1 .0) (same-size (w .8 .ensures (record { table = c .before .before .before .before .before .before .args .t2 .table; clock = Unset; arrays = arrays (c .before .before .loop .release) (c .before .before .loop .blocked) }) refl refl)))) (c .before .loop-test .came)
+print-requires c κs = ⊎-elim (λ w. omega (arith, c .before .before .loop .inv .0, ap length (w .1))) (λ w. omega (arith, c .before .before .loop .inv .0, ap length (w .13), rest-length (c .before .before .loop .len) (c .before .before .loop .out) (w .8 .last .1 .1 .1 .1 .1 .1 .1 .0) (same-size (w .8 .ensures (record { table = c .before .before .before .before .before .before .args .t2 .table; clock = Unset; arrays = arrays (c .before .before .loop .release) (c .before .before .loop .blocked) }) refl refl refl)))) (c .before .loop-test .came)
 
 same-length : tie.Need-same-length Inv-loop μ-loop
-same-length c = rest-length (c .before .before .before .before .before .before .before .before .before .before .before .before .before .before .before .before .before .before .loop .len) (c .before .before .before .before .before .before .before .before .before .before .before .before .before .before .before .before .before .before .loop .out) (c .before .before .before .before .before .before .before .before .before .advance .last .1 .1 .1 .1 .1 .1 .0) (same-size (c .before .before .before .before .before .before .before .before .before .advance .ensures (record { table = c .before .before .before .before .before .before .before .before .before .before .before .before .before .before .before .before .before .before .before .before .before .before .args .t2 .table; clock = Unset; arrays = arrays (c .before .before .before .before .before .before .before .before .before .before .before .before .before .before .before .before .before .before .loop .release) (c .before .before .before .before .before .before .before .before .before .before .before .before .before .before .before .before .before .before .loop .blocked) }) refl refl)) ∙ c .before .before .before .before .before .before .before .before .before .before .before .before .before .before .before .before .before .before .loop .inv .2
+same-length c = rest-length (c .before .before .before .before .before .before .before .before .before .before .before .before .before .before .before .before .before .before .loop .len) (c .before .before .before .before .before .before .before .before .before .before .before .before .before .before .before .before .before .before .loop .out) (c .before .before .before .before .before .before .before .before .before .advance .last .1 .1 .1 .1 .1 .1 .1 .0) (same-size (c .before .before .before .before .before .before .before .before .before .advance .ensures (record { table = c .before .before .before .before .before .before .before .before .before .before .before .before .before .before .before .before .before .before .before .before .before .before .args .t2 .table; clock = Unset; arrays = arrays (c .before .before .before .before .before .before .before .before .before .before .before .before .before .before .before .before .before .before .loop .release) (c .before .before .before .before .before .before .before .before .before .before .before .before .before .before .before .before .before .before .loop .blocked) }) refl refl refl)) ∙ c .before .before .before .before .before .before .before .before .before .before .before .before .before .before .before .before .before .before .loop .inv .2
 
 same-length-2 : tie.Need-same-length-2 Inv-loop μ-loop
-same-length-2 c = ⊎-elim (λ w. ap length (w .1) ∙ c .before .before .before .loop .inv .2) (λ w. ap length (w .13) ∙ rest-length (c .before .before .before .loop .len) (c .before .before .before .loop .out) (w .8 .last .1 .1 .1 .1 .1 .1 .0) (same-size (w .8 .ensures (record { table = c .before .before .before .before .before .before .before .args .t2 .table; clock = Unset; arrays = arrays (c .before .before .before .loop .release) (c .before .before .before .loop .blocked) }) refl refl)) ∙ c .before .before .before .loop .inv .2) (c .before .before .loop-test .came)
+same-length-2 c = ⊎-elim (λ w. ap length (w .1) ∙ c .before .before .before .loop .inv .2) (λ w. ap length (w .13) ∙ rest-length (c .before .before .before .loop .len) (c .before .before .before .loop .out) (w .8 .last .1 .1 .1 .1 .1 .1 .1 .0) (same-size (w .8 .ensures (record { table = c .before .before .before .before .before .before .before .args .t2 .table; clock = Unset; arrays = arrays (c .before .before .before .loop .release) (c .before .before .before .loop .blocked) }) refl refl refl)) ∙ c .before .before .before .loop .inv .2) (c .before .before .loop-test .came)
 
 returns : tie.Need-returns Inv-loop μ-loop
 returns c = search needs

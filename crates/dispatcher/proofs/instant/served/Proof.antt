@@ -19,7 +19,7 @@ returns : tie.Need-returns
 returns c =
     let steps = c .before .before .before in
     let s = steps .before .before .before .before .before .before .before .before .before .args in
-    let x = steps .steps-a-to-g .ensures (memory-of (s .t1)) refl refl in
+    let x = steps .steps-a-to-g .ensures (memory-of (s .t1)) refl refl refl in
     is-served (state-of (s .t1)) (s .t) (s .set) (x .state) (x .occurs)
 
 pub served-spec : {M : Type 1} → statement M

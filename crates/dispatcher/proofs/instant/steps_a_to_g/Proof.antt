@@ -36,7 +36,7 @@ due-requires c κs = search needs
 
 returns : tie.Need-returns
 unfolding state-in taken at-a at-b
-returns c m p e =
+returns c m tasks p e =
     let begun = c .before .before in
     let second = begun .before .before .before .steps-c-to-f in
     let skips = begun .before .before .before .before .before .before in
@@ -48,10 +48,10 @@ returns c m p e =
     let at = with-arrays m (arrays (s .release .now) (s .blocked .now)) in
     let d = state-in at (s .r) in
     let a = at-a d t in
-    let b-memory = with-counts (at-tick at t) (first .steps-a-b .last .1 .1 .1 .1 .0) in
-    let b = first .steps-a-b .ensures at p e in
-    let f = second .ensures b-memory p e in
-    let f-memory = with-arrays (at-tick m t) (arrays (second .last .1 .1 .1 .1 .1 .0) (second .last .1 .1 .1 .1 .1 .1 .0)) in
+    let b-memory = with-counts (at-tick at t) (first .steps-a-b .last .1 .1 .1 .1 .1 .0) in
+    let b = first .steps-a-b .ensures at tasks p e in
+    let f = second .ensures b-memory tasks p e in
+    let f-memory = with-arrays (at-tick m t) (arrays (second .last .1 .1 .1 .1 .1 .1 .0) (second .last .1 .1 .1 .1 .1 .1 .1 .0)) in
     let steps : Steps d t (s .set) (new .result) (begun .before .held-over .result)
     (state-in b-memory (first .steps-a-b .result .registers))
     (state-in f-memory (second .result .registers))

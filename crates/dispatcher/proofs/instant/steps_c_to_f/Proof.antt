@@ -28,7 +28,7 @@ interval-entry-requires : tie.Need-interval-entry-requires
 interval-entry-requires c κs = search needs
 
 returns : tie.Need-returns
-returns c m p e =
+returns c m tasks p e =
     let promotes = c .before .before .before .before in
     let test = promotes .before in
     let chooses = test .before .before in
@@ -43,13 +43,13 @@ returns c m p e =
     (promotes .promoted .result) (record {
       ends-now = sym (test .before .is-over .ensures) ∙ test .if1 .taken;
       promoted-is = promotes .promoted .ensures now p;
-      counted-is = counts .ensures now p;
-      closed-is = c .before .close .ensures (with-counts now (counts .last .1 .1 .0));
+      counted-is = counts .ensures now tasks p;
+      closed-is = c .before .close .ensures (with-counts now (counts .last .1 .1 .1 .0));
       entry-is = c .interval-entry .ensures;
     })
 
 returns-2 : tie.Need-returns-2
-returns-2 c m p e =
+returns-2 c m tasks p e =
     let chooses = c .before .before in
     let x = chooses .before .steps-c-d in
     let s = chooses .before .before .before .before .args in

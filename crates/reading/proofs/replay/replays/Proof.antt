@@ -61,7 +61,7 @@ slice-aggregate-hold c =
     let v = c .before .before .before .before .before .before .before .before .before .before .before .before .before .loop in
     let f = c .before .before .before .before .before .before .before .before .before .before .before .before .before .before .before .before .before in
     let x = c .before .before .before .before .advance in
-    let made = x .ensures (memory-in (f .args .t2 .table) (v .inv .0 .going .clock) (arrays (v .release) (v .blocked))) refl refl in
+    let made = x .ensures (memory-in (f .args .t2 .table) (v .inv .0 .going .clock) (arrays (v .release) (v .blocked))) refl refl refl in
     sym (same-piece (v .inv .0) made (2048 - v .len) (piece (v .made) (v .len) (v .inv .1)) refl ∙ v .inv .1)
 
 add-hold : tie.Need-add-hold Inv-loop μ-loop
@@ -69,7 +69,7 @@ add-hold c =
     let v = c .before .before .before .before .before .before .before .before .before .before .before .before .before .before .loop in
     let f = c .before .before .before .before .before .before .before .before .before .before .before .before .before .before .before .before .before .before in
     let x = c .before .before .before .before .before .advance in
-    let made = x .ensures (memory-in (f .args .t2 .table) (v .inv .0 .going .clock) (arrays (v .release) (v .blocked))) refl refl in
+    let made = x .ensures (memory-in (f .args .t2 .table) (v .inv .0 .going .clock) (arrays (v .release) (v .blocked))) refl refl refl in
     omega (arith, fits (v .inv .0) made (2048 - v .len) (piece (v .made) (v .len) (v .inv .1)) refl, v .inv .1)
 
 hold-requires : tie.Need-hold-requires Inv-loop μ-loop
@@ -77,7 +77,7 @@ hold-requires c κs =
     let v = c .before .before .before .before .before .before .before .before .before .before .before .before .before .before .loop in
     let f = c .before .before .before .before .before .before .before .before .before .before .before .before .before .before .before .before .before .before in
     let x = c .before .before .before .before .before .advance in
-    let made = x .ensures (memory-in (f .args .t2 .table) (v .inv .0 .going .clock) (arrays (v .release) (v .blocked))) refl refl in
+    let made = x .ensures (memory-in (f .args .t2 .table) (v .inv .0 .going .clock) (arrays (v .release) (v .blocked))) refl refl refl in
     (v .inv .0 .within, (omega (arith, fits (v .inv .0) made (2048 - v .len) (piece (v .made) (v .len) (v .inv .1)) refl, same-piece (v .inv .0) made (2048 - v .len) (piece (v .made) (v .len) (v .inv .1)) refl), omega (arith, same-piece (v .inv .0) made (2048 - v .len) (piece (v .made) (v .len) (v .inv .1)) refl, v .inv .1)))
 
 returns : tie.Need-returns Inv-loop μ-loop
@@ -85,7 +85,7 @@ returns c =
     let v = c .before .before .before .before .before .before .before .before .before .before .before .before .before .before .before .before .before .loop in
     let f = c .before .before .before .before .before .before .before .before .before .before .before .before .before .before .before .before .before .before .before .before .before in
     let x = c .before .before .before .before .before .before .before .before .advance in
-    let made = x .ensures (memory-in (f .args .t2 .table) (v .inv .0 .going .clock) (arrays (v .release) (v .blocked))) refl refl in
+    let made = x .ensures (memory-in (f .args .t2 .table) (v .inv .0 .going .clock) (arrays (v .release) (v .blocked))) refl refl refl in
     subst (λ (d : Cursor). false ≡ same-bytes (run-bytes (f .args .s .now) d (f .args .budget)) (f .args .stored .now)) (is-start (f .args .t2) _ (c .before .before .before .before .before .before .before .before .before .before .before .before .before .before .before .before .before .before .empty .ensures))
     (stops (v .inv .0) made (2048 - v .len) (piece (v .made) (v .len) (v .inv .1)) refl (c .before .before .before .before .before .before .before .before .before .before .before .before .before .before .before .before .loop-test .taken) (c .before .before .before .before .before .if1 .left) _ (c .before .before .hold .ensures) (not-true _ (c .if2 .taken)))
 
@@ -94,7 +94,7 @@ add-at c =
     let v = c .before .before .before .before .before .before .before .before .before .before .before .before .before .before .before .before .before .before .before .loop in
     let f = c .before .before .before .before .before .before .before .before .before .before .before .before .before .before .before .before .before .before .before .before .before .before .before in
     let x = c .before .before .before .before .before .before .before .before .before .before .advance in
-    let made = x .ensures (memory-in (f .args .t2 .table) (v .inv .0 .going .clock) (arrays (v .release) (v .blocked))) refl refl in
+    let made = x .ensures (memory-in (f .args .t2 .table) (v .inv .0 .going .clock) (arrays (v .release) (v .blocked))) refl refl refl in
     omega (arith, v .inv .0 .going .served .within, within (v .inv .0 .going) made (c .before .before .before .before .before .before .before .before .before .before .before .before .before .before .before .before .before .before .loop-test .taken) (c .before .before .before .before .before .before .before .if1 .left))
 
 sub-left : tie.Need-sub-left Inv-loop μ-loop
@@ -108,7 +108,7 @@ loop-again c =
     let v = c .before .before .before .before .before .before .before .before .before .before .before .before .before .before .before .before .before .before .before .loop in
     let f = c .before .before .before .before .before .before .before .before .before .before .before .before .before .before .before .before .before .before .before .before .before .before .before in
     let x = c .before .before .before .before .before .before .before .before .before .before .advance in
-    let made = x .ensures (memory-in (f .args .t2 .table) (v .inv .0 .going .clock) (arrays (v .release) (v .blocked))) refl refl in
+    let made = x .ensures (memory-in (f .args .t2 .table) (v .inv .0 .going .clock) (arrays (v .release) (v .blocked))) refl refl refl in
     (goes-on (v .inv .0) made (2048 - v .len) (piece (v .made) (v .len) (v .inv .1)) refl (c .before .before .before .before .before .before .before .before .before .before .before .before .before .before .before .before .before .before .loop-test .taken) (c .before .before .before .before .before .before .before .if1 .left) _ (c .before .before .before .before .hold .ensures) (not-false _ (c .before .before .if2 .left)), same-piece (v .inv .0) made (2048 - v .len) (piece (v .made) (v .len) (v .inv .1)) refl ∙ v .inv .1)
 
 slice-aggregate-goes-on-with : tie.Need-slice-aggregate-goes-on-with Inv-loop μ-loop
@@ -118,7 +118,7 @@ slice-aggregate-goes-on-with c =
     let j = c .before .loop-test in
     let m : j .made ≡ v .made =
     ⊎-elim (λ w. w .1)
-    (λ w. w .12 ∙ unchanged (v .inv .0) (w .8 .ensures (memory-in (f .args .t2 .table) (v .inv .0 .going .clock) (arrays (v .release) (v .blocked))) refl refl) (2048 - v .len) (piece (v .made) (v .len) (v .inv .1)) refl (w .11 .taken))
+    (λ w. w .12 ∙ unchanged (v .inv .0) (w .8 .ensures (memory-in (f .args .t2 .table) (v .inv .0 .going .clock) (arrays (v .release) (v .blocked))) refl refl refl) (2048 - v .len) (piece (v .made) (v .len) (v .inv .1)) refl (w .11 .taken))
     (j .came) in
     sym (ap length m ∙ v .inv .1)
 
@@ -129,7 +129,7 @@ goes-on-with-requires c κs =
     let j = c .before .loop-test in
     let m : j .made ≡ v .made =
     ⊎-elim (λ w. w .1)
-    (λ w. w .12 ∙ unchanged (v .inv .0) (w .8 .ensures (memory-in (f .args .t2 .table) (v .inv .0 .going .clock) (arrays (v .release) (v .blocked))) refl refl) (2048 - v .len) (piece (v .made) (v .len) (v .inv .1)) refl (w .11 .taken))
+    (λ w. w .12 ∙ unchanged (v .inv .0) (w .8 .ensures (memory-in (f .args .t2 .table) (v .inv .0 .going .clock) (arrays (v .release) (v .blocked))) refl refl refl) (2048 - v .len) (piece (v .made) (v .len) (v .inv .1)) refl (w .11 .taken))
     (j .came) in
     (v .inv .0 .within, omega (arith, v .inv .0 .room, ap length m))
 
@@ -140,7 +140,7 @@ returns-2 c =
     let j = c .before .before .before .loop-test in
     let m : j .made ≡ v .made =
     ⊎-elim (λ w. w .1)
-    (λ w. w .12 ∙ unchanged (v .inv .0) (w .8 .ensures (memory-in (f .args .t2 .table) (v .inv .0 .going .clock) (arrays (v .release) (v .blocked))) refl refl) (2048 - v .len) (piece (v .made) (v .len) (v .inv .1)) refl (w .11 .taken))
+    (λ w. w .12 ∙ unchanged (v .inv .0) (w .8 .ensures (memory-in (f .args .t2 .table) (v .inv .0 .going .clock) (arrays (v .release) (v .blocked))) refl refl refl) (2048 - v .len) (piece (v .made) (v .len) (v .inv .1)) refl (w .11 .taken))
     (j .came) in
     subst (λ (d : Cursor). false ≡ same-bytes (run-bytes (f .args .s .now) d (f .args .budget)) (f .args .stored .now)) (is-start (f .args .t2) _ (c .before .before .before .before .before .empty .ensures))
     (differs (v .inv .0) (λ e. clash (c .before .goes-on-with .result) (c .before .goes-on-with .ensures .told (e ∙ ap (take (v .len)) (sym m))) (not-true _ (c .if3 .taken))))
@@ -152,7 +152,7 @@ add-result c =
     let j = c .before .before .before .loop-test in
     let m : j .made ≡ v .made =
     ⊎-elim (λ w. w .1)
-    (λ w. w .12 ∙ unchanged (v .inv .0) (w .8 .ensures (memory-in (f .args .t2 .table) (v .inv .0 .going .clock) (arrays (v .release) (v .blocked))) refl refl) (2048 - v .len) (piece (v .made) (v .len) (v .inv .1)) refl (w .11 .taken))
+    (λ w. w .12 ∙ unchanged (v .inv .0) (w .8 .ensures (memory-in (f .args .t2 .table) (v .inv .0 .going .clock) (arrays (v .release) (v .blocked))) refl refl refl) (2048 - v .len) (piece (v .made) (v .len) (v .inv .1)) refl (w .11 .taken))
     (j .came) in
     omega (arith, within-record (f .args .stored .now) (v .made) (v .size) (v .len) (v .inv .0 .within) (omega (arith, v .inv .0 .room)) (c .before .goes-on-with .ensures .same (not-false _ (c .if3 .left)) ∙ ap (take (v .len)) m))
 
@@ -163,10 +163,10 @@ returns-3 c =
     let j = c .before .before .before .loop-test in
     let m : j .made ≡ v .made =
     ⊎-elim (λ w. w .1)
-    (λ w. w .12 ∙ unchanged (v .inv .0) (w .8 .ensures (memory-in (f .args .t2 .table) (v .inv .0 .going .clock) (arrays (v .release) (v .blocked))) refl refl) (2048 - v .len) (piece (v .made) (v .len) (v .inv .1)) refl (w .11 .taken))
+    (λ w. w .12 ∙ unchanged (v .inv .0) (w .8 .ensures (memory-in (f .args .t2 .table) (v .inv .0 .going .clock) (arrays (v .release) (v .blocked))) refl refl refl) (2048 - v .len) (piece (v .made) (v .len) (v .inv .1)) refl (w .11 .taken))
     (j .came) in
     let none = ⊎-elim (λ w. none-left (v .inv .0 .going) (w .0 .left))
-    (λ w. none-more (v .inv .0 .going) (w .8 .ensures (memory-in (f .args .t2 .table) (v .inv .0 .going .clock) (arrays (v .release) (v .blocked))) refl refl) (w .11 .taken))
+    (λ w. none-more (v .inv .0 .going) (w .8 .ensures (memory-in (f .args .t2 .table) (v .inv .0 .going .clock) (arrays (v .release) (v .blocked))) refl refl refl) (w .11 .taken))
     (j .came) in
     subst (λ (d : Cursor). eqb (v .size + v .len) (length (f .args .stored .now)) ≡ same-bytes (run-bytes (f .args .s .now) d (f .args .budget)) (f .args .stored .now)) (is-start (f .args .t2) _ (c .before .before .before .before .before .empty .ensures))
     (ended (v .inv .0) none (c .before .goes-on-with .ensures .same (not-false _ (c .if3 .left)) ∙ ap (take (v .len)) m))

@@ -66,13 +66,13 @@ add-size : tie.Need-add-size Inv-loop μ-loop
 add-size c =
     let v = c .before .before .before .before .before .before .before .before .before .before .before .before .before .before .before .before .before .loop in
     let f = c .before .before .before .before .before .before .before .before .before .before .before .before .before .before .before .before .before .before .before .before .before in
-    omega (arith, grows (v .inv) (c .before .before .before .before .before .before .advance .ensures (memory-in (f .args .t2 .table) (v .inv .clock) (arrays (v .release) (v .blocked))) refl refl) (c .before .before .before .before .before .before .before .before .before .before .before .before .before .before .before .before .loop-test .taken) (c .before .before .if2 .left))
+    omega (arith, grows (v .inv) (c .before .before .before .before .before .before .advance .ensures (memory-in (f .args .t2 .table) (v .inv .clock) (arrays (v .release) (v .blocked))) refl refl refl) (c .before .before .before .before .before .before .before .before .before .before .before .before .before .before .before .before .loop-test .taken) (c .before .before .if2 .left))
 
 add-at : tie.Need-add-at Inv-loop μ-loop
 add-at c =
     let v = c .before .before .before .before .before .before .before .before .before .before .before .before .before .before .before .before .before .before .loop in
     let f = c .before .before .before .before .before .before .before .before .before .before .before .before .before .before .before .before .before .before .before .before .before .before in
-    omega (arith, v .inv .served .within, within (v .inv) (c .before .before .before .before .before .before .before .advance .ensures (memory-in (f .args .t2 .table) (v .inv .clock) (arrays (v .release) (v .blocked))) refl refl) (c .before .before .before .before .before .before .before .before .before .before .before .before .before .before .before .before .before .loop-test .taken) (c .before .before .before .if2 .left))
+    omega (arith, v .inv .served .within, within (v .inv) (c .before .before .before .before .before .before .before .advance .ensures (memory-in (f .args .t2 .table) (v .inv .clock) (arrays (v .release) (v .blocked))) refl refl refl) (c .before .before .before .before .before .before .before .before .before .before .before .before .before .before .before .before .before .loop-test .taken) (c .before .before .before .if2 .left))
 
 sub-left : tie.Need-sub-left Inv-loop μ-loop
 sub-left c = omega (arith, c .before .before .before .before .before .before .before .before .before .before .before .before .before .before .before .before .before .loop-test .taken)
@@ -87,7 +87,7 @@ loop-again c =
     let empty = c .before .before .before .before .before .before .before .before .before .before .before .before .before .before .before .before .before .before .before .empty in
     let joined = c .before .before .before .before .before .before .before .before .before .before .before .before .before .before .before .before .if1 in
     let keep = f .args .keep in
-    moves (v .inv) (c .before .before .before .before .before .before .before .advance .ensures (memory-in (f .args .t2 .table) (v .inv .clock) (arrays (v .release) (v .blocked))) refl refl)
+    moves (v .inv) (c .before .before .before .before .before .before .before .advance .ensures (memory-in (f .args .t2 .table) (v .inv .clock) (arrays (v .release) (v .blocked))) refl refl refl)
     (c .before .before .before .before .before .before .before .before .before .before .before .before .before .before .before .before .before .loop-test .taken) (c .before .before .before .if2 .left) (joined .place) refl refl
     (λ e. ⊎-elim (λ w. w .1) (λ w. clash keep e (w .0 .left)) (joined .came))
     (λ e. ⊎-elim (λ w. clash keep (w .0 .taken) e) (λ w. w .1) (joined .came))
@@ -102,7 +102,7 @@ returns c = arrives (c .before .before .before .before .before .args .t2) (c .be
 same-length-2 : tie.Need-same-length-2 Inv-loop μ-loop
 same-length-2 c =
     let v = c .before .before .before .before .before .before .before .before .before .before .before .before .before .before .before .loop in
-    let made = c .before .before .before .before .advance .ensures (memory-in (c .before .before .before .before .before .before .before .before .before .before .before .before .before .before .before .before .before .before .before .args .t2 .table) (v .inv .clock) (arrays (v .release) (v .blocked))) refl refl in
+    let made = c .before .before .before .before .advance .ensures (memory-in (c .before .before .before .before .before .before .before .before .before .before .before .before .before .before .before .before .before .before .before .args .t2 .table) (v .inv .clock) (arrays (v .release) (v .blocked))) refl refl refl in
     ap length (rest-same (c .before .before .before .before .before .before .before .before .before .before .before .before .before .if1 .place) (v .out) _ (made .ended (c .if2 .taken) .slice-is)) ∙ v .inv .progress .same
 
 returns-2 : tie.Need-returns-2 Inv-loop μ-loop
@@ -112,7 +112,7 @@ returns-2 c =
     let empty = c .before .before .before .before .before .before .before .before .before .before .before .before .before .before .before .before .empty in
     let place = c .before .before .before .before .before .before .before .before .before .before .before .before .before .if1 .place in
     let x = c .before .before .before .before .advance in
-    let made = x .ensures (memory-in (f .args .t2 .table) (v .inv .clock) (arrays (v .release) (v .blocked))) refl refl in
+    let made = x .ensures (memory-in (f .args .t2 .table) (v .inv .clock) (arrays (v .release) (v .blocked))) refl refl refl in
     subst (λ (y : List ℕ). Ran (f .args .s .now) (start (f .args .t2)) (f .args .budget) (f .args .out .now) (f .args .keep) (v .size) y)
     (sym (rest-same place (v .out) _ (made .ended (c .if2 .taken) .slice-is)))
     (arrives (f .args .t2) (empty .result) (empty .ensures) (stops (v .inv) made (c .if2 .taken)))

@@ -19,7 +19,7 @@ next-tick-requires : tie.Need-next-tick-requires
 next-tick-requires c κs = search needs
 
 returns : tie.Need-returns
-returns c m p e =
+returns c m tasks p e =
     record {
       time-is = c .before .next-tick .ensures;
       ended = λ h. record { registers-are = refl; arrays-are = refl; none-read = refl; none-put = refl; slice-is = refl };
@@ -36,16 +36,16 @@ same-length : tie.Need-same-length
 same-length c = search needs
 
 returns-2 : tie.Need-returns-2
-returns-2 c m p e =
+returns-2 c m tasks p e =
     let x = c .before .before .before .steps-a-to-g in
     let gather = c .before .before .before .before .before .before .before .gather in
     let next = c .before .before .before .before .before .before .before .before .before .next-tick in
     let s = c .before .before .before .before .before .before .before .before .before .before .before .before .args in
     let g = gather .ensures in
-    let made = x .ensures m p e in
+    let made = x .ensures m tasks p e in
     let t = next .result in
     let at = with-arrays m (arrays (s .release .now) (s .blocked .now)) in
-    let after = arrays (x .last .1 .1 .1 .1 .1 .1 .0) (x .last .1 .1 .1 .1 .1 .1 .1 .0) in
+    let after = arrays (x .last .1 .1 .1 .1 .1 .1 .1 .0) (x .last .1 .1 .1 .1 .1 .1 .1 .1 .0) in
     record {
       time-is = next .ensures;
       ended = λ h. absurd (c .before .before .before .before .before .before .before .before .if1 .left h);

@@ -43,7 +43,7 @@ same-length : tie.Need-same-length
 same-length c = c .before .before .out2 .given ∙ c .before .before .before .before .before .before .before .before .before .before .before .before .before .out .given
 
 returns : tie.Need-returns
-returns c m p e =
+returns c m tasks p e =
     let q = c .before .before .before in
     let n = q .before .before .before in
     let k = n .before .before in
@@ -55,12 +55,12 @@ returns c m p e =
     let t = s .t in
     let at = with-arrays m (arrays (s .release .now) (s .blocked .now)) in
     let now = at-tick at t in
-    let after = n .count-blocked .last .1 .1 .0 in
+    let after = n .count-blocked .last .1 .1 .1 .0 in
     let x = b-closes at t (s .r) (ends .ended .result) (ends .ended .ensures now e)
     (k .promoted .result) (record {
       ends-now = sym (test .before .is-over .ensures) ∙ test .if1 .taken;
       promoted-is = k .promoted .ensures now p;
-      counted-is = n .count-blocked .ensures now p;
+      counted-is = n .count-blocked .ensures now tasks p;
       closed-is = c .close .ensures (with-counts now after);
       entry-is = q .before .interval-entry .ensures;
     }) in
@@ -73,7 +73,7 @@ same-length-2 : tie.Need-same-length-2
 same-length-2 c = search needs
 
 returns-2 : tie.Need-returns-2
-returns-2 c m p e =
+returns-2 c m tasks p e =
     let ends = c .before .before in
     let put = ends .before .before .before in
     let done = put .before .before in

@@ -34,15 +34,15 @@ intersection-requires : tie.Need-intersection-requires
 intersection-requires c κs = search needs
 
 -- some memory that has the arrays that are lent
-abbrev some-memory : List ℕ → List ℕ → Memory
-some-memory priority columns = record { table = record { present = 0; priority = priority; columns = columns }; clock = Unset; arrays = arrays [] [] }
+abbrev some-memory : ℕ → List ℕ → List ℕ → Memory
+some-memory present priority columns = record { table = record { present = present; priority = priority; columns = columns }; clock = Unset; arrays = arrays [] [] }
 
 skips-at-requires : tie.Need-skips-at-requires
 skips-at-requires c κs =
     let w = c .before .before .before .before .before .before .steps-a-b in
     let s = c .before .before .before .before .before .before .before .before .before .before .before .args in
-    let m = some-memory (s .priority .now) (s .columns .now) in
-    omega (arith, w .ensures m refl refl .puts .place-is, stage-most (at-b (state-in (with-arrays m (arrays (s .release .now) (s .blocked .now))) (s .r)) (s .t)))
+    let m = some-memory (s .present) (s .priority .now) (s .columns .now) in
+    omega (arith, w .ensures m refl refl refl .puts .place-is, stage-most (at-b (state-in (with-arrays m (arrays (s .release .now) (s .blocked .now))) (s .r)) (s .t)))
 
 steps-c-to-f-requires : tie.Need-steps-c-to-f-requires
 steps-c-to-f-requires c κs =
@@ -50,8 +50,8 @@ steps-c-to-f-requires c κs =
     let skips = c .before .before .before .before .before .before .intersection in
     let w = c .before .before .before .before .before .before .before .before .before .before .before .before .steps-a-b in
     let s = c .before .before .before .before .before .before .before .before .before .before .before .before .before .before .before .before .before .args in
-    let m = some-memory (s .priority .now) (s .columns .now) in
-    omega (arith, x .ensures .place-is, w .ensures m refl refl .puts .place-is, stage-most (at-b (state-in (with-arrays m (arrays (s .release .now) (s .blocked .now))) (s .r)) (s .t)), skips-most 32 (skips .result) (s .t))
+    let m = some-memory (s .present) (s .priority .now) (s .columns .now) in
+    omega (arith, x .ensures .place-is, w .ensures m refl refl refl .puts .place-is, stage-most (at-b (state-in (with-arrays m (arrays (s .release .now) (s .blocked .now))) (s .r)) (s .t)), skips-most 32 (skips .result) (s .t))
 
 held-over-requires : tie.Need-held-over-requires
 held-over-requires c κs = search needs
@@ -64,7 +64,7 @@ same-length c = c .before .before .before .out3 .given ∙ c .before .before .be
 
 returns : tie.Need-returns
 unfolding state-in taken
-returns c m p e =
+returns c m tasks p e =
     let y = c .before .before .before .before .steps-c-to-f in
     let x = c .before .before .before .before .before .before .before .before .before .before .skips-at in
     let skips = c .before .before .before .before .before .before .before .before .before .before .before .intersection in
@@ -74,11 +74,11 @@ returns c m p e =
     let t = s .t in
     let at = with-arrays m (arrays (s .release .now) (s .blocked .now)) in
     let d = state-in at (s .r) in
-    let b-memory = with-counts (at-tick at t) (w .last .1 .1 .1 .1 .1 .1 .0) in
+    let b-memory = with-counts (at-tick at t) (w .last .1 .1 .1 .1 .1 .1 .1 .0) in
     let b = state-in b-memory (w .result .registers) in
-    let before = w .ensures m p e in
-    let after = y .ensures b-memory p e in
-    let f-memory = with-arrays (at-tick m t) (arrays (y .last .1 .1 .1 .1 .1 .1 .1 .0) (y .last .1 .1 .1 .1 .1 .1 .1 .1 .0)) in
+    let before = w .ensures m tasks p e in
+    let after = y .ensures b-memory tasks p e in
+    let f-memory = with-arrays (at-tick m t) (arrays (y .last .1 .1 .1 .1 .1 .1 .1 .1 .0) (y .last .1 .1 .1 .1 .1 .1 .1 .1 .1 .0)) in
     let skipped = skips-entries 32 (skips .result) t in
     let span = span-entries (steps-c-to-f b t (new .result) .closed) in
     let steps : Steps d t (s .set) (new .result) (c .before .held-over .result) b (state-in f-memory (y .result .registers)) (state-in f-memory (c .begun .result)) = record {

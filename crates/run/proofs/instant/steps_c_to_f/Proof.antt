@@ -35,7 +35,7 @@ same-length : tie.Need-same-length
 same-length c = search needs
 
 returns : tie.Need-returns
-returns c m p e =
+returns c m tasks p e =
     let put = c .before .before .before in
     let counts = put .before .before .before .count-blocked in
     let promotes = put .before .before .before .before .before in
@@ -46,13 +46,13 @@ returns c m p e =
     let before = with-arrays m (arrays (s .release .now) (s .blocked .now)) in
     let a = arrays (x .last .1 .1 .1 .1 .0) (x .last .1 .1 .1 .1 .1 .0) in
     let now = with-arrays m a in
-    let after = counts .last .1 .1 .0 in
+    let after = counts .last .1 .1 .1 .0 in
     let ends = f-closes before (s .t) (s .new) (s .r) a (x .result) (chooses .chosen .result)
     (x .ensures m p) (chooses .chosen .ensures now p e)
     (promotes .promoted .result) (record {
       ends-now = sym (test .before .is-over .ensures) ∙ test .if1 .taken;
       promoted-is = promotes .promoted .ensures now p;
-      counted-is = counts .ensures now p;
+      counted-is = counts .ensures now tasks p;
       closed-is = c .close .ensures (with-counts now after);
       entry-is = put .before .interval-entry .ensures;
     }) in
@@ -60,7 +60,7 @@ returns c m p e =
     (c .close .result) (put .before .interval-entry .result) ends (put .interval-at .result) (put .interval-at .last .0) (put .interval-at .ensures)
 
 returns-2 : tie.Need-returns-2
-returns-2 c m p e =
+returns-2 c m tasks p e =
     let chooses = c .before .before in
     let x = chooses .before .steps-c-d in
     let s = chooses .before .before .before .before .before .args in
