@@ -4,7 +4,7 @@ use mathlib.Core.Path.{_≡_, refl, sym, ap, ap₂, _∙_, subst}
 use mathlib.Core.List.{append-assoc}
 use Prim.Native.Nat.{zero, _-_, _^_, _≤_, _<_}
 use native.Mathlib.Omega.{arith}
-use borrow.Author.Tests.{eqb-true, eqb-false, leb-true, leb-false}
+use borrow.Author.Tests.{eqb-true, eqb-false, eq-eqb, ne-eqb, leb-true, leb-false}
 use lib.Dec.{eqb, leb}
 use lib.ListN.{length, take, length-append}
 use lib.Seq.{length-take-le, take-append-seam, getD-append-seam}
@@ -17,8 +17,12 @@ use Rattle.entries.proofs.RoundTrip.{release-there}
 use Rattle.table.specs.TaskPart.{no-table, behind-tasks, task-refusal, with-task, with-marked, tasks-from, task-part}
 use Rattle.table.proofs.Laws.{behind-end, behind-release, task-whole, at-end, malformed, released, refuses, takes}
 use Rattle.table.proofs.Front.{part-short, behind-in-front}
-use Rattle.rules.specs.Calls.{not-opened, opened-behind, opening}
-use Rattle.guarantees.specs.Types.{Table, TaskPart}
+use Rattle.rules.specs.Calls.{opened, not-opened, opened-behind, opening}
+use Rattle.rules.specs.Calls as rules
+use Rattle.rules.specs.Registers.{state-in}
+use Rattle.dispatcher.specs.declared.Opening.{Opening}
+use Rattle.dispatcher.specs.Dispatcher.{state-of, opening-of}
+use Rattle.guarantees.specs.Types.{Table, TaskPart, State}
 use Rattle.run.specs.Files.{Releases, refusal-of, releases-of}
 use Rattle.run.specs.Listed.{releases-at}
 use Rattle.run.proofs.Listing.{here, none}
@@ -28,6 +32,7 @@ use Rattle.record.proofs.Outcomes
 use Rattle.record.proofs.TasksAlone.{unlike}
 use Rattle.reading.specs.Types.{Bool, true, false, cond, List, [], _∷_, _++_, ℕ, suc, _+_, _*_, Release, Refusal, NoRefusal, Alone, AtEntry}
 use Rattle.reading.specs.Reading.{list-bytes, input-of}
+use Rattle.reading.specs.Parts.{ReadPart, Opened}
 use Rattle.reading.proofs.RunTold.{tally}
 use Rattle.reading.proofs.Noting.{same-releases}
 use Rattle.reading.proofs.Ordering.{first-none, past-time}
@@ -51,6 +56,33 @@ opens tasks h = go (eqb (length tasks) 0) (eqb (task-part tasks .end) (length ta
     go false false NoRefusal x y z h = absurd (let q : _≡_ {A = ℕ} 0 1 = cc (rw y at h) in omega arith)
     go false e (Alone n) x y z h = absurd (let q : _≡_ {A = ℕ} 0 1 = cc in omega arith)
     go false e (AtEntry n at) x y z h = absurd (let q : _≡_ {A = ℕ} 0 1 = cc in omega arith)
+
+-- and what opens is made of their part
+opening-is : (tasks : List ℕ) → opening tasks .refusal ≡ NoRefusal → opening tasks .state ≡ opened (task-part tasks .table) (task-part tasks .marked)
+unfolding opening
+opening-is tasks h =
+    let o : Opens tasks = opens tasks h in
+    ap (λ (b : Bool). cond b (not-opened (Alone 12)) (opened-behind (task-part tasks) (length tasks) (task-part tasks .refusal)) .state) (ne-eqb (length tasks) 0 (o .some))
+    ∙ ap (λ (r : Refusal). opened-behind (task-part tasks) (length tasks) r .state) (o .none-refused)
+    ∙ ap (λ (b : Bool). cond b (record { state = opened (task-part tasks .table) (task-part tasks .marked); refusal = NoRefusal }) (not-opened (AtEntry 2 (task-part tasks .end))) .state)
+    (eq-eqb (task-part tasks .end) (length tasks) (o .whole))
+
+same-fields : (k : TaskPart) (t : Table) (m e : ℕ) (r : Refusal) → t ≡ k .table → m ≡ k .marked → e ≡ k .end → r ≡ k .refusal → record { table = t; marked = m; end = e; refusal = r } ≡ k
+same-fields k t m e r a b c d = rw (a, b, c, d)
+
+pub opened-part : (tasks : List ℕ) (r : Opening) → opening-of r ≡ opening tasks → r .refusal ≡ NoRefusal
+    → Opened tasks (record { table = r .state .table; marked = r .state .registers .marked; end = length tasks; refusal = r .refusal })
+unfolding state-in opened
+opened-part tasks r e f =
+    let h : opening tasks .refusal ≡ NoRefusal = ap (λ (o : rules.Opening). o .refusal) (sym e) ∙ f in
+    let s : state-of (r .state) ≡ opened (task-part tasks .table) (task-part tasks .marked) = ap (λ (o : rules.Opening). o .state) e ∙ opening-is tasks h in
+    let o : Opens tasks = opens tasks h in
+    record {
+      opens = h;
+      is =
+          same-fields (task-part tasks) (r .state .table) (r .state .registers .marked) (length tasks) (r .refusal)
+          (ap (λ (d : State). d .table) s) (ap (λ (d : State). d .marked) s) (sym (o .whole)) (f ∙ sym (o .none-refused));
+    }
 
 -- a table has at most 32 tasks
 pub opens-short : (tasks : List ℕ) → opening tasks .refusal ≡ NoRefusal → length tasks ≤ 32 * 16
@@ -117,6 +149,13 @@ same-part tasks rs h =
 -- ---- the list
 
 -- a list's entries, read one by one
+pub read-part : (tasks : List ℕ) (rs : List Release) (part : TaskPart) → Opened tasks part → ReadPart (input-of tasks rs) part
+read-part tasks rs part o = record {
+  some = λ e. opens tasks (o .opens) .some (omega (arith, e, length-append tasks (list-bytes rs)));
+  is = o .is ∙ sym (same-part tasks rs (o .opens));
+  accepted = ap (λ (k : TaskPart). k .refusal) (o .is) ∙ opens tasks (o .opens) .none-refused;
+}
+
 pub listed : (front : List ℕ) (rs : List Release) → tally past-time rs ≡ 0 → releases-at (front ++ list-bytes rs) (length front) ≡ rs
 unfolding list-bytes
 listed front [] h = none (front ++ []) (length front) (omega (arith, length-append front []))

@@ -3,6 +3,8 @@ use mathlib.Core.Path.{_≡_}
 use mathlib.Core.Logic.{_⊎_}
 use Prim.Native.Nat.{_+_, _*_, _/_, _%_, _^_, _≤_, _<_}
 use lib.ListN.{length, take, drop}
+use Rattle.table.specs.declared.TaskPart.{TaskPart}
+use Rattle.table.specs.TaskPart.{task-part}
 use Rattle.rules.specs.Calls.{opening}
 use Rattle.run.specs.Files.{Releases, refusal-of}
 use Rattle.reading.specs.Types.{Bool, true, false, List, [], _∷_, _++_, ℕ, Release, NoRefusal, RecordEntry, MalformedRecord, JobDone, IntervalEnded, ReleaseSkipped}
@@ -98,6 +100,17 @@ pub record Rebuilt (tasks keys before : List ℕ) (size : ℕ) (after : List ℕ
   pub same-length : length after ≡ length before
   pub size-is : size ≡ length (input-of tasks (releases-in keys))
   pub holds : take size after ≡ input-of tasks (releases-in keys)
+
+-- an input's task part, as it was read
+pub record ReadPart (s : List ℕ) (part : TaskPart) : Type 0 where
+  pub some : length s ≡ 0 → ⊥
+  pub is : part ≡ task-part s
+  pub accepted : part .refusal ≡ NoRefusal
+
+-- task entries that open a dispatcher, and their part
+pub record Opened (tasks : List ℕ) (part : TaskPart) : Type 0 where
+  pub opens : opening tasks .refusal ≡ NoRefusal
+  pub is : part ≡ task-part tasks
 
 -- memory for reading: task entries that open a dispatcher; room for as many numbers as a file may have releases, or as the record can tell of; and
 -- for the input that they make

@@ -5,15 +5,14 @@ use crate::rebuild::rebuild;
 use crate::replay::yields;
 use record::Outcome;
 use table::Refusal;
+use table::TaskPart;
 ghost use mathlib.Core.Path.{_≡_};
 ghost use Prim.Native.Nat.{_+_, _*_, _≤_};
 ghost use lib.ListN.{length};
-ghost use Rattle.rules.specs.Calls.{opening};
 ghost use Rattle.record.specs.Writing.{Wrote, written};
-ghost use Rattle.reading.specs.Types.{NoRefusal};
 ghost use Rattle.reading.specs.Told.{told};
 ghost use Rattle.reading.specs.Reading.{listed-if, read-told, reading};
-ghost use Rattle.reading.specs.Parts.{releases-in, Lent};
+ghost use Rattle.reading.specs.Parts.{releases-in, Opened, Lent};
 ghost use Rattle.reading.specs.Acceptance.{ReadWithClaim};
 
 // As many releases as a file may have.
@@ -41,16 +40,18 @@ fn write_list(list: &[u8], out: &mut [u8]) -> Outcome
 // The list of the releases that the numbers stand for, where its run has this record; else 18. `input` has room for the input that they make.
 fn read_listed(
     tasks: &[u8],
+    part: TaskPart,
     keys: &[u64],
     stored: &[u8],
     input: &mut [u8],
     out: &mut [u8],
 ) -> Outcome
+    requires { ⌜ Opened (now tasks) part ⌝ }
     requires { ⌜ length (now tasks) + 10 * length (now keys) ≤ length (now input) ⌝ }
     ensures { λ r. ⌜ Wrote (listed-if (now (tasks .entry)) (now (stored .entry)) (now (out .entry)) (releases-in (now (keys .entry)))) r (now (out .exit)) ⌝ }
 {
     let end = rebuild(tasks, keys, input);
-    if yields(&input[..end], stored) {
+    if yields(&input[..end], part, stored) {
         let from = tasks.len();
         return write_list(&input[from..end], out);
     }
@@ -60,11 +61,13 @@ fn read_listed(
 // Behind task entries that open a dispatcher. `keys` has room for every release that the record may tell of.
 fn read_record(
     tasks: &[u8],
+    part: TaskPart,
     stored: &[u8],
     keys: &mut [u64],
     input: &mut [u8],
     out: &mut [u8],
 ) -> Outcome
+    requires { ⌜ Opened (now tasks) part ⌝ }
     requires { ⌜ Lent (now tasks) (now stored) (now keys) (now input) ⌝ }
     ensures { λ r. ⌜ Wrote (read-told (now (tasks .entry)) (now (stored .entry)) (now (out .entry)) (told (now (stored .entry)))) r (now (out .exit)) ⌝ }
 {
@@ -78,54 +81,54 @@ fn read_record(
             }
             let count = noted.count;
             sort(&mut keys[..count]);
-            read_listed(tasks, &keys[..count], stored, input, out)
+            read_listed(tasks, part, &keys[..count], stored, input, out)
         }
         Refusal::Alone(_) => Outcome::RefusedInput(fault),
         Refusal::AtEntry(_, _) => Outcome::RefusedInput(fault),
     }
 }
 
-fn read_few(tasks: &[u8], stored: &[u8], out: &mut [u8]) -> Outcome
-    requires { ⌜ opening (now tasks) .refusal ≡ NoRefusal ⌝ }
+fn read_few(tasks: &[u8], part: TaskPart, stored: &[u8], out: &mut [u8]) -> Outcome
+    requires { ⌜ Opened (now tasks) part ⌝ }
     requires { ⌜ length (now stored) ≤ 5120 ⌝ }
     ensures { λ r. ⌜ Wrote (read-told (now (tasks .entry)) (now (stored .entry)) (now (out .entry)) (told (now (stored .entry)))) r (now (out .exit)) ⌝ }
 {
     let mut keys = [0u64; FEW];
     let mut input = [0u8; TASKS + FEW * entries::RELEASE_SIZE];
-    read_record(tasks, stored, &mut keys, &mut input, out)
+    read_record(tasks, part, stored, &mut keys, &mut input, out)
 }
 
-fn read_some(tasks: &[u8], stored: &[u8], out: &mut [u8]) -> Outcome
-    requires { ⌜ opening (now tasks) .refusal ≡ NoRefusal ⌝ }
+fn read_some(tasks: &[u8], part: TaskPart, stored: &[u8], out: &mut [u8]) -> Outcome
+    requires { ⌜ Opened (now tasks) part ⌝ }
     requires { ⌜ length (now stored) ≤ 20480 ⌝ }
     ensures { λ r. ⌜ Wrote (read-told (now (tasks .entry)) (now (stored .entry)) (now (out .entry)) (told (now (stored .entry)))) r (now (out .exit)) ⌝ }
 {
     let mut keys = [0u64; SOME];
     let mut input = [0u8; TASKS + SOME * entries::RELEASE_SIZE];
-    read_record(tasks, stored, &mut keys, &mut input, out)
+    read_record(tasks, part, stored, &mut keys, &mut input, out)
 }
 
-fn read_any(tasks: &[u8], stored: &[u8], out: &mut [u8]) -> Outcome
-    requires { ⌜ opening (now tasks) .refusal ≡ NoRefusal ⌝ }
+fn read_any(tasks: &[u8], part: TaskPart, stored: &[u8], out: &mut [u8]) -> Outcome
+    requires { ⌜ Opened (now tasks) part ⌝ }
     ensures { λ r. ⌜ Wrote (read-told (now (tasks .entry)) (now (stored .entry)) (now (out .entry)) (told (now (stored .entry)))) r (now (out .exit)) ⌝ }
 {
     let mut keys = [0u64; MOST];
     let mut input = [0u8; TASKS + MOST * entries::RELEASE_SIZE];
-    read_record(tasks, stored, &mut keys, &mut input, out)
+    read_record(tasks, part, stored, &mut keys, &mut input, out)
 }
 
 // With as much memory as the record asks for.
-fn read_opened(tasks: &[u8], stored: &[u8], out: &mut [u8]) -> Outcome
-    requires { ⌜ opening (now tasks) .refusal ≡ NoRefusal ⌝ }
+fn read_opened(tasks: &[u8], part: TaskPart, stored: &[u8], out: &mut [u8]) -> Outcome
+    requires { ⌜ Opened (now tasks) part ⌝ }
     ensures { λ r. ⌜ Wrote (read-told (now (tasks .entry)) (now (stored .entry)) (now (out .entry)) (told (now (stored .entry)))) r (now (out .exit)) ⌝ }
 {
     if stored.len() <= FEW * entries::RELEASE_SIZE {
-        return read_few(tasks, stored, out);
+        return read_few(tasks, part, stored, out);
     }
     if stored.len() <= SOME * entries::RELEASE_SIZE {
-        return read_some(tasks, stored, out);
+        return read_some(tasks, part, stored, out);
     }
-    read_any(tasks, stored, out)
+    read_any(tasks, part, stored, out)
 }
 
 fn read_checked(tasks: &[u8], stored: &[u8], out: &mut [u8]) -> Outcome
@@ -134,7 +137,18 @@ fn read_checked(tasks: &[u8], stored: &[u8], out: &mut [u8]) -> Outcome
     let opened = guarantees::open(tasks);
     let refusal = opened.refusal;
     match refusal {
-        Refusal::NoRefusal => read_opened(tasks, stored, out),
+        Refusal::NoRefusal => {
+            let state = opened.state;
+            let table = state.table;
+            let registers = state.registers;
+            let part = TaskPart {
+                table,
+                marked: registers.marked,
+                end: tasks.len(),
+                refusal,
+            };
+            read_opened(tasks, part, stored, out)
+        }
         Refusal::Alone(_) => Outcome::RefusedInput(refusal),
         Refusal::AtEntry(_, _) => Outcome::RefusedInput(refusal),
     }

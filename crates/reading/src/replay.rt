@@ -8,7 +8,7 @@ ghost use Prim.Native.Nat.{_≤_};
 ghost use lib.Dec.{eqb};
 ghost use lib.ListN.{length, take, drop};
 ghost use Rattle.record.specs.Cursor.{Room, start, run-bytes};
-ghost use Rattle.reading.specs.Parts.{Tells, Holds};
+ghost use Rattle.reading.specs.Parts.{Tells, Holds, ReadPart};
 ghost use Rattle.reading.specs.Reading.{same-bytes, yields};
 
 // How many bytes of a run are made before they are held against the record: long pieces are compared faster than what one instant leaves.
@@ -128,16 +128,17 @@ fn replays(s: &[u8], part: TaskPart, budget: usize, stored: &[u8]) -> bool
     size + len == stored.len()
 }
 
-// Whether an input is accepted and its run's record is `stored`.
-pub fn yields(s: &[u8], stored: &[u8]) -> bool
+// Whether an input, of which the task part is read already, is accepted and its run's record is `stored`.
+pub fn yields(s: &[u8], part: TaskPart, stored: &[u8]) -> bool
+    requires { ⌜ ReadPart (now s) part ⌝ }
     ensures { λ r. ⌜ r ≡ yields (now (s .entry)) (now (stored .entry)) ⌝ }
 {
-    let part = run::check_file(s);
-    let refusal = part.refusal;
+    let checked = run::check_behind(s, part);
+    let refusal = checked.refusal;
     match refusal {
         Refusal::NoRefusal => {
-            let n = (s.len() - part.end) / RELEASE_SIZE;
-            replays(s, part, 32 * n + 32, stored)
+            let n = (s.len() - checked.end) / RELEASE_SIZE;
+            replays(s, checked, 32 * n + 32, stored)
         }
         Refusal::Alone(_) => false,
         Refusal::AtEntry(_, _) => false,

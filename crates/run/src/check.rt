@@ -91,8 +91,8 @@ fn refused(refusal: Refusal) -> TaskPart
     }
 }
 
-// The releases behind a task part that is not refused.
-fn check_behind(s: &[u8], part: TaskPart) -> TaskPart
+// The releases behind a task part that is not refused: the part, or their first refusal.
+pub fn check_behind(s: &[u8], part: TaskPart) -> TaskPart
     ensures { λ r. ⌜ r ≡ files.part-of part (files.refusal-of (files.releases-from (length (now (s .entry))) (now (s .entry)) (part .end) (part .table .present) Last.NoneBefore 0)) ⌝ }
 {
     let table = part.table;

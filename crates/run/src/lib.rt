@@ -4,6 +4,7 @@ mod instant;
 mod putting;
 mod releases;
 
+pub use check::check_behind;
 pub use check::check_file;
 use entries::Release;
 pub use instant::advance;

@@ -12,7 +12,7 @@ slice-aggregate-read-record-2 : tie.Need-slice-aggregate-read-record-2
 slice-aggregate-read-record-2 c = search needs
 
 read-record-requires : tie.Need-read-record-requires
-read-record-requires c κs = record { opens = c .before .before .before .before .before .before .pre; enough = inl (omega arith); room = omega arith }
+read-record-requires c κs = (c .before .before .before .before .before .before .pre, record { opens = c .before .before .before .before .before .before .pre .opens; enough = inl (omega arith); room = omega arith })
 
 same-length : tie.Need-same-length
 same-length c = search needs

@@ -2,6 +2,7 @@
 use mathlib.Core.Path.{sym, ap, _∙_}
 use Rattle.rules.specs.Calls.{Opening}
 use Rattle.record.proofs.Outcomes.{alone, at-entry}
+use Rattle.reading.proofs.Inputs.{opened-part}
 use Rattle.reading.proofs.Outcomes.{not-opened, opened}
 use borrow.Author.Needs.{needs}
 use Rattle.reading.proofs.listing.read_checked.Statement.{statement}
@@ -14,7 +15,10 @@ enum-told : tie.Need-enum-told
 enum-told c = search needs
 
 read-opened-requires : tie.Need-read-opened-requires
-read-opened-requires c κs = sym (ap (λ (o : Opening). o .refusal) (c .before .before .before .«open» .ensures .opens)) ∙ c .before .enum-told .given .1
+read-opened-requires c κs =
+    let o = c .before .before .before .before .before .before .«open» in
+    let e = c .before .before .before .before .enum-told .given .1 in
+    opened-part (c .before .before .before .before .before .before .before .before .before .before .args .tasks .now) (o .result) (o .ensures .opens) e
 
 enum-told-2 : tie.Need-enum-told-2
 enum-told-2 c = search needs
@@ -27,10 +31,10 @@ same-length c = search needs
 
 returns : tie.Need-returns
 returns c =
-    let a = c .before .before .before .before .before .before .before .before .before .before .args in
-    let o = c .before .before .before .before .before .before .«open» in
+    let a = c .before .before .before .before .before .before .before .before .before .before .before .before .before .args in
+    let o = c .before .before .before .before .before .before .before .before .before .«open» in
     let e = ap (λ (o : Opening). o .refusal) (o .ensures .opens) in
-    opened (a .tasks .now) (a .stored .now) (a .out .now) (o .result .refusal) e (c .before .before .before .before .enum-told .given .1) (c .before .before .read-opened .ensures)
+    opened (a .tasks .now) (a .stored .now) (a .out .now) (o .result .refusal) e (c .before .before .before .before .before .before .before .enum-told .given .1) (c .before .before .read-opened .ensures)
 
 returns-2 : tie.Need-returns-2
 returns-2 c =

@@ -1,7 +1,11 @@
 -- `reading::listing::read_listed` meets its contract: by whether the list's run has this record. Assumes nothing.
-use mathlib.Core.Path.{sym, _∙_}
+use mathlib.Core.Path.{sym, _∙_, subst}
+use mathlib.Core.List.{List}
+use Prim.Native.Nat.{ℕ}
 use native.Mathlib.Omega.{arith}
 use lib.Seq.{length-take-le}
+use Rattle.reading.specs.Parts.{ReadPart, releases-in}
+use Rattle.reading.proofs.Inputs.{read-part}
 use Rattle.reading.proofs.Laying.{input-length}
 use Rattle.reading.proofs.Outcomes.{listed-part, not-listed-part}
 use borrow.Author.Needs.{needs}
@@ -16,17 +20,20 @@ slice-reshare-prefix-yields c =
     let r = c .before .before .rebuild .ensures in
     let a = c .before .before .before .before .before .before .before .before .before in
     let size = r .size-is ∙ input-length (a .args .tasks .now) (a .args .keys .now) in
-    omega (arith, size, r .same-length, a .pre)
+    omega (arith, size, r .same-length, a .pre .1)
 
 slice-aggregate-yields : tie.Need-slice-aggregate-yields
 slice-aggregate-yields c =
     let r = c .before .before .before .rebuild .ensures in
     let a = c .before .before .before .before .before .before .before .before .before .before in
     let size = r .size-is ∙ input-length (a .args .tasks .now) (a .args .keys .now) in
-    sym (length-take-le _ _ (omega (arith, size, r .same-length, a .pre)))
+    sym (length-take-le _ _ (omega (arith, size, r .same-length, a .pre .1)))
 
 yields-requires : tie.Need-yields-requires
-yields-requires c κs = search needs
+yields-requires c κs =
+    let r = c .before .before .before .rebuild .ensures in
+    let a = c .before .before .before .before .before .before .before .before .before .before in
+    subst (λ (s : List ℕ). ReadPart s (a .args .part)) (sym (r .holds)) (read-part (a .args .tasks .now) (releases-in (a .args .keys .now)) (a .args .part) (a .pre .0))
 
 sub-write-list : tie.Need-sub-write-list
 sub-write-list c =
@@ -47,7 +54,7 @@ part-write-list-end c =
     let r = c .before .before .before .before .before .before .rebuild .ensures in
     let a = c .before .before .before .before .before .before .before .before .before .before .before .before .before in
     let size = r .size-is ∙ input-length (a .args .tasks .now) (a .args .keys .now) in
-    omega (arith, size, r .same-length, a .pre)
+    omega (arith, size, r .same-length, a .pre .1)
 
 write-list-requires : tie.Need-write-list-requires
 write-list-requires c κs = search needs

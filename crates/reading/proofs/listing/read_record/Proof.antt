@@ -25,7 +25,7 @@ returns : tie.Need-returns
 returns c =
     let h = c .before .before .before .before .before .before .before .collect .ensures in
     let a = c .before .before .before .before .before .before .before .before .before .before .before .before .before .before in
-    impossible (a .args .tasks .now) (a .args .stored .now) (a .args .out .now) _ h (c .before .before .enum-told .given .1) (a .pre) (not-true _ (c .if1 .taken))
+    impossible (a .args .tasks .now) (a .args .stored .now) (a .args .out .now) _ h (c .before .before .enum-told .given .1) (a .pre .1) (not-true _ (c .if1 .taken))
 
 slice-relend-prefix-sort : tie.Need-slice-relend-prefix-sort
 slice-relend-prefix-sort c =
@@ -63,9 +63,11 @@ read-listed-requires c κs =
     let h = c .before .before .before .before .before .before .before .before .before .before .before .before .before .before .collect .ensures in
     let a = c .before .before .before .before .before .before .before .before .before .before .before .before .before .before .before .before .before .before .before .before .before in
     let w = noted (a .args .tasks .now) (a .args .stored .now) (a .args .out .now) _ h (c .before .before .before .before .before .before .before .before .before .enum-told .given .1) .within in
-    let s = c .before .before .before .before .before .sort in
-    subst (λ (n : ℕ). length (a .args .tasks .now) + 10 * n ≤ length (a .args .input .now)) (front-length _ _ (s .last .0) _ (s .ensures) w)
-    (omega (arith, w, h .same-length, opens-short (a .args .tasks .now) (a .pre .opens), a .pre .room))
+    let s = c .before .before .before .before .before .sort in (
+      a .pre .0,
+      subst (λ (n : ℕ). length (a .args .tasks .now) + 10 * n ≤ length (a .args .input .now)) (front-length _ _ (s .last .0) _ (s .ensures) w)
+          (omega (arith, w, h .same-length, opens-short (a .args .tasks .now) (a .pre .1 .opens), a .pre .1 .room)),
+    )
 
 enum-told-2 : tie.Need-enum-told-2
 enum-told-2 c = search needs
