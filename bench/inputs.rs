@@ -45,7 +45,7 @@ fn tasks(tasks: u8, longest: u64, random: &mut Random) -> Vec<u8> {
     input
 }
 
-/// Releases of random tasks, so near each other that some share a time and some are skipped.
+/// Releases of random tasks, so near each other that some share a time, some wait and some are skipped.
 pub fn mixed(number: u8, releases: usize) -> Vec<u8> {
     let mut random = Random(releases as u64);
     let mut input = tasks(number, 12, &mut random);
@@ -79,6 +79,17 @@ pub fn sparse(number: u8) -> Vec<u8> {
     let mut input = tasks(number, 12, &mut random);
     for k in 0..4096 {
         input.extend(release(random.below(u64::from(number)) as u8, k * 100));
+    }
+    input
+}
+
+/// Tasks released twice within two ticks and then for long not at all: every second release waits, and is taken at the completion.
+pub fn waiting(number: u8) -> Vec<u8> {
+    let mut random = Random(3);
+    let mut input = tasks(number, 12, &mut random);
+    for k in 0..2048 {
+        let task = random.below(u64::from(number)) as u8;
+        input.extend([release(task, k * 150), release(task, k * 150 + 1)].concat());
     }
     input
 }
@@ -134,19 +145,37 @@ pub fn hostile(truth: &Stored) -> Vec<(&'static str, Stored)> {
     ]
 }
 
+/// The length of a record's entry of this kind.
+fn length(kind: u8) -> usize {
+    match kind { 16 => 27, 17 => 24, _ => 10 }
+}
+
 /// The entries of a record, the last one first.
 fn reversed(record: &[u8]) -> Vec<u8> {
     let mut entries = Vec::new();
     let mut rest = record;
     while let Some(kind) = rest.first() {
-        let (entry, behind) = rest.split_at(match kind { 16 => 27, 17 => 24, _ => 10 });
+        let (entry, behind) = rest.split_at(length(*kind));
         entries.push(entry);
         rest = behind;
     }
     entries.into_iter().rev().flatten().copied().collect()
 }
 
-/// Records that are refused, and one that is not.
+/// The record with one bit changed in its first entry of a kind, this many bytes behind the kind.
+fn changed_at(truth: &Stored, kind: u8, behind: usize) -> Stored {
+    let mut stored = truth.clone();
+    let mut at = 0;
+    while at < stored.record.len() && stored.record[at] != kind {
+        at += length(stored.record[at]);
+    }
+    if let Some(byte) = stored.record.get_mut(at + behind) {
+        *byte ^= 1;
+    }
+    stored
+}
+
+/// Records that are refused, and some that are those of another list.
 pub fn refused_records(truth: &Stored) -> Vec<(&'static str, Stored)> {
     let with = |more: &[u8]| Stored { record: [&truth.record, more].concat(), ..truth.clone() };
     let tasks = |tasks: Vec<u8>| Stored { tasks, ..truth.clone() };
@@ -158,6 +187,8 @@ pub fn refused_records(truth: &Stored) -> Vec<(&'static str, Stored)> {
         ("an entry of another kind", with(&[2])),
         ("an entry cut short", with(&[17, 0, 0])),
         ("an entry too many", with(&skipped(0, 0))),
+        ("another time of a first release", changed_at(truth, 16, 2)),
+        ("another time of a skipped one", changed_at(truth, 18, 2)),
         ("a skipped release too late", with(&skipped(0, 1_000_000_001))),
         ("an unknown task skipped", with(&skipped(32, 5))),
         ("nothing", Stored { record: Vec::new(), ..truth.clone() }),

@@ -146,6 +146,7 @@ fn records() -> f64 {
     for tasks in [4, 32] {
         rows.push((format!("instants with releases, {tasks} tasks"), inputs::dense(tasks)));
         rows.push((format!("instants mostly without, {tasks} tasks"), inputs::sparse(tasks)));
+        rows.push((format!("every second one waits, {tasks} tasks"), inputs::waiting(tasks)));
     }
     rows.iter().map(|(name, input)| recording(name.clone(), input).measure().ratio).fold(0.0, f64::max)
 }

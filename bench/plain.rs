@@ -28,8 +28,10 @@ struct State {
     present: u32,
     marked: u32,
     pending: u32,
+    waiting: u32,
     ready: u32,
     candidates: u32,
+    waiting_since: [u64; 32],
     release: [u64; 32],
     start: [u64; 32],
     blocked: [u8; 32],
@@ -220,16 +222,57 @@ impl State {
         w.interval(self, now, promoted, after);
     }
 
+    /// A job completes: its task's waiting release, if any, is pending in its place. The set of what is taken so.
+    #[inline]
+    fn complete(&mut self, n: usize) -> u32 {
+        let first = self.waiting & 1 << n;
+        if first == 0 {
+            self.pending ^= 1 << n;
+        } else {
+            self.waiting ^= first;
+            self.release[n] = self.waiting_since[n];
+            self.blocked[n] = 0;
+        }
+        first
+    }
+
+    /// The releases of the instant are taken, wait or are skipped, behind what is taken at a completion. The set taken, with that.
+    #[inline]
+    fn take(&mut self, first: u32, now: u64, released: u32, w: &mut impl Events) -> u32 {
+        let new = released & !self.pending;
+        let behind = released & self.pending;
+        w.skipped(behind & self.waiting, now);
+        let mut left = behind & !self.waiting;
+        self.waiting |= left;
+        while left != 0 {
+            self.waiting_since[left.trailing_zeros() as usize] = now;
+            left &= left - 1;
+        }
+        left = new;
+        while left != 0 {
+            let n = left.trailing_zeros() as usize;
+            self.release[n] = now;
+            self.blocked[n] = 0;
+            left &= left - 1;
+        }
+        let taken = new | first;
+        self.pending |= new;
+        self.ready |= taken;
+        self.candidates |= taken & self.marked;
+        taken
+    }
+
     #[inline]
     fn instant(&mut self, now: u64, released: u32, w: &mut impl Events) {
         self.instants += 1;
+        let mut first = 0;
         // a
         if self.open {
             if self.engine != Unit::Free && self.engine_end == now {
                 if self.engine == Unit::CopyingOut {
                     let n = self.copied_out as usize;
-                    self.pending &= !(1 << n);
                     w.job(n as u8, self.release[n], self.start[n], now, self.blocked[n]);
+                    first = self.complete(n);
                 } else {
                     self.fate = 1;
                 }
@@ -251,22 +294,11 @@ impl State {
             self.end_interval(now, false, w);
         }
         // c
-        let new = released & !self.pending;
-        w.skipped(released & self.pending, now);
-        self.pending |= new;
-        self.ready |= new;
-        self.candidates |= new & self.marked;
-        let mut left = new;
-        while left != 0 {
-            let n = left.trailing_zeros() as usize;
-            self.release[n] = now;
-            self.blocked[n] = 0;
-            left &= left - 1;
-        }
+        let taken = self.take(first, now, released, w);
         if self.open {
             // d
-            if new & self.marked != 0 && self.chosen != NONE && self.fate < 2 {
-                let n = self.highest(new & self.marked);
+            if taken & self.marked != 0 && self.chosen != NONE && self.fate < 2 {
+                let n = self.highest(taken & self.marked);
                 if self.priority[n as usize] < self.priority[self.chosen as usize] {
                     self.engine = Unit::Free;
                     // under way (0) it is cancelled (2), and done (1) it is thrown out (3)
@@ -284,8 +316,8 @@ impl State {
             }
         }
         // g
-        let waits = self.ready != 0 || self.loaded != NONE || self.promoted != NONE || self.outgoing != NONE;
-        if !self.open && waits {
+        let work = self.ready != 0 || self.loaded != NONE || self.promoted != NONE || self.outgoing != NONE;
+        if !self.open && work {
             self.open = true;
             self.half = 1 - self.half;
             self.begin = now;
@@ -341,8 +373,10 @@ fn opened() -> State {
         present: 0,
         marked: 0,
         pending: 0,
+        waiting: 0,
         ready: 0,
         candidates: 0,
+        waiting_since: [0; 32],
         release: [0; 32],
         start: [0; 32],
         blocked: [0; 32],

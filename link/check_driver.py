@@ -86,6 +86,17 @@ def long_stream(driver, seed):
     hold(driver, tasks, cores, expected)
 
 
+def waits(driver):
+    """A release that waits over the tick at which a core counts anew where it is idle: it is not, and nothing is lost. Idle, it counts anew."""
+    tasks = task_entry(1, 1, 1, 2, 3, 1)
+    begin = 500_000_000
+    busy = [(begin + time, 1) for time in (-3, 0, 2, 3, 8)]
+    again = [(time, 1) for time in (0, 5, 6, 7)]
+    expected = gateway_lines(tasks + b"".join(release_entry(*release) for release in busy))
+    expected += [later(line, 2 * begin) for line in gateway_lines(tasks + b"".join(release_entry(*release) for release in again))]
+    hold(driver, tasks, {3: busy + [(2 * begin + time, task) for time, task in again]}, {3: expected})
+
+
 def marks(driver):
     """A mark that was changed is handed over to the new dispatcher: plans A and B in turn, with the mark of task 1 from a call."""
     tasks = task_entry(1, 1, 0, 2, 3, 1) + task_entry(2, 2, 0, 2, 4, 1) + task_entry(3, 3, 0, 2, 5, 2)
@@ -108,7 +119,8 @@ def main():
             if seed % 4 == 0:
                 long_stream(driver, seed)
         marks(driver)
-        passed += count + -(-count // 4) + 1
+        waits(driver)
+        passed += count + -(-count // 4) + 2
     print(f"{passed} passed")
 
 

@@ -82,7 +82,8 @@ static void print_interval(unsigned number, uint64_t base, const gateway_interva
     printf("\n");
 }
 
-/* In the order in which things occur: the job done, an interval that ended before the releases, those skipped, an interval that ended after them. */
+/* In the order in which things occur: the job done, an interval that ended before the releases, those skipped, an interval that ended after them. A
+ * release that waits is told when its job is done. */
 static void print_answer(unsigned number, uint64_t base, uint64_t now, const gateway_answer *a)
 {
     if (a->done) {
@@ -102,7 +103,7 @@ static void print_answer(unsigned number, uint64_t base, uint64_t now, const gat
     }
 }
 
-/* One call. With no due time nothing is pending, and a new dispatcher can take over. */
+/* One call. With no due time nothing is pending and nothing waits, and a new dispatcher can take over. */
 static void call(unsigned number, uint64_t now)
 {
     core_state *core = &cores[number];

@@ -38,12 +38,13 @@ uint8_t gateway_read(const uint8_t *tasks, size_t tasks_length, const uint8_t *r
  * *d and *answer as they were. The pointers are not null, and what they point to does not overlap. Calls on one dispatcher come one after
  * the other; calls on different ones may run at once. */
 
-#define GATEWAY_DISPATCHER_WORDS 100
+#define GATEWAY_DISPATCHER_WORDS 132
 
 typedef struct {
     uint64_t words[GATEWAY_DISPATCHER_WORDS];
 } gateway_dispatcher;
 
+/* A job that is done. `release` is the time at which its release was handed in, also where that waited; `blocked` counts intervals from its taking. */
 typedef struct {
     uint64_t release, start, completion;
     uint8_t task, blocked;
@@ -59,7 +60,7 @@ typedef struct {
 /* What an instant tells. Where `done`, `closed` or `is_due` is 0, `job`, `interval` or `due` is as it was. */
 typedef struct {
     uint64_t due;
-    uint32_t skipped; /* the set of tasks whose release was skipped: bit n stands for task n */
+    uint32_t skipped; /* the set of tasks whose release was skipped now, since one of theirs waits: bit n stands for task n */
     uint8_t done;     /* 1: job is filled in */
     uint8_t closed;   /* 0 none; interval is filled in: 1 it ended before the releases, 2 after them */
     uint8_t is_due;   /* 1: due is the next due time */
@@ -69,13 +70,15 @@ typedef struct {
 
 /* What is exported lends each array of a dispatcher and of an answer by itself. The functions below find them. */
 uint8_t gateway_open_parts(const uint8_t *entries, size_t length, uint64_t *times, uint32_t *sets, uint8_t *codes, uint8_t *priority,
-                           uint32_t *columns, uint64_t *release, uint8_t *blocked, size_t *place);
+                           uint32_t *columns, uint64_t *release, uint8_t *blocked, uint64_t *waits, size_t *place);
 uint8_t gateway_instant_parts(uint64_t *times, uint32_t *sets, uint8_t *codes, const uint8_t *priority, const uint32_t *columns,
-                              uint64_t *release, uint8_t *blocked, uint64_t time, uint32_t set, uint8_t *flags, uint32_t *skipped,
-                              uint64_t *due, uint64_t *job_times, uint8_t *job_bytes, uint64_t *interval_times, uint8_t *interval_bytes);
+                              uint64_t *release, uint8_t *blocked, uint64_t *waits, uint64_t time, uint32_t set, uint8_t *flags,
+                              uint32_t *skipped, uint64_t *due, uint64_t *job_times, uint8_t *job_bytes, uint64_t *interval_times,
+                              uint8_t *interval_bytes);
 uint8_t gateway_mark_parts(uint32_t *sets, uint8_t task, uint8_t mark);
 
-/* Where they stand: 7 times, 5 sets, 9 codes, then of each task the priority, the blocked intervals, the release and the three lengths. */
+/* Where they stand: 7 times, 6 sets, 9 codes, then of each task the priority, the blocked intervals, the release, the three lengths and
+ * the release that waits. */
 #define GATEWAY_TIMES(d) ((d)->words)
 #define GATEWAY_SETS(d) ((uint32_t *)((d)->words + 7))
 #define GATEWAY_CODES(d) ((uint8_t *)((d)->words + 10))
@@ -83,23 +86,25 @@ uint8_t gateway_mark_parts(uint32_t *sets, uint8_t task, uint8_t mark);
 #define GATEWAY_BLOCKED(d) ((uint8_t *)((d)->words + 16))
 #define GATEWAY_RELEASE(d) ((d)->words + 20)
 #define GATEWAY_COLUMNS(d) ((uint32_t *)((d)->words + 52))
+#define GATEWAY_WAITS(d) ((d)->words + 100)
 
 /* Opens a dispatcher from `length` bytes of task entries. *place is the place of the entry that is refused, and 0 where there is none. */
 static inline uint8_t gateway_open(const uint8_t *entries, size_t length, gateway_dispatcher *d, size_t *place)
 {
     return gateway_open_parts(entries, length, GATEWAY_TIMES(d), GATEWAY_SETS(d), GATEWAY_CODES(d), GATEWAY_PRIORITY(d),
-                              GATEWAY_COLUMNS(d), GATEWAY_RELEASE(d), GATEWAY_BLOCKED(d), place);
+                              GATEWAY_COLUMNS(d), GATEWAY_RELEASE(d), GATEWAY_BLOCKED(d), GATEWAY_WAITS(d), place);
 }
 
-/* An instant: the releases of the set at the time. It is to be called at every release and at every due time: 15 otherwise. */
+/* An instant: the releases of the set at the time. It is to be called at every release and at every due time: 15 otherwise. Of a task that has a
+ * pending job one release waits, and is taken at the instant at which that job is done, before the releases of that instant. */
 static inline uint8_t gateway_instant(gateway_dispatcher *d, uint64_t time, uint32_t set, gateway_answer *answer)
 {
     return gateway_instant_parts(GATEWAY_TIMES(d), GATEWAY_SETS(d), GATEWAY_CODES(d), GATEWAY_PRIORITY(d), GATEWAY_COLUMNS(d),
-                                 GATEWAY_RELEASE(d), GATEWAY_BLOCKED(d), time, set, &answer->done, &answer->skipped, &answer->due,
-                                 &answer->job.release, &answer->job.task, &answer->interval.begin, &answer->interval.half);
+                                 GATEWAY_RELEASE(d), GATEWAY_BLOCKED(d), GATEWAY_WAITS(d), time, set, &answer->done, &answer->skipped,
+                                 &answer->due, &answer->job.release, &answer->job.task, &answer->interval.begin, &answer->interval.half);
 }
 
-/* Changes a task's mark from now on, while it has no pending job: 1 latency-sensitive, 0 not. */
+/* Changes a task's mark from now on, while it has no pending job and no release that waits: 1 latency-sensitive, 0 not. */
 static inline uint8_t gateway_mark(gateway_dispatcher *d, uint8_t task, uint8_t mark)
 {
     return gateway_mark_parts(GATEWAY_SETS(d), task, mark);

@@ -28,8 +28,8 @@ COPY_IN, EXECUTION, COPY_OUT = "copy-in", "execution", "copy-out"
 @dataclass(eq=False)
 class Job:
     """One release that was taken."""
-    task: Task  # as it was at the release: a job is marked if its task was then
-    release: int
+    task: Task  # as it was at the taking: a job is marked if its task was then
+    release: int  # the original time, also of a release that waited
     start: Optional[int] = None  # execution start
     blocked: int = 0
 
@@ -109,15 +109,16 @@ class Dispatcher:
     table: dict
     last: Optional[int] = None  # the last instant served
     pending: dict = field(default_factory=dict)  # task number -> job
+    waiting: dict = field(default_factory=dict)  # task number -> time of the release that waits for the pending job to complete
     ready: set = field(default_factory=set)
-    arrivals: set = field(default_factory=set)  # jobs released in the open interval, or in the one about to begin
+    arrivals: set = field(default_factory=set)  # jobs taken in the open interval, or in the one about to begin
     interval: Optional[Interval] = None
     half: int = 1  # the processor's half in the interval before: the first swap gives 0
 
     # What the interval before hands to the next one.
     loaded: Optional[Job] = None
     promoted: Optional[Job] = None
-    executed: Optional[Job] = None  # waiting for copy-out
+    executed: Optional[Job] = None  # to be copied out
 
     @classmethod
     def open(cls, data):
@@ -142,7 +143,7 @@ class Dispatcher:
         return answer
 
     def mark(self, number, mark):
-        """Change one task's mark while it has no pending job."""
+        """Change one task's mark while it has no pending job and no release that waits."""
         self._check_mark(number, mark)
         self.table[number] = replace(self.table[number], mark=mark)
 
@@ -171,7 +172,7 @@ class Dispatcher:
             raise Refused(16)
         if mark > 1:
             raise Refused(6)
-        if number in self.pending:
+        if number in self.pending or number in self.waiting:
             raise Refused(17)
 
     # The instant list.
@@ -199,13 +200,21 @@ class Dispatcher:
             answer.closed_at = "b"
 
     def _step_c(self, now, released, answer):
-        """c. The releases are taken or skipped. They belong to the open interval, else to the next."""
+        """c. The completed job's waiting release is taken; then this instant's own are taken, wait or are skipped.
+
+        What is taken belongs to the open interval, else to the next.
+        """
         taken = []
+        completed = answer.job_done.task if answer.job_done is not None else None
+        if completed in self.waiting:
+            taken.append(self._take(completed, self.waiting.pop(completed)))
         for number in members(released):
-            if number in self.pending:
-                answer.skipped |= 1 << number
-            else:
+            if number not in self.pending:
                 taken.append(self._take(number, now))
+            elif number not in self.waiting:
+                self.waiting[number] = now
+            else:
+                answer.skipped |= 1 << number
         return taken
 
     def _step_d(self, taken):
@@ -233,8 +242,8 @@ class Dispatcher:
 
     def _step_g(self, now):
         """g. If no interval is open and there is work, an interval begins; the halves swap (R1)."""
-        waiting = self.loaded or self.promoted or self.ready or self.executed
-        if self.interval is not None or not waiting:
+        work = self.loaded or self.promoted or self.ready or self.executed
+        if self.interval is not None or not work:
             return
         self.half = 1 - self.half
         self.interval = Interval(begin=now, half=self.half)
@@ -251,8 +260,8 @@ class Dispatcher:
         job.start = now
         self.interval.processor = Phase(EXECUTION, job, now + job.task.execution)
 
-    def _take(self, number, now):
-        job = Job(self.table[number], now)
+    def _take(self, number, release):
+        job = Job(self.table[number], release)
         self.pending[number] = job
         self.ready.add(job)
         self.arrivals.add(job)
@@ -309,7 +318,7 @@ class Dispatcher:
                               number_of(self.promoted))
 
     def _promote(self):
-        """The highest marked job released in the interval and still ready, if any (R4)."""
+        """The highest marked job taken in the interval and still ready, if any (R4)."""
         job = highest(job for job in self.arrivals & self.ready if job.task.mark)
         self.ready.discard(job)
         return job
@@ -317,8 +326,8 @@ class Dispatcher:
     def _count_blocked(self, interval):
         """A job not yet executed is blocked in an interval that executes a lower-priority one.
 
-        Every pending job was released in this interval or before, and whole intervals count: the lower
-        job may have ended before the release. A job that has executed is never counted again.
+        Every pending job was taken in this interval or before, and whole intervals count: the lower
+        job may have ended before the taking. A job that has executed is never counted again.
         """
         if interval.executed is None:
             return

@@ -44,9 +44,12 @@ def released_sets(releases):
     return sorted(sets.items())
 
 
-def run(table, releases):
-    """Feed the releases and all due times by instants until nothing is pending; yield (time, answer)."""
-    dispatcher = Dispatcher(dict(table))
+def run(table, releases, kind=Dispatcher):
+    """Feed the releases and all due times by instants until nothing is pending; yield (time, answer).
+
+    The kind of dispatcher is another one where a run by other rules is wanted.
+    """
+    dispatcher = kind(dict(table))
     sets = released_sets(releases)
     at = 0
     while at < len(sets) or dispatcher.due() is not None:

@@ -2,10 +2,10 @@
 
 Most tables have few tasks and lengths of 1 to 5, half of them longer executions, so that ends of phases and
 releases fall on the same ticks. Releases and calls are mostly found by following a dispatcher: at its due time,
-or just before.
+or just before. Tasks are released again while their job is pending, so that releases wait, and on the tick on which it completes.
 """
 
-from sim.dispatcher import LAST_RELEASE_TIME, Dispatcher, members
+from sim.dispatcher import COPY_OUT, LAST_RELEASE_TIME, Dispatcher, members
 from sim.entries import FIELDS, RELEASE, TASK, Refused, decode, encode, entry_length, release_entry, task_entry
 from sim.files import MOST_RELEASES
 from sim.sessions import INSTANT, MARK, call_entry, session_bytes
@@ -18,6 +18,15 @@ LONGEST_CHECKED = 41_488
 
 # How often an instant has a release to which a copy-in gives way, where there is one: by chance alone few do, fewest when it is done.
 RIVAL_CHANCE = 0.35
+
+# How often an instant at which a job completes has a release of its task too: taken, or waiting behind the one that is taken.
+COMPLETION_CHANCE = 0.3
+
+# How often an instant has a release that waits, and one that is skipped since one waits, where there can be one; the last more often where a
+# job completes, since then an interval may end behind it.
+WAIT_CHANCE = 0.12
+SKIP_CHANCE = 0.05
+SKIP_AT_COMPLETION_CHANCE = 0.4
 
 # How much longer than copies the executions of some tables are, so that copies are done before their interval ends.
 STRETCH = 4
@@ -52,7 +61,7 @@ def some_tasks(rng, count, lengths, stretch=1):
 
 def random_tasks(rng):
     """Mostly few tasks and short lengths; also many, all 32, and long ones."""
-    count, lengths = rng.choices(((rng.randint(1, 5), small_length), (rng.randint(6, 31), small_length),
+    count, lengths = rng.choices(((rng.choice((1, 2, 3, 3, 4, 4, 5, 5)), small_length), (rng.randint(6, 31), small_length),
                                   (LAST_TASK + 1, small_length), (rng.randint(1, LAST_TASK + 1), large_length)),
                                  weights=(14, 2, 2, 3))[0]
     return some_tasks(rng, count, lengths, rng.choice((1, STRETCH)))
@@ -90,6 +99,11 @@ def _known_set(rng, dispatcher, density):
     return released
 
 
+def _density(rng, tasks):
+    """How often a task is released at an instant by chance alone; seldom enough in most runs that some have no pending job."""
+    return rng.choice((0.03, 0.1, 0.2, 0.5)) if len(tasks) < 6 else rng.choice((0.01, 0.03, 0.1))
+
+
 def _rivals(dispatcher):
     """Free marked tasks that are higher than what the open interval copies in: it gives way to the first that is released, and a higher one
     behind that may be promoted."""
@@ -100,14 +114,28 @@ def _rivals(dispatcher):
             if task.mark and task.priority < chosen.task.priority and task.number not in dispatcher.pending]
 
 
+def _completing(dispatcher, time):
+    """The task whose copy-out ends at a time, if any, as a list."""
+    engine = dispatcher.interval.engine if dispatcher.interval is not None else None
+    return [engine.job.task.number] if engine is not None and engine.name == COPY_OUT and engine.end == time else []
+
+
+def _pending_alone(dispatcher):
+    """Tasks with a pending job behind which none waits: a release of one waits."""
+    return [number for number in dispatcher.pending if number not in dispatcher.waiting]
+
+
 def served_instant(rng, dispatcher, gap, density):
     time = min(_served_time(rng, dispatcher, gap), LAST_TICK)
     if time > LAST_RELEASE_TIME:
         return time, 0
     released = _known_set(rng, dispatcher, density)
-    rivals = _rivals(dispatcher)
-    if rivals and rng.random() < RIVAL_CHANCE:
-        released |= 1 << rng.choice(rivals)
+    completing = _completing(dispatcher, time)
+    for chance, numbers in ((RIVAL_CHANCE, _rivals(dispatcher)), (COMPLETION_CHANCE, completing),
+                            (WAIT_CHANCE, _pending_alone(dispatcher)),
+                            (SKIP_AT_COMPLETION_CHANCE if completing else SKIP_CHANCE, list(dispatcher.waiting))):
+        if numbers and rng.random() < chance:
+            released |= 1 << rng.choice(numbers)
     return time, released
 
 
@@ -117,7 +145,7 @@ def _followed_releases(rng, tasks, count):
     """Releases at and around the ends of phases."""
     dispatcher = Dispatcher.open(b"".join(tasks))
     gap = 2 * longest_length(tasks)
-    density = rng.choice((0.1, 0.3, 0.6)) if len(tasks) < 6 else rng.choice((0.02, 0.1))
+    density = _density(rng, tasks)
     releases = []
     while len(releases) < count:
         time, released = served_instant(rng, dispatcher, gap, density)
@@ -157,9 +185,9 @@ def tasks_and_releases(rng):
     elif shape < 0.05:
         releases = crowded_releases(rng, tasks, rng.choice((MOST_RELEASES - 1, MOST_RELEASES)))
     elif shape < 0.75:
-        releases = _followed_releases(rng, tasks, rng.choice((3, 10, 30, 120)))
+        releases = _followed_releases(rng, tasks, rng.choice((3, 10, 30, 60, 120)))
     else:
-        releases = _sprinkled_releases(rng, tasks, rng.choice((3, 10, 30, 120)))
+        releases = _sprinkled_releases(rng, tasks, rng.choice((3, 10, 30, 60, 120)))
     return tasks, releases
 
 
@@ -236,6 +264,15 @@ def _same_priority(rng, parts):
         parts[one] = encode(TASK, number, decode(parts[other])[1], *rest)
 
 
+def _bad_task_mark(rng, parts):
+    """A mark that is none."""
+    tasks = [at for at, part in enumerate(parts) if is_whole(part) and part[0] == TASK]
+    if tasks:
+        at = rng.choice(tasks)
+        number, priority, _, *lengths = decode(parts[at])
+        parts[at] = encode(TASK, number, priority, rng.choice((2, 3, 255)), *lengths)
+
+
 def _late_task(rng, parts):
     """A task entry, good or not, somewhere behind the first."""
     [extra] = some_tasks(rng, 1, small_length)
@@ -249,7 +286,7 @@ def _stray_release(rng, parts):
 
 
 ENTRY_DAMAGE = (swap, _swap_neighbours, duplicate, drop, change_kind, change_one_field, change_one_field,
-                change_many_fields, _same_priority, _late_task, _stray_release)
+                change_many_fields, _same_priority, _bad_task_mark, _late_task, _stray_release)
 
 
 def damage_entries(rng, parts):
@@ -376,9 +413,9 @@ def _bad_mark(rng, dispatcher):
 
 
 def _mark_pending(rng, dispatcher):
-    """17 if some job is pending."""
-    numbers = list(dispatcher.pending) or list(dispatcher.table)
-    return MARK, rng.choice(numbers), rng.randint(0, 1)
+    """17 if some job is pending; often of a task of which a release waits too."""
+    numbers = rng.choice((dispatcher.waiting, dispatcher.pending)) or dispatcher.pending or dispatcher.table
+    return MARK, rng.choice(list(numbers)), rng.randint(0, 1)
 
 
 def _unknown_marked(rng, dispatcher):
@@ -419,7 +456,7 @@ REFUSED_CALLS = (_unknown_in_set, _release_too_late, _not_after_last, _not_after
 def _next_call(rng, dispatcher, gap, density, refused):
     if rng.random() < refused:
         return rng.choice(REFUSED_CALLS)(rng, dispatcher)
-    if rng.random() < 0.003:
+    if rng.random() < 0.006:
         return _idle_far_ahead(rng, dispatcher)
     if rng.random() < 0.1:
         return _mark(rng, dispatcher)
@@ -452,7 +489,7 @@ def random_calls(rng, tasks, count, drained=False):
     """Calls found by following a dispatcher; most of them are served."""
     dispatcher = Dispatcher.open(b"".join(tasks))
     gap = 2 * longest_length(tasks)
-    density = rng.choice((0.1, 0.3, 0.6)) if len(tasks) < 6 else rng.choice((0.02, 0.1))
+    density = _density(rng, tasks)
     refused = rng.choice((0, 0.1, 0.2))
     calls = []
     for _ in range(count):

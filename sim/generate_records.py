@@ -5,6 +5,7 @@ releases yields them.
 """
 
 from sim.dispatcher import LAST_RELEASE_TIME, Dispatcher
+from sim.earlier import NothingWaits
 from sim.entries import FIELDS, INTERVAL, JOB_DONE, NO_TASK, SKIPPED, TASK, Refused, decode, encode, entries, release_entry, two_parts
 from sim.files import MOST_RELEASES, instant_entries, run
 from sim.generate import (LAST_TICK, change_kind, change_many_fields, change_one_field, crowded_releases, damage_bytes, damage_entries,
@@ -20,10 +21,10 @@ LONGEST_KEPT = 524_288
 TIMES = {JOB_DONE: (1, 2, 3), INTERVAL: (0, 1), SKIPPED: (1,)}
 
 
-def record_entries(tasks, releases):
+def record_entries(tasks, releases, kind=Dispatcher):
     """The entries of a run as a list, also of more releases than a file may have."""
     table = read_table(b"".join(tasks))
-    return [entry for time, answer in run(table, releases) for entry in instant_entries(time, answer)]
+    return [entry for time, answer in run(table, releases, kind) for entry in instant_entries(time, answer)]
 
 
 def true_parts(rng):
@@ -84,6 +85,41 @@ def _skip_what_was_taken(rng, stored):
         stored[at] = encode(SKIPPED, *decode(stored[at])[:2])
 
 
+def _waited(stored):
+    """Of each job that waited: the place of its entry, and the instant of its taking, which is the completion before it."""
+    found, completions = [], {}
+    for at, entry in enumerate(stored):
+        if entry[0] == JOB_DONE:
+            task, release, _, completion, _ = decode(entry)
+            if release < completions.get(task, 0):
+                found.append((at, completions[task]))
+            completions[task] = completion
+    return found
+
+
+def _waited_otherwise(rng, stored):
+    """The release of a job that waited, told at its taking, beside it, or at another tick: often the record of another list."""
+    waited = _waited(stored)
+    if waited:
+        at, taking = rng.choice(waited)
+        task, release, *rest = decode(stored[at])
+        other = rng.choice((taking, taking, taking + 1, taking - 1, rng.randint(release, taking)))
+        stored[at] = encode(JOB_DONE, task, other, *rest)
+
+
+def _skipped_beside_a_wait(rng, stored):
+    """A skipped release of a task on the tick of a waiting one's taking, where it would wait, or within its wait, where it is skipped."""
+    waited = _waited(stored)
+    if not waited:
+        _one_more_skipped(rng, stored)
+        return
+    at, taking = rng.choice(waited)
+    task, release, *_ = decode(stored[at])
+    time = rng.choice((taking, rng.randint(release, taking)))
+    behind = next((index for index, entry in enumerate(stored) if written_at(entry) > time), len(stored))
+    stored.insert(behind, encode(SKIPPED, task, time))
+
+
 def _one_more_skipped(rng, stored):
     """A skipped release where its time belongs: of a task and at a time that the record speaks of, or near them."""
     at = rng.randint(0, len(stored))
@@ -110,7 +146,8 @@ def _moved(rng, stored):
 
 
 STORED_DAMAGE = (drop, _drop_skipped, duplicate, _swap_within_an_instant, _swap_within_an_instant, swap, _nudge, _nudge, change_one_field,
-                 change_many_fields, _drop_the_end, _skip_what_was_taken, _one_more_skipped, _one_more_skipped, _from_another, _moved)
+                 change_many_fields, _drop_the_end, _skip_what_was_taken, _one_more_skipped, _one_more_skipped, _waited_otherwise,
+                 _waited_otherwise, _skipped_beside_a_wait, _skipped_beside_a_wait, _from_another, _moved)
 
 
 def damage_stored(rng, stored):
@@ -181,6 +218,12 @@ def _made_by_calls(rng):
     return stored_bytes(tasks, stored)
 
 
+def made_by_the_earlier_rule(rng):
+    """A record of the rule by which nothing waits: refused, unless no release came while a job of its task was pending."""
+    tasks, releases = tasks_and_releases(rng)
+    return stored_bytes(tasks, record_entries(tasks, releases, NothingWaits))
+
+
 def _too_many(rng):
     """The record of as many releases as a file may have, or of more."""
     tasks = random_tasks(rng)
@@ -237,8 +280,8 @@ def _length_wrong(rng):
 
 # Each kind of damaged input, and how often it comes.
 DAMAGED = ((_entries_damaged, 48), (_kind_or_bytes_damaged, 12), (_bytes_behind, 5), (_another_table, 12), (_made_by_calls, 5),
-           (_too_many, 1), (_falling, 3), (longer_than_kept, 0.5), (_tasks_damaged, 8), (_task_bytes_damaged, 4), (_one_part_empty, 2),
-           (_length_wrong, 2), (too_short, 0.5))
+           (made_by_the_earlier_rule, 6), (_too_many, 1), (_falling, 3), (longer_than_kept, 0.5), (_tasks_damaged, 8),
+           (_task_bytes_damaged, 4), (_one_part_empty, 2), (_length_wrong, 2), (too_short, 0.5))
 
 
 def damaged_stored(rng):

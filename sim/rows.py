@@ -82,7 +82,7 @@ unfoldable pub runs : List Row
 runs =
 """
 
-SEED = 1
+SEED = 13  # of the first few the one whose runs have most of what can occur
 FILES = 40
 CALL_LISTS = 40
 

@@ -1,7 +1,7 @@
 """A run's timeline as SVG.
 
-From the top: title, legend, the releases, a head for each interval, the processor's row, the promotions, the engine's row, the jobs
-done, the axis. Each thing drawn says in data attributes what it is and when, and has a title, which viewers show on pointing at it:
+From the top: title, legend, the releases, those that wait, a head for each interval, the processor's row, the promotions, the engine's row, the
+jobs done, the axis. Each thing drawn says in data attributes what it is and when, and has a title, which viewers show on pointing at it:
 where there is no room for a label, nothing is lost. Where no interval is open for long, the axis breaks: the time between is not drawn to scale.
 """
 
@@ -9,9 +9,9 @@ from bisect import bisect_right
 from collections import Counter, defaultdict
 from xml.etree import ElementTree
 
-from tools import legend, shapes
-from tools.shapes import add, longest_fitting, width_of, words
-from tools.timeline import CANCELLED, ENGINE, PROCESSOR, THROWN_OUT
+from tools import legend, shapes, waits
+from tools.shapes import add, group, longest_fitting, width_of, words
+from tools.timeline import CANCELLED, ENGINE, PROCESSOR, SKIPPED, TAKEN, THROWN_OUT, WAITS
 
 # Widths in pixels.
 LEFT, RIGHT = 84, 30
@@ -28,6 +28,8 @@ BAR_TOP = 17   # below a row's top, where its half is written
 STACKED = 14   # each number of several releases on one tick
 MOST_STACKED = 8
 
+ORDER = (TAKEN, WAITS, SKIPPED)
+
 SHORT_NAMES = {"copy-in": "in", "execution": "run", "copy-out": "out"}
 
 
@@ -41,7 +43,8 @@ class Layout:
         self.place(run)
         self.right = self.x(self.end)
         highest = max((len(at_once) for at_once in by_time(run.releases).values()), default=1)
-        self.heads = top + STACKED * min(MOST_STACKED, highest) + 22
+        self.waits = top + STACKED * min(MOST_STACKED, highest) + 22
+        self.heads = self.waits + waits.height(run.waits)
         self.processor = self.heads + HEAD
         self.promotions = self.processor + ROW
         self.engine = self.promotions + BETWEEN
@@ -84,18 +87,11 @@ def idle(run):
 
 
 def by_time(releases):
-    """The releases of each tick, those taken first."""
+    """The releases of each tick: those taken, those that wait, those skipped."""
     groups = defaultdict(list)
-    for release in sorted(releases, key=lambda release: (release.time, release.skipped, release.task)):
+    for release in sorted(releases, key=lambda release: (release.time, ORDER.index(release.state), release.task)):
         groups[release.time].append(release)
     return groups
-
-
-def group(parent, title, **data):
-    """A group for one thing drawn, with its data attributes and title."""
-    element = add(parent, "g", **{f"data_{name}": str(value) for name, value in data.items()})
-    add(element, "title", title)
-    return element
 
 
 # Intervals.
@@ -182,7 +178,7 @@ def draw_releases(parent, layout, releases):
         free = x + half + 5 if fits else free
         for place, release in reversed(list(enumerate(at_once))):  # arrows of those taken over those of the skipped
             text = texts[place] if fits and place < len(texts) else None
-            draw_release(parent, layout, release, text, layout.heads - 20 - STACKED * place)
+            draw_release(parent, layout, release, text, layout.waits - 20 - STACKED * place)
 
 
 def stack(numbers):
@@ -195,11 +191,11 @@ def stack(numbers):
 
 def draw_release(parent, layout, release, text, y):
     x = layout.x(release.time)
-    mark = group(parent, f"release of task {release.task} at {release.time}{', skipped' if release.skipped else ''}",
-                 kind="skipped" if release.skipped else "release", task=release.task, time=release.time)
-    shapes.release_arrow(mark, x, layout.heads - 2, release.skipped)
+    kind, more = {TAKEN: ("release", ""), WAITS: ("waiting", ", waits"), SKIPPED: ("skipped", ", skipped")}[release.state]
+    mark = group(parent, f"release of task {release.task} at {release.time}{more}", kind=kind, task=release.task, time=release.time)
+    shapes.release_arrow(mark, x, layout.waits - 2, release.state)
     if text:
-        shapes.release_number(mark, x, y, text, release.skipped and not text.startswith("+"))
+        shapes.release_number(mark, x, y, text, TAKEN if text.startswith("+") else release.state)
 
 
 # The frame.
@@ -257,7 +253,7 @@ def draw_breaks(parent, layout):
 
 
 def draw_row_names(parent, layout):
-    for y, name in ((layout.heads - 6, "releases"), (layout.processor + 36, PROCESSOR), (layout.promotions + 15, "promoted"),
+    for y, name in ((layout.waits - 6, "releases"), *([(layout.waits + 10, "waiting")] if layout.heads > layout.waits else []), (layout.processor + 36, PROCESSOR), (layout.promotions + 15, "promoted"),
                     (layout.engine + 36, ENGINE), (layout.done + 12, "jobs done")):
         words(parent, LEFT - 12, y, name, "end strong" if name in (PROCESSOR, ENGINE) else "end")
 
@@ -267,11 +263,12 @@ def count(number, one, several=None):
 
 
 def summary(run, layout):
-    skipped = sum(release.skipped for release in run.releases)
+    states = Counter(release.state for release in run.releases)
+    waited = f"{states[WAITS]} waiting, " if states[WAITS] else ""
     fates = Counter(bar.fate for bar in run.bars)
     return ", ".join((
         f"ticks {layout.start} to {layout.end}", count(len(run.table), "task"),
-        f"{count(len(run.releases), 'release')} ({skipped} skipped)", count(len(run.bands), "interval"),
+        f"{count(len(run.releases), 'release')} ({waited}{states[SKIPPED]} skipped)", count(len(run.bands), "interval"),
         count(fates[CANCELLED], "copy-in cancelled", "copy-ins cancelled"), *([f"{fates[THROWN_OUT]} thrown out"] if fates[THROWN_OUT] else []),
         count(len(run.promotions), "job promoted", "jobs promoted"),
         count(len(run.completions), "job done", "jobs done")))
@@ -303,6 +300,7 @@ def draw(run, title):
     bands = {band.number: band for band in run.bands}
     for promotion in run.promotions:
         draw_promotion(root, layout, promotion, bands[promotion.interval])
+    waits.draw(root, layout, run.waits, colours)
     draw_releases(root, layout, run.releases)
     draw_completions(root, layout, run.completions)
     draw_axis(root, layout)

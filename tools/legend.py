@@ -2,7 +2,7 @@
 
 from tools import shapes
 from tools.shapes import add, words
-from tools.timeline import CANCELLED, DONE, THROWN_OUT
+from tools.timeline import CANCELLED, DONE, SKIPPED, TAKEN, THROWN_OUT, WAITS
 
 SWATCH = 36
 GREY = ("#b9b9b9", "#ececec", "#444444")
@@ -27,11 +27,16 @@ def half_sample(half):
     return draw
 
 
-def release_sample(skipped):
+def release_sample(state):
     def draw(parent, x, y):
-        shapes.release_arrow(parent, x + 8, y + 9, skipped)
-        shapes.release_number(parent, x + 20, y + 4, "n", skipped)
+        shapes.release_arrow(parent, x + 8, y + 9, state)
+        shapes.release_number(parent, x + 20, y + 4, "n", state)
     return draw
+
+
+def wait_sample(parent, x, y):
+    shapes.release_arrow(parent, x + 4, y + 9, WAITS)
+    shapes.wait(parent, x + 10, y - 5, 18, 10, GREY, True)
 
 
 def task_sample(colours):
@@ -52,10 +57,15 @@ GAVE_WAY = (
     (THROWN_OUT, (bar_sample("copy-in", THROWN_OUT), "copy thrown out")),
 )
 
+# A release that waits: shown where one does.
+WAITING = ((wait_sample, "release waits"),)
+
+PROMOTED = ((lambda parent, x, y: shapes.promotion_mark(parent, x + 13, y), "job promoted"),)
+
+RELEASED = ((release_sample(TAKEN), "release of task n"),)
+
 MARKS = (
-    (lambda parent, x, y: shapes.promotion_mark(parent, x + 13, y), "job promoted"),
-    (release_sample(False), "release of task n"),
-    (release_sample(True), "release skipped"),
+    (release_sample(SKIPPED), "release skipped"),
     (lambda parent, x, y: shapes.completion_mark(parent, x + 13, y), "job done"),
     (half_sample(0), "unit has half 0"),
     (half_sample(1), "unit has half 1"),
@@ -72,7 +82,7 @@ def items(run, colours):
     fates = {bar.fate for bar in run.bars}
     gave_way = tuple(item for fate, item in GAVE_WAY if fate in fates)
     tasks = tuple((task_sample(colours[number]), task_text(run.table[number])) for number in sorted(run.table))
-    return PHASES + gave_way + MARKS, tasks
+    return PHASES + gave_way + PROMOTED + RELEASED + (WAITING if run.waits else ()) + MARKS, tasks
 
 
 def draw(parent, left, top, width, groups, row=24):

@@ -1,8 +1,9 @@
 """Inputs at the limits of document 01, beside the random ones: a cut at each byte, each field at and beside its limits, exactly as many
-releases as there may be and one more, times at the end of what a number holds, a release on each tick around a copy-in."""
+releases as there may be and one more, times at the end of what a number holds, a release on each tick around a copy-in, and releases that wait."""
 
 from sim.dispatcher import LAST_RELEASE_TIME
-from sim.entries import SKIPPED, encode, release_entry, task_entry, two_parts
+from sim.earlier import NothingWaits
+from sim.entries import JOB_DONE, SKIPPED, decode, encode, release_entry, task_entry, two_parts
 from sim.files import MOST_RELEASES
 from sim.generate_records import LONGEST_KEPT, record_entries
 from sim.sessions import INSTANT, MARK, call_entry, session_bytes
@@ -49,8 +50,43 @@ def around_a_copy():
     return [TABLE + b"".join(release_entry(*pair) for pair in (*PAIRS[:2], (time, 1))) for time in range(3, 9)]
 
 
+# Releases of which some wait: taken at the completion, before one of that very instant, which waits in its turn; a third one, which is skipped and
+# does not replace the first; while a lower job runs, which blocks only what is taken; at the end of an interval; of two tasks, of which each waits
+# for its own; behind the last time at which one may be released; and copied in when a higher one comes.
+WAITING = (
+    ((0, 1), (5, 1)),
+    ((0, 1), (5, 1), (6, 1)),
+    ((0, 1), (5, 1), (6, 1), (7, 1), (12, 1), (13, 1)),
+    ((0, 1), (3, 1), (4, 1), (5, 1)),
+    ((0, 3), (2, 1), (3, 1)),
+    ((0, 3), (2, 1), (3, 1), (9, 2)),
+    ((0, 1), (2, 1), (5, 1)),
+    ((0, 1), (0, 2), (1, 2), (2, 1)),
+    ((0, 2), (1, 2), (6, 1), (7, 1)),
+    ((0, 2), (5, 2), (8, 1)),
+    ((0, 2), (5, 2), (7, 1), (7, 2)),
+    ((0, 3), (3, 3), (9, 2), (10, 1), (11, 3)),
+    ((LAST_RELEASE_TIME - 5, 1), (LAST_RELEASE_TIME, 1)),
+)
+
+
+def around_a_completion():
+    """A second and a third release on each tick of a job's time, to its completion and one more."""
+    return [((0, 1), (second, 1), (third, 1)) for second in range(1, 8) for third in range(second + 1, 9)]
+
+
+def of_number(number, pairs):
+    """The same releases of one task with another number, alone in its table."""
+    return task_entry(number, 1, 1, 2, 3, 1) + b"".join(release_entry(time, number) for time, _ in pairs)
+
+
+def waiting_files():
+    found = [TABLE + b"".join(release_entry(*pair) for pair in pairs) for pairs in (*WAITING, *around_a_completion())]
+    return found + [of_number(number, pairs) for number in (0, LAST_TASK) for pairs in WAITING[:4]]
+
+
 def files():
-    found = cuts(TABLE + b"".join(RELEASES)) + around_a_copy()
+    found = cuts(TABLE + b"".join(RELEASES)) + around_a_copy() + waiting_files()
     found += [TABLE + other + RELEASES[0] for other in other_tasks()]
     found += [TABLE + other for other in other_releases()]
     found += [TABLE + RELEASES[0] + TASKS[0], TASKS[0] + bytes([3]) + RELEASES[0]]
@@ -60,12 +96,29 @@ def files():
 CALLS = ((INSTANT, 0, 8), (INSTANT, 2, 4), (MARK, 1, 0), (INSTANT, 3, 2), (INSTANT, 3, 0), (MARK, 2, 1), (INSTANT, 7, 0))
 
 
+# A mark call at each instant from the release of a job to the completion of the one that waited behind it, and then a release with the mark that is
+# left: at 14 that cancels the copy-in of 2, unless it was changed.
+MARKS_WHILE_WAITING = [call for time, released in ((0, 2), (2, 0), (5, 2), (6, 0), (8, 0), (11, 0), (12, 0), (13, 4), (14, 2))
+                       for call in ((INSTANT, time, released), (MARK, 1, 0))]
+
+
+def waiting_sessions():
+    """What waits, told by calls: with marks tried meanwhile, and with a release refused at its taking, which leaves it waiting."""
+    late = [(INSTANT, time, released) for time, released in ((LAST_RELEASE_TIME - 5, 2), (LAST_RELEASE_TIME - 3, 0), (LAST_RELEASE_TIME, 2),
+                                                            (LAST_RELEASE_TIME + 1, 2), (LAST_RELEASE_TIME + 1, 0), (LAST_RELEASE_TIME + 3, 0))]
+    refused = [(INSTANT, time, released) for time, released in ((0, 2), (2, 0), (3, 2), (5, 0), (6, 1), (7, 2), (6, 2), (7, 2), (8, 0), (11, 0),
+                                                               (12, 0), (14, 0), (17, 0), (18, 0))]
+    kept = [call for call in MARKS_WHILE_WAITING if call != (MARK, 1, 0)]
+    return [session_bytes(TABLE, calls) for calls in (MARKS_WHILE_WAITING, kept, late, refused)]
+
+
 def sessions():
-    """Cuts of the opening bytes, which may end in a release, and of the calls; openings of other tasks; times at the limits."""
+    """Cuts of the opening bytes, which may end in a release, and of the calls; openings of other tasks; times at the limits; what waits."""
     calls = b"".join(call_entry(*call) for call in CALLS)
     found = [session_bytes(opening, CALLS) for opening in cuts(TABLE + RELEASES[0])]
     found += [session_bytes(TABLE, ()) + part for part in cuts(calls)]
     found += [session_bytes(TABLE + other, CALLS) for other in other_tasks()]
+    found += waiting_sessions()
     late = (LAST_RELEASE_TIME, LAST_RELEASE_TIME + 1, LAST_TICK - 1, LAST_TICK)
     return found + [session_bytes(TABLE, ((INSTANT, time, released), (INSTANT, LAST_TICK, 0)))
                     for time in late for released in (0, 2, 14, 1)]
@@ -80,6 +133,19 @@ def changed_records(entries):
     whole = b"".join(entries)
     for at in range(len(whole)):
         yield whole[:at] + bytes([whole[at] ^ 1]) + whole[at + 1:]
+
+
+def waiting_records():
+    """Records of releases that wait, one of them also changed; a waiting release shown at each other tick; and those of the rule before."""
+    for pairs in WAITING:
+        yield b"".join(record_entries(TASKS, pairs))
+        yield b"".join(record_entries(TASKS, pairs, NothingWaits))
+    yield from changed_records(record_entries(TASKS, WAITING[3]))
+    entries = record_entries(TASKS, WAITING[0])
+    last = max(at for at, entry in enumerate(entries) if entry[0] == JOB_DONE)
+    task, _, *rest = decode(entries[last])
+    for time in range(14):
+        yield b"".join([*entries[:last], encode(JOB_DONE, task, time, *rest), *entries[last + 1:]])
 
 
 def skipped_alone():
@@ -107,6 +173,6 @@ def stored_records():
     found += [two_parts(TABLE + other, record) for other in other_tasks()]
     found += [two_parts(TABLE * count, record) for count in (10, 11, 12, 20_000)]
     found += [two_parts(TABLE * 20_000, b"")[:length] for length in (4 + 33 * 16, 900_000)]
-    records = [*cuts(record), *changed_records(entries), *skipped_alone(), *long_records()]
+    records = [*cuts(record), *changed_records(entries), *waiting_records(), *skipped_alone(), *long_records()]
     records += [b"".join(record_entries(TASKS, [(time, 1) for time in range(count)])) for count in (MOST_RELEASES, MOST_RELEASES + 1)]
     return found + [two_parts(TABLE, each) for each in records]

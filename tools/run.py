@@ -1,7 +1,7 @@
 """Run a plan file with the proved program and print what happens.
 
-Each line on standard output is an event of the run: J a job is done, I an interval has ended, S a release is skipped, R the plan is
-refused. Only a proved program is run: the first run proves it, which takes a few minutes, and says on standard error what it is at.
+Each line on standard output is an event of the run: J a job is done, I an interval has ended, S a release is skipped, since one of its task
+waits, R the plan is refused. Only a proved program is run: the first run proves it, which takes a few minutes, and says on standard error what it is at.
 """
 
 import argparse

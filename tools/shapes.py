@@ -3,7 +3,7 @@
 import colorsys
 from xml.etree import ElementTree
 
-from tools.timeline import CANCELLED, DONE, THROWN_OUT
+from tools.timeline import CANCELLED, DONE, SKIPPED, TAKEN, THROWN_OUT
 
 BAR_HEIGHT = 30
 RING = 6  # the radius of the mark of a copy that was thrown out
@@ -34,6 +34,13 @@ def add(parent, tag, text=None, **attributes):
              for name, value in attributes.items()}
     element = ElementTree.SubElement(parent, tag, named)
     element.text = text
+    return element
+
+
+def group(parent, title, **data):
+    """A group for one thing drawn, with its data attributes and title."""
+    element = add(parent, "g", **{f"data_{name}": str(value) for name, value in data.items()})
+    add(element, "title", title)
     return element
 
 
@@ -107,20 +114,31 @@ def thrown_out(parent, end, x, y):
     add(parent, "path", class_="cross", d=f"M{places(x - 3)} {places(y - 3)}l6 6m0 -6l-6 6")
 
 
-def release_arrow(parent, x, y, skipped):
-    """An arrow of 14 px down to y. A skipped release has a dashed line and a stop at its tail: both show on one tick."""
-    if skipped:
+def release_arrow(parent, x, y, state):
+    """An arrow of 14 px down to y, its head hollow if the release waits. A skipped one has a dashed line and a stop at its tail: all show on
+    one tick."""
+    if state == SKIPPED:
         add(parent, "path", class_="dashed", d=f"M{places(x)} {places(y - 14)}v14")
         add(parent, "path", class_="stop", d=f"M{places(x - 4)} {places(y - 14)}h8")
     else:
         add(parent, "path", class_="line", d=f"M{places(x)} {places(y - 14)}v14")
-        add(parent, "path", d=f"M{places(x - 3.5)} {places(y - 6)}h7l-3.5 6z", fill="#1a1a1a")
+        head = {"fill": "#1a1a1a"} if state == TAKEN else {"fill": "#ffffff", "stroke": "#1a1a1a"}
+        add(parent, "path", d=f"M{places(x - 3.5)} {places(y - 6)}h7l-3.5 6z", **head)
 
 
-def release_number(parent, x, y, text, skipped):
+def wait(parent, x, y, width, height, colours, taken):
+    """A release that waits: a dotted bar in its task's colour, with a head at its taking."""
+    _, pale, edge = colours
+    add(parent, "rect", x=x, y=y, width=width, height=height, fill=pale, stroke=edge, stroke_width=min(1, width / 4), stroke_dasharray="1 2")
+    if taken:
+        half = height / 2
+        add(parent, "path", d=f"M{places(x + width - half)} {places(y)}l{places(half)} {places(half)}l{places(-half)} {places(half)}z", fill=edge)
+
+
+def release_number(parent, x, y, text, state):
     """A released task's number; struck out if the release was skipped."""
-    words(parent, x, y, text, "middle skipped" if skipped else "middle strong")
-    if skipped:
+    words(parent, x, y, text, "middle skipped" if state == SKIPPED else "middle strong")
+    if state == SKIPPED:
         half = width_of(text) / 2 + 1
         add(parent, "path", class_="strike", d=f"M{places(x - half)} {places(y - 1)}l{places(2 * half)} -6")
 

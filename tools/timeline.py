@@ -4,7 +4,7 @@ An I line says for which task each unit worked in an interval. When each phase b
 document 01's instant list. Lines that cannot be the run of the plan are named by their number.
 """
 
-from bisect import bisect_right
+from bisect import bisect_left, bisect_right
 from typing import NamedTuple, Optional
 
 from sim.dispatcher import COPY_IN_CANCELLED, COPY_IN_DONE, COPY_IN_THROWN_OUT, NO_COPY_IN
@@ -16,6 +16,9 @@ LAST_TICK = 2**64 - 1
 # What became of a phase; only the engine's copy-ins are not always done.
 DONE, CANCELLED, THROWN_OUT = "done", "cancelled", "thrown out"
 FATES = {COPY_IN_DONE: DONE, COPY_IN_CANCELLED: CANCELLED, COPY_IN_THROWN_OUT: THROWN_OUT}
+
+# What became of a release at its own instant.
+TAKEN, WAITS, SKIPPED = "taken", "waits", "skipped"
 
 
 class BadLines(Exception):
@@ -56,7 +59,14 @@ class Bar(NamedTuple):
 class Release(NamedTuple):
     task: int
     time: int
-    skipped: bool
+    state: str = TAKEN
+
+
+class Wait(NamedTuple):
+    """A release that waited, from its time to its taking; or to the end, as far as the lines tell."""
+    task: int
+    begin: int
+    end: int = LAST_TICK
 
 
 class Promotion(NamedTuple):
@@ -70,6 +80,7 @@ class Timeline(NamedTuple):
     bands: list
     bars: list
     releases: list
+    waits: list
     promotions: list
     completions: list
 
@@ -152,7 +163,7 @@ def copyin_bar(interval, number, start, table, taken):
 
 
 def winner_over(chosen, start, end, table, taken):
-    """The release to which a copy-in gives way: the first marked one of higher priority strictly between its start and an end.
+    """The release to which a copy-in gives way: the first marked one of higher priority that is taken strictly between its start and an end.
 
     Strictly, since the choice (step e) comes after the releases of its own instant, and an interval that ends at step b does so
     before them.
@@ -173,6 +184,58 @@ def interval_bars(interval, number, table, taken):
     if interval.end != last:
         raise BadLines(f"the interval from {interval.begin} ends at {interval.end}, its phases at {last}")
     return bars
+
+
+# Releases that wait.
+
+def takings(releases, parsed):
+    """When each release that was not skipped was taken: at its time, or at the completion of its task's job before it, if that is later.
+
+    The jobs of a task are those of its releases, in their order. What stands behind a job of which the lines tell no completion waits to the end.
+    """
+    skipped = {(fields.time, fields.task) for _, fields in parsed if isinstance(fields, Skip)}
+    done, free, found = completions_by_task(parsed), {}, {}
+    for time, task in releases:
+        if (time, task) not in skipped:
+            taking = max(time, free.get(task, 0))
+            found[time, task] = taking
+            free[task] = completion_of(next(done.get(task, iter(())), None), time, taking)
+    return found
+
+
+def completions_by_task(parsed):
+    """Each task's J lines, with their numbers, in their order."""
+    done = {}
+    for number, fields in parsed:
+        if isinstance(fields, JobDone):
+            done.setdefault(fields.task, []).append((number, fields))
+    return {task: iter(jobs) for task, jobs in done.items()}
+
+
+def completion_of(line, release, taking):
+    """When the job of a release was done; never, as far as the lines tell, where they have none."""
+    if line is None:
+        return LAST_TICK
+    number, job = line
+    if job.release != release:
+        raise BadLines(f"line {number}: the release of task {job.task} at {release} is taken before the one at {job.release}")
+    if job.start <= taking:
+        raise BadLines(f"line {number}: the job starts at {job.start}, and is taken at {taking}")
+    return job.completion
+
+
+def check_skips(parsed, waits):
+    """A release is skipped only while one of its task waits: the last that came before it."""
+    by_task = {}
+    for wait in waits:
+        by_task.setdefault(wait.task, []).append((wait.begin, wait.end))
+    for number, fields in parsed:
+        if isinstance(fields, Skip):
+            own = by_task.get(fields.task, [])
+            at = bisect_left(own, (fields.time, 0))
+            if at and fields.time < own[at - 1][1]:
+                continue
+            raise BadLines(f"line {number}: the release of task {fields.task} at {fields.time} is skipped, and none of its task waits")
 
 
 # The whole run.
@@ -214,10 +277,13 @@ def add_interval(run, interval, taken):
 def timeline(table, releases, lines):
     """The run of a table and its releases (time, task) that the lines tell of."""
     parsed = parse_lines(lines, table, set(releases))
-    skipped = {(fields.time, fields.task) for _, fields in parsed if isinstance(fields, Skip)}
-    taken = [release for release in releases if release not in skipped]
-    run = Timeline(table, [], [], [Release(task, time, (time, task) in skipped) for time, task in releases], [],
-                   [fields for _, fields in parsed if isinstance(fields, JobDone)])
+    times = takings(releases, parsed)
+    waits = [Wait(task, time, taking) for (time, task), taking in times.items() if taking > time]
+    check_skips(parsed, waits)
+    taken = sorted((taking, task) for (_, task), taking in times.items())
+    states = {(wait.begin, wait.task): WAITS for wait in waits}
+    shown = [Release(task, time, states.get((time, task), TAKEN if (time, task) in times else SKIPPED)) for time, task in releases]
+    run = Timeline(table, [], [], shown, waits, [], [fields for _, fields in parsed if isinstance(fields, JobDone)])
     for number, fields in parsed:
         if isinstance(fields, IntervalClosed):
             try:
@@ -228,7 +294,7 @@ def timeline(table, releases, lines):
 
 
 def part(run, first, last):
-    """What of a run lies between two ticks: whole intervals that reach into them, with all that happens in those, and releases."""
+    """What of a run lies between two ticks: whole intervals that reach into them, with all that happens in those, releases, and waits."""
     bands = [band for band in run.bands if band.end >= first and band.begin <= last]
     numbers = {band.number for band in bands}
     within = [(band.begin, band.end) for band in bands] + [(first, last)]
@@ -241,5 +307,6 @@ def part(run, first, last):
     return run._replace(
         bands=bands, bars=[bar for bar in run.bars if bar.interval in numbers],
         releases=[release for release in run.releases if shown(release.time)],
+        waits=[wait for wait in run.waits if any(wait.begin < end and begin < wait.end for begin, end in within)],
         promotions=[promotion for promotion in run.promotions if promotion.interval in numbers],
         completions=[job for job in run.completions if shown(job.completion)])

@@ -10,23 +10,25 @@ mod raw {
             entries: *const u8,
             length: usize,
             times: &mut [u64; 7],
-            sets: &mut [u32; 5],
+            sets: &mut [u32; 6],
             codes: &mut [u8; 9],
             priority: &mut [u8; 32],
             columns: &mut [u32; 96],
             release: &mut [u64; 32],
             blocked: &mut [u8; 32],
+            waits: &mut [u64; 32],
             place: &mut usize,
         ) -> u8;
 
         pub fn gateway_instant_parts(
             times: &mut [u64; 7],
-            sets: &mut [u32; 5],
+            sets: &mut [u32; 6],
             codes: &mut [u8; 9],
             priority: &[u8; 32],
             columns: &[u32; 96],
             release: &mut [u64; 32],
             blocked: &mut [u8; 32],
+            waits: &mut [u64; 32],
             time: u64,
             set: u32,
             flags: &mut [u8; 3],
@@ -38,7 +40,7 @@ mod raw {
             interval_bytes: &mut [u8; 7],
         ) -> u8;
 
-        pub fn gateway_mark_parts(sets: &mut [u32; 5], task: u8, mark: u8) -> u8;
+        pub fn gateway_mark_parts(sets: &mut [u32; 6], task: u8, mark: u8) -> u8;
     }
 }
 
@@ -49,9 +51,11 @@ pub type Set = u32;
 #[derive(Clone, Copy, Debug, PartialEq, Eq)]
 pub struct Job {
     pub task: u8,
+    /// When its release was handed in, also where that waited.
     pub release: u64,
     pub start: u64,
     pub completion: u64,
+    /// Counted from the instant at which the release was taken.
     pub blocked: u8,
 }
 
@@ -95,6 +99,7 @@ pub struct Interval {
 pub struct Answer {
     pub done: Option<Job>,
     pub closed: Option<Interval>,
+    /// The tasks whose release was skipped now, since one of theirs waits.
     pub skipped: Set,
     pub due: Option<u64>,
 }
@@ -104,14 +109,14 @@ pub struct Answer {
 #[derive(Clone)]
 pub struct Dispatcher {
     times: [u64; 7],
-    sets: [u32; 5],
-    _unused: u32,
+    sets: [u32; 6],
     codes: [u8; 9],
-    _unused_too: [u8; 7],
+    _unused: [u8; 7],
     priority: [u8; 32],
     blocked: [u8; 32],
     release: [u64; 32],
     columns: [u32; 96],
+    waits: [u64; 32],
 }
 
 impl Dispatcher {
@@ -119,14 +124,14 @@ impl Dispatcher {
     pub fn open(entries: &[u8]) -> Result<Dispatcher, Refusal> {
         let mut d = Dispatcher {
             times: [0; 7],
-            sets: [0; 5],
-            _unused: 0,
+            sets: [0; 6],
             codes: [0; 9],
-            _unused_too: [0; 7],
+            _unused: [0; 7],
             priority: [0; 32],
             blocked: [0; 32],
             release: [0; 32],
             columns: [0; 96],
+            waits: [0; 32],
         };
         let mut place = 0;
         // The slice and the arrays are live, and Rust lets no two of them overlap: the function asks no more.
@@ -141,6 +146,7 @@ impl Dispatcher {
                 &mut d.columns,
                 &mut d.release,
                 &mut d.blocked,
+                &mut d.waits,
                 &mut place,
             )
         };
@@ -150,7 +156,8 @@ impl Dispatcher {
         }
     }
 
-    /// Hands in the releases of a set at a time. It is to be called at every release and at every due time.
+    /// Hands in the releases of a set at a time. It is to be called at every release and at every due time. Of a task that has a pending job one release
+    /// waits, and is taken at the instant at which that job is done, before the releases of that instant.
     #[inline]
     pub fn instant(&mut self, time: u64, set: Set) -> Result<Answer, Refusal> {
         let mut told = Told::default();
@@ -173,6 +180,7 @@ impl Dispatcher {
                 &self.columns,
                 &mut self.release,
                 &mut self.blocked,
+                &mut self.waits,
                 time,
                 set,
                 &mut told.flags,
@@ -186,7 +194,7 @@ impl Dispatcher {
         }
     }
 
-    /// Changes a task's mark from now on, while it has no pending job.
+    /// Changes a task's mark from now on, while it has no pending job and no release that waits.
     pub fn mark(&mut self, task: u8, latency_sensitive: bool) -> Result<(), Refusal> {
         // As above.
         match unsafe { raw::gateway_mark_parts(&mut self.sets, task, latency_sensitive.into()) } {
@@ -213,6 +221,7 @@ impl fmt::Debug for Dispatcher {
             .field("tasks", &format_args!("{:#b}", self.sets[4]))
             .field("marked", &format_args!("{:#b}", self.sets[0]))
             .field("pending", &format_args!("{:#b}", self.sets[1]))
+            .field("waiting", &format_args!("{:#b}", self.sets[5]))
             .field("last", &last)
             .finish_non_exhaustive()
     }

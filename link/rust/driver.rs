@@ -58,7 +58,8 @@ fn print_interval(out: &mut impl Write, number: u32, base: u64, i: &Interval) ->
     writeln!(out, "{number} I {begin} {end} {} {executed} {work} {copied_out} {chosen} {fate} {promoted}", i.half)
 }
 
-/// In the order in which things occur: the job done, an interval that ended before the releases, those skipped, an interval that ended after them.
+/// In the order in which things occur: the job done, an interval that ended before the releases, those skipped, an interval that ended after them. A
+/// release that waits is told when its job is done.
 fn print_answer(out: &mut impl Write, number: u32, base: u64, now: u64, a: &Answer) -> io::Result<()> {
     if let Some(j) = a.done {
         writeln!(out, "{number} J {} {} {} {} {}", j.task, base + j.release, base + j.start, base + j.completion, j.blocked)?;
@@ -112,7 +113,7 @@ impl Driver {
             if core.released == 0 && core.due != Some(now) {
                 continue;
             }
-            // with no due time nothing is pending, and a new dispatcher can take over, which is told the marks
+            // with no due time nothing is pending and nothing waits, and a new dispatcher can take over, which is told the marks
             if core.due.is_none() && now - core.base > ENOUGH {
                 let mut fresh = Dispatcher::open(&self.entries)?;
                 let changed = core.dispatcher.marked() ^ fresh.marked();

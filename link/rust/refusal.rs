@@ -37,7 +37,7 @@ impl Refusal {
             14 => "an instant that is not after the last",
             15 => "a phase ends before the instant",
             16 => "a task that is not in the table",
-            17 => "a mark change while a job is pending",
+            17 => "a mark change while a job is pending or a release waits",
             18 => "no list of releases of these tasks makes this record",
             _ => "refused",
         }

@@ -20,13 +20,19 @@ fn plan() -> Vec<u8> {
 
 /// The jobs and the intervals of a plan with three releases: of 3 at 0, of 2 at 2, and of 1 at a time.
 fn run(last: u64) -> (Vec<Job>, Vec<Interval>) {
+    run_of(&[(0, 1 << 3), (2, 1 << 2), (last, 1 << 1)])
+}
+
+/// The jobs and the intervals of a plan, of which no release is skipped.
+fn run_of(releases: &[(u64, u32)]) -> (Vec<Job>, Vec<Interval>) {
     let mut d = Dispatcher::open(&plan()).unwrap();
     let (mut jobs, mut intervals) = (Vec::new(), Vec::new());
-    let mut releases = [(0, 1 << 3), (2, 1 << 2), (last, 1 << 1)].into_iter().peekable();
+    let mut releases = releases.iter().copied().peekable();
     let mut due = None;
     while let Some(now) = [due, releases.peek().map(|release| release.0)].into_iter().flatten().min() {
         let set = releases.next_if(|release| release.0 == now).map_or(0, |release| release.1);
         let answer = d.instant(now, set).unwrap();
+        assert_eq!(answer.skipped, 0);
         jobs.extend(answer.done);
         intervals.extend(answer.closed);
         due = answer.due;
@@ -58,6 +64,27 @@ fn plan_b_by_instants() {
     assert_eq!(intervals[1], Interval { fate: Fate::ThrownOut, ..intervals_a[1] });
     assert_eq!(intervals[2..], intervals_a[2..]);
     assert_eq!(jobs, [jobs_a[0], Job { release: 4, ..jobs_a[1] }, jobs_a[2]]);
+}
+
+#[test]
+fn plan_f_by_instants() {
+    let ((jobs, intervals), (jobs_at_6, intervals_at_6)) = (run_of(&[(0, 2), (5, 2)]), run_of(&[(0, 2), (6, 2)]));
+    assert_eq!(intervals, intervals_at_6);
+    assert_eq!(jobs, [jobs_at_6[0], Job { release: 5, ..jobs_at_6[1] }]);
+    assert_eq!(jobs[1], Job { task: 1, release: 5, start: 8, completion: 12, blocked: 0 });
+}
+
+#[test]
+fn one_release_of_a_task_waits() {
+    let mut d = Dispatcher::open(&plan()).unwrap();
+    let skipped: Vec<_> = [(0, 2), (2, 2), (4, 2), (5, 0), (6, 2), (7, 2)].map(|(time, set)| d.instant(time, set).unwrap().skipped).into();
+    // at 6 the one of 2 is taken, and that of 6 waits in its turn
+    assert_eq!(skipped, [0, 0, 2, 0, 0, 2]);
+    let refusal = d.mark(1, false).unwrap_err();
+    assert_eq!(refusal.to_string(), "a mark change while a job is pending or a release waits (refusal 17)");
+    let released: Vec<_> = [8, 11, 12, 14, 17, 18].into_iter().filter_map(|time| d.instant(time, 0).unwrap().done).map(|job| job.release).collect();
+    assert_eq!((released, d.pending()), (vec![2, 6], 0));
+    d.mark(1, false).unwrap();
 }
 
 /// The release entries of plan A.

@@ -14,9 +14,10 @@ from sim.table import Task
 @dataclass
 class Taken:
     """A release that was taken, and what became of it."""
-    task: Task  # with its mark at the release
-    release: int
-    first: int  # the index of the interval its release belongs to, by step c
+    task: Task  # with its mark at the taking
+    release: int  # its original time
+    taking: int
+    first: int  # the index of the interval its taking belongs to, by step c
     done: Optional[JobDone] = None
 
 
@@ -25,9 +26,12 @@ class History:
         self.table = dict(table)
         self.jobs = []       # Taken
         self.skips = []      # (task number, time)
+        self.set_waiting = []  # (task number, time), of each release that waited
         self.intervals = []  # IntervalClosed
         self.closings = []   # the step at which each of them ended, 'b' or 'f'
-        self.waiting = {}    # task number -> its Taken not yet done
+        self.tallies = []    # after each instant: the intervals begun by then, the open one included, and the releases taken
+        self.pending = {}    # task number -> its Taken not yet done
+        self.waiting = {}    # task number -> the time of its release that waits
 
     def mark(self, number, mark):
         task = self.table[number]
@@ -35,19 +39,34 @@ class History:
 
     def instant(self, time, released, answer):
         """Add a served instant, in the order of the instant list."""
+        completed = None
         if answer.job_done is not None:
-            self.waiting.pop(answer.job_done.task).done = answer.job_done
+            completed = answer.job_done.task
+            self.pending.pop(completed).done = answer.job_done
         if answer.closed_at == "b":
             self._close(answer)
+        if completed in self.waiting:
+            self._take(completed, self.waiting.pop(completed), time)
         for number in members(released):
-            if answer.skipped >> number & 1:
-                self.skips.append((number, time))
-            else:
-                job = Taken(self.table[number], time, len(self.intervals))
-                self.jobs.append(job)
-                self.waiting[number] = job
+            self._release(number, time, answer)
         if answer.closed_at == "f":
             self._close(answer)
+        is_open = answer.due is not None  # an open interval has a phase under way, and nothing else has one
+        self.tallies.append((len(self.intervals) + is_open, len(self.jobs)))
+
+    def _release(self, number, time, answer):
+        """A release that is told as skipped is; else it is taken if no job of its task is pending, and waits if one is."""
+        if answer.skipped >> number & 1:
+            self.skips.append((number, time))
+        elif number not in self.pending:
+            self._take(number, time, time)
+        else:
+            self.set_waiting.append((number, time))
+            self.waiting[number] = time
+
+    def _take(self, number, release, taking):
+        self.pending[number] = Taken(self.table[number], release, taking, len(self.intervals))
+        self.jobs.append(self.pending[number])
 
     def _close(self, answer):
         self.intervals.append(answer.interval)
@@ -56,9 +75,12 @@ class History:
 
 def check(test, history):
     """Assert everything below of a history that ends with nothing due."""
-    test.assertEqual(history.waiting, {}, "nothing is pending at the end, so all N are completed")
-    test.assertLessEqual(len(history.intervals), 3 * len(history.jobs))
+    test.assertEqual(history.pending, {}, "nothing is pending at the end, so all N are completed")
+    test.assertEqual(history.waiting, {}, "nothing waits at the end")
+    for intervals, taken in history.tallies:
+        test.assertLessEqual(intervals, 3 * taken)
     _check_halves_and_times(test, history)
+    _check_waiting(test, history)
     _check_skips(test, history)
     executing = _executing_intervals(test, history)
     for index, interval in enumerate(history.intervals):
@@ -81,16 +103,40 @@ def _check_halves_and_times(test, history):
         now = interval.end
 
 
+def _check_waiting(test, history):
+    """Every release that waited was taken, once, at the completion of the job before it; its interval chooses at that instant.
+
+    So a waiting release cancels nothing and throws nothing out at its taking: the engine has just ended a copy-out. And it is not promoted: what
+    is chosen is not lower than it, and gives way only to something higher.
+    """
+    waited = [job for job in history.jobs if job.release != job.taking]
+    test.assertEqual(sorted((job.task.number, job.release) for job in waited), sorted(history.set_waiting))
+    completions = {(job.task.number, job.done.completion) for job in history.jobs}
+    for job in waited:
+        test.assertLess(job.release, job.taking)
+        test.assertIn((job.task.number, job.taking), completions)
+        interval = history.intervals[job.first]
+        test.assertEqual(interval.copied_out, job.task.number)
+        test.assertEqual(_choice_time(history, interval), job.taking)
+        test.assertIsNotNone(interval.chosen)
+        test.assertNotEqual(interval.promoted, job.task.number)
+
+
 def _check_skips(test, history):
-    """A release is skipped if and only if a job of its task is pending; at the completion it no longer is."""
-    spans = {}
+    """A release is skipped if and only if one of its task waits: it came strictly between that one's release and its taking.
+
+    Of two jobs of a task the second is taken at the first one's completion or later, and only what came before it has waited.
+    """
+    own = {}
     for job in history.jobs:
-        spans.setdefault(job.task.number, []).append((job.release, job.done.completion))
+        own.setdefault(job.task.number, []).append(job)
     for number, time in history.skips:
-        test.assertTrue(any(release < time < completion for release, completion in spans[number]))
-    for own in spans.values():
-        for (_, completion), (release, _) in zip(own, own[1:]):
-            test.assertLessEqual(completion, release)
+        test.assertTrue(any(job.release < time < job.taking for job in own[number]))
+    for jobs in own.values():
+        for before, job in zip(jobs, jobs[1:]):
+            test.assertLess(before.release, job.release)
+            test.assertLessEqual(before.taking, job.release)
+            test.assertEqual(job.taking, max(job.release, before.done.completion))
 
 
 def _executing_intervals(test, history):
@@ -134,7 +180,7 @@ def _check_choice(test, history, index, executing):
     """R2: the highest of the jobs that have come by then and neither this interval nor an earlier one executes."""
     interval = history.intervals[index]
     time = _choice_time(history, interval)
-    later = [job.task for at, job in executing.items() if at > index and job.release <= time]
+    later = [job.task for at, job in executing.items() if at > index and job.taking <= time]
     best = min(later, key=lambda task: task.priority, default=None)
     test.assertEqual(interval.chosen, None if best is None else best.number)
 
@@ -159,8 +205,8 @@ def _check_end(test, history, index, job):
     if interval.chosen is not None:
         chosen = history.table[interval.chosen]
         engine = choice + chosen.copy_in
-        gives_way = min((each.release for each in _marked_here(history, index)
-                         if choice < each.release and each.task.priority < chosen.priority), default=None)
+        gives_way = min((each.taking for each in _marked_here(history, index)
+                         if choice < each.taking and each.task.priority < chosen.priority), default=None)
         test.assertEqual(interval.fate, 1 if gives_way is None else 2 if gives_way < engine else 3)
         engine = gives_way if interval.fate == 2 else engine
     test.assertEqual(interval.end, max(processor, engine))
@@ -170,7 +216,7 @@ def _check_end(test, history, index, job):
 
 
 def _check_promotion(test, history, index):
-    """R4: with no copy-in done that stayed, the highest marked job released in the interval, since all of them are ready."""
+    """R4: with no copy-in done that stayed, the highest marked job taken in the interval, since all of them are ready."""
     interval = history.intervals[index]
     marked = [job.task for job in _marked_here(history, index)] if interval.fate != 1 else []
     best = min(marked, key=lambda task: task.priority, default=None)

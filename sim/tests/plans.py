@@ -35,6 +35,10 @@ def plan(name):
     return plan_file(*PLANS[name])
 
 
+# The second release of task 1 waits, and the third, at 4, is skipped.
+THIRD_RELEASE = plan_file((0, 1), (3, 1), (4, 1))
+
+
 def finished_copies_stay():
     """The rule before 2/13, as long as the context lasts."""
     return mock.patch.dict("sim.dispatcher.GIVES_WAY", {NO_COPY_IN: COPY_IN_CANCELLED}, clear=True)

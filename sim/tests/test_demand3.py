@@ -3,40 +3,16 @@
 import random
 import unittest
 
-from sim.dispatcher import Dispatcher
-from sim.entries import Refused
-from sim.files import read_file, released_sets, run
-from sim.generate import make_call, random_calls, random_file, random_tasks
+from sim.dispatcher import Dispatcher, members
+from sim.earlier import NothingWaits
+from sim.generate import random_calls, random_file, random_tasks
 from sim.sessions import INSTANT
-from sim.tests.history import History, check, check_order
-from sim.tests.plans import finished_copies_stay, plan
+from sim.tests.histories import file_history, list_history
+from sim.tests.history import check, check_order
+from sim.tests.plans import TASKS, finished_copies_stay, plan, plan_file, task_set
 
 FILES = 400
 LISTS = 400
-
-
-def file_history(data):
-    table, releases = read_file(data)
-    history = History(table)
-    sets = dict(released_sets(releases))
-    for time, answer in run(table, releases):
-        history.instant(time, sets.get(time, 0), answer)
-    return history
-
-
-def list_history(tasks, calls):
-    dispatcher = Dispatcher.open(b"".join(tasks))
-    history = History(dispatcher.table)
-    for call in calls:
-        try:
-            answer = make_call(dispatcher, call)
-        except Refused:
-            continue
-        if call[0] == INSTANT:
-            history.instant(*call[1:], answer)
-        else:
-            history.mark(*call[1:])
-    return history
 
 
 class RandomRuns(unittest.TestCase):
@@ -52,7 +28,7 @@ class RandomRuns(unittest.TestCase):
             tasks = random_tasks(rng)
             calls = random_calls(rng, tasks, rng.choice((10, 60, 200)), drained=True)
             with self.subTest(seed=seed):
-                check(self, list_history(tasks, calls))
+                check(self, list_history(b"".join(tasks), calls))
 
 
 class MarkedJobs(unittest.TestCase):
@@ -71,6 +47,53 @@ class MarkedJobs(unittest.TestCase):
             history = file_history(plan("B"))
         with self.assertRaises(AssertionError):
             self.check_order(history)
+
+
+class Loses(Dispatcher):
+    """A wrong one: what waits is never taken."""
+
+    def _step_c(self, now, released, answer):
+        lost = sum(1 << number for number in members(released) if number in self.pending)
+        return super()._step_c(now, released & ~lost, answer)
+
+
+class WaitingReleases(unittest.TestCase):
+    """4/13: everything is counted from the taking, and what waits is taken, executed and completed."""
+
+    # Job 1 is loaded while 3 executes in 2-7, and its next release waits from 3 on; it is taken at 11.
+    WAITS_WHILE_A_LOWER_ONE_RUNS = plan_file((0, 3), (2, 1), (3, 1))
+
+    def test_plan_f(self):
+        history = file_history(plan("F"))
+        check(self, history)
+        self.assertEqual([(job.release, job.taking, job.first, job.done.completion) for job in history.jobs], [(0, 0, 0, 6), (5, 6, 2, 12)])
+        self.assertEqual(history.set_waiting, [(1, 5)])
+
+    def test_a_run_in_which_it_was_skipped_is_refused(self):
+        with self.assertRaises(AssertionError):
+            check(self, file_history(plan("F"), NothingWaits))
+
+    def test_a_run_in_which_it_was_lost_is_refused(self):
+        with self.assertRaisesRegex(AssertionError, "nothing is pending|nothing waits"):
+            check(self, file_history(plan("F"), Loses))
+
+    def test_counted_from_the_release_it_does_not_hold(self):
+        history = file_history(self.WAITS_WHILE_A_LOWER_ONE_RUNS)
+        check(self, history)
+        job = history.jobs[2]
+        self.assertEqual((job.release, job.taking, job.first, job.done.blocked), (3, 11, 3, 0))
+        job.first = 1  # the interval that holds the release
+        with self.assertRaises(AssertionError):
+            check_order(self, history, 4, job)
+
+    def test_empty_sets_take_jobs_and_n_has_them(self):
+        calls = [(INSTANT, time, released) for time, released in ((0, task_set(1)), (2, 0), (5, task_set(1)))]
+        history = list_history(TASKS, calls)
+        self.assertEqual(history.tallies[-1], (3, 1))
+        self.assertEqual(history.waiting, {1: 5})
+        history = list_history(TASKS, calls + [(INSTANT, time, 0) for time in (6, 8, 11, 12)])
+        check(self, history)
+        self.assertEqual(history.tallies[-1], (5, 2))  # more than three for the one job that the list itself took
 
 
 if __name__ == "__main__":

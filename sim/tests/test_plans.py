@@ -1,11 +1,11 @@
-"""Plans A to G with F': every number that document 01 states, of plan B what 2/13 states, and the whole run worked out by hand."""
+"""Plans A to G with F': every number that document 01 states, of plan B what 2/13 and of F what 4/13 states, and the whole run worked out by hand."""
 
 import unittest
 
 from sim.entries import decode, encode, entries
 from sim.files import record
 from sim.lines import file_lines, record_lines, text
-from sim.tests.plans import plan
+from sim.tests.plans import THIRD_RELEASE, plan
 
 PLAN_A = """\
 I 0 2 0 - 0 - 3 1 -
@@ -57,9 +57,11 @@ I 9 10 1 - 0 1 - 0 -
 PLAN_F = """\
 I 0 2 0 - 0 - 1 1 -
 I 2 5 1 1 1 - - 0 -
-S 1 5
 J 1 0 2 6 0
-I 5 6 0 - 0 1 - 0 -
+I 5 8 0 - 0 1 1 1 -
+I 8 11 1 1 1 - - 0 -
+J 1 5 8 12 0
+I 11 12 0 - 0 1 - 0 -
 """
 
 PLAN_F_PRIME = """\
@@ -135,8 +137,11 @@ class StatedNumbers(unittest.TestCase):
         self.assertEqual(lines_of("I", "E")[0].split()[1:3], ["0", "2"])
         self.assertIn("J 1 2 6 10 1", lines_of("J", "E"))
 
-    def test_plan_f_skips_at_5(self):
-        self.assertEqual(lines_of("S", "F"), ["S 1 5"])
+    def test_plan_f_runs_as_f_prime_does_with_its_second_job_shown_as_released_at_5(self):
+        lines = file_lines(plan("F'"))
+        lines[5] = lines[5].replace("J 1 6 ", "J 1 5 ")
+        self.assertEqual(file_lines(plan("F")), lines)
+        self.assertEqual(lines_of("S", "F"), [])
 
     def test_plan_f_prime_takes_at_6(self):
         self.assertEqual(lines_of("S", "F'"), [])
@@ -153,11 +158,15 @@ class RecordBytes(unittest.TestCase):
         self.assertEqual(record(plan("A"))[48:75].hex(),
                          "10" "03" "0000000000000000" "0200000000000000" "0900000000000000" "00")
 
-    def test_skip_of_plan_f_byte_for_byte(self):
-        self.assertEqual(record(plan("F"))[48:58].hex(), "12" "01" "0500000000000000")
+    def test_second_job_of_plan_f_byte_for_byte(self):
+        self.assertEqual(record(plan("F"))[123:150].hex(),
+                         "10" "01" "0500000000000000" "0800000000000000" "0c00000000000000" "00")
+
+    def test_a_skip_byte_for_byte(self):
+        self.assertEqual(record(THIRD_RELEASE)[24:34].hex(), "12" "01" "0400000000000000")
 
     def test_lengths_of_entries(self):
-        lengths = {kind: len(encode(kind, *fields)) for _, kind, fields in entries(record(plan("F")), (16, 17, 18))}
+        lengths = {kind: len(encode(kind, *fields)) for _, kind, fields in entries(record(THIRD_RELEASE), (16, 17, 18))}
         self.assertEqual(lengths, {16: 27, 17: 24, 18: 10})
 
     def test_round_trip(self):

@@ -1,14 +1,19 @@
 """Decided points where the document is easily misread, and its readings that tempt."""
 
+import random
 import unittest
 
-from sim.dispatcher import COPY_IN_CANCELLED, COPY_IN_DONE, Dispatcher
+from sim.dispatcher import COPY_IN_CANCELLED, COPY_IN_DONE, NO_COPY_IN, Dispatcher
 from sim.entries import Refused, release_entry, task_entry
-from sim.files import record
+from sim.files import read_file, record, released_sets, run
+from sim.generate import random_file
 from sim.lines import file_lines
 from sim.tests.plans import TASK_1, TASKS, plan, plan_file, task_set
 
 LAST_TICK = 2**64 - 1
+
+# The plans' tasks with copies of three ticks.
+LONG = task_entry(1, 1, 1, 3, 3, 3) + task_entry(2, 2, 0, 3, 4, 3) + task_entry(3, 3, 0, 3, 5, 3)
 
 
 def fields(letter, data):
@@ -19,31 +24,42 @@ def fields(letter, data):
 class OrderWithinAnInstant(unittest.TestCase):
     """Point 1: 16, then 17 of step b, then the 18s, then 17 of step f."""
 
+    # A copy-in of 2 takes three ticks, so that a release of it waits and another is skipped before it ends.
+    SLOW = task_entry(1, 1, 1, 2, 3, 1) + task_entry(2, 2, 0, 3, 4, 1)
+
     def test_skip_before_an_interval_that_ends_at_step_f(self):
-        self.assertEqual(file_lines(plan_file((0, 2), (1, 1), (1, 2)))[:2], ["S 2 1", "I 0 1 0 - 0 - 2 2 1"])
+        lines = file_lines(plan_file((0, 2), (1, 2), (2, 1), (2, 2), tasks=self.SLOW))
+        self.assertEqual(lines[:2], ["S 2 2", "I 0 2 0 - 0 - 2 2 1"])
 
     def test_skip_after_an_interval_that_ends_at_step_b(self):
-        self.assertEqual(file_lines(plan_file((0, 2), (2, 2)))[:2], ["I 0 2 0 - 0 - 2 1 -", "S 2 2"])
+        self.assertEqual(file_lines(plan_file((0, 2), (1, 2), (2, 2)))[:2], ["I 0 2 0 - 0 - 2 1 -", "S 2 2"])
 
     def test_job_done_then_skip_then_the_interval_of_step_f(self):
-        # In 6-10 job 2 executes and job 1 is copied out; both end at 10, where a release of 2 is skipped.
+        # In 6-10 job 2 executes and job 1 is copied out; both end at 10, where a release of 2 is skipped: one waits since 8.
         tasks = task_entry(1, 1, 1, 2, 3, 4) + task_entry(2, 2, 0, 2, 4, 1)
-        lines = file_lines(plan_file((0, 2), (1, 1), (10, 2), tasks=tasks))
+        lines = file_lines(plan_file((0, 2), (1, 1), (8, 2), (10, 2), tasks=tasks))
         self.assertEqual(lines[2:5], ["J 1 1 3 10 0", "S 2 10", "I 6 10 0 2 1 1 - 0 -"])
 
+    def test_job_done_then_skip_of_another_at_a_taking(self):
+        # At 12 job 1 completes and its waiting release is taken; that of 2, behind one that waits since 10, is skipped. No interval ends.
+        lines = file_lines(plan_file((0, 3), (2, 1), (3, 1), (9, 2), (10, 2), (12, 2)))
+        self.assertEqual(lines[4:7], ["J 1 2 7 12 1", "S 2 12", "I 11 15 1 2 1 1 1 1 -"])
+
     def test_skips_by_rising_task_number(self):
-        lines = file_lines(plan_file((0, 1), (0, 2), (0, 3), (1, 1), (1, 2), (1, 3)))
-        self.assertEqual(lines[:3], ["S 1 1", "S 2 1", "S 3 1"])
+        lines = file_lines(plan_file(*((time, number) for time in (0, 1, 2) for number in (1, 2, 3)), tasks=LONG))
+        self.assertEqual(lines[:3], ["S 1 2", "S 2 2", "S 3 2"])
 
     def test_closing_step_f(self):
-        dispatcher = Dispatcher.open(TASKS)
+        dispatcher = Dispatcher.open(self.SLOW)
         self.assertIsNone(dispatcher.instant(0, task_set(2)).closed_at)
-        answer = dispatcher.instant(1, task_set(1, 2))
-        self.assertEqual((answer.closed_at, answer.skipped, answer.due), ("f", task_set(2), 3))
+        self.assertEqual(dispatcher.instant(1, task_set(2)).skipped, 0)
+        answer = dispatcher.instant(2, task_set(1, 2))
+        self.assertEqual((answer.closed_at, answer.skipped, answer.due), ("f", task_set(2), 4))
 
     def test_closing_step_b(self):
         dispatcher = Dispatcher.open(TASKS)
-        dispatcher.instant(0, task_set(2))
+        for time in (0, 1):
+            dispatcher.instant(time, task_set(2))
         answer = dispatcher.instant(2, task_set(2))
         self.assertEqual((answer.closed_at, answer.skipped, answer.due), ("b", task_set(2), 6))
 
@@ -269,9 +285,9 @@ class FinishedCopies(unittest.TestCase):
             dispatcher.instant(time, task_set(*numbers))
         self.assertEqual(dispatcher.instant(7, 0).interval, (2, 7, 1, 4, 1, None, 3, COPY_IN_DONE, None))
 
-    def test_a_skipped_release_throws_out_nothing(self):
-        # At 5 job 2 is executing and the copy of 3 is done; its release is skipped.
-        lines = file_lines(plan_file((0, 2), (2, 3), (5, 2), tasks=self.TABLE))
+    def test_a_release_that_waits_or_is_skipped_throws_out_nothing(self):
+        # At 4 and 5 job 2 is executing and the copy of 3 is done; its releases wait and are skipped.
+        lines = file_lines(plan_file((0, 2), (2, 3), (4, 2), (5, 2), tasks=self.TABLE))
         self.assertEqual(lines[1:3], ["S 2 5", "I 2 6 1 2 1 - 3 1 -"])
 
     def test_a_copy_of_the_interval_before_stays(self):
@@ -296,6 +312,123 @@ class FinishedCopies(unittest.TestCase):
     def test_blocked_by_whole_intervals(self):
         # Job 3 waits in 2-7 and 7-13, of which the first executes a lower job.
         self.assertIn("J 3 2 13 20 1", file_lines(plan_file((0, 4), (2, 3), (5, 2), tasks=self.TABLE)))
+
+
+class WaitingReleases(unittest.TestCase):
+    """4/13: one release of a task waits for its job's completion, and is taken then, before the releases of that instant."""
+
+    def jobs(self, *pairs, tasks=TASKS):
+        return [line for line in file_lines(plan_file(*pairs, tasks=tasks)) if line[0] in "JS"]
+
+    def test_on_each_tick_from_the_release_to_the_completion(self):
+        """Wherever it comes in that time it is taken at 6; its job shows when it came."""
+        for time in range(1, 7):
+            self.assertEqual(self.jobs((0, 1), (time, 1)), ["J 1 0 2 6 0", f"J 1 {time} 8 12 0"])
+        self.assertEqual(self.jobs((0, 1), (7, 1)), ["J 1 0 2 6 0", "J 1 7 9 13 0"])
+
+    def test_a_release_at_the_taking_waits_in_its_turn(self):
+        self.assertEqual(self.jobs((0, 1), (5, 1), (6, 1)), ["J 1 0 2 6 0", "J 1 5 8 12 0", "J 1 6 14 18 0"])
+        self.assertEqual(self.jobs((0, 1), (5, 1), (6, 1), (12, 1)), ["J 1 0 2 6 0", "J 1 5 8 12 0", "J 1 6 14 18 0", "J 1 12 20 24 0"])
+
+    def test_a_third_one_is_skipped_and_the_first_of_them_stays(self):
+        self.assertEqual(self.jobs((0, 1), (3, 1), (4, 1), (5, 1)), ["S 1 4", "S 1 5", "J 1 0 2 6 0", "J 1 3 8 12 0"])
+
+    def test_behind_the_taking_another_may_wait(self):
+        self.assertEqual(self.jobs((0, 1), (3, 1), (4, 1), (6, 1), (7, 1)),
+                         ["S 1 4", "J 1 0 2 6 0", "S 1 7", "J 1 3 8 12 0", "J 1 6 14 18 0"])
+
+    def test_a_release_at_a_completion_behind_which_none_waits_is_taken(self):
+        self.assertEqual(self.jobs((0, 1), (6, 1), (6, 2)), ["J 1 0 2 6 0", "J 1 6 8 12 0", "J 2 6 11 16 0"])
+
+    def test_each_task_has_one(self):
+        self.assertEqual(self.jobs((0, 1), (0, 2), (1, 1), (1, 2)), ["J 1 0 2 6 0", "J 2 0 5 10 0", "J 1 1 9 13 1", "J 2 1 12 17 0"])
+
+    def test_it_waits_for_its_own_task_only(self):
+        # Job 1 completes at 6, where nothing of 1 waits; what waits of 2 is taken at 10, when job 2 completes.
+        dispatcher = Dispatcher.open(TASKS)
+        for time, numbers in ((0, (1, 2)), (1, (2,)), (2, ()), (4, ()), (5, ()), (6, ())):
+            dispatcher.instant(time, task_set(*numbers))
+        self.assertEqual((dispatcher.waiting, sorted(dispatcher.pending)), ({2: 1}, [2]))
+        for time in (9, 10):
+            dispatcher.instant(time, 0)
+        self.assertEqual((dispatcher.waiting, dispatcher.pending[2].release), ({}, 1))
+
+    def test_the_engine_chooses_at_the_taking_and_the_taken_one_is_among_the_ready(self):
+        # At 6 nothing else is ready: the copy-in begins at the very instant, as in F'.
+        dispatcher = Dispatcher.open(TASKS)
+        for time, numbers in ((0, (1,)), (2, ()), (5, (1,))):
+            answer = dispatcher.instant(time, task_set(*numbers))
+        self.assertEqual((answer.skipped, answer.due), (0, 6))
+        answer = dispatcher.instant(6, 0)
+        self.assertEqual((answer.job_done, answer.interval, answer.skipped, answer.due), ((1, 0, 2, 6, 0), None, 0, 8))
+
+    def test_a_higher_release_of_the_instant_of_the_taking_is_chosen(self):
+        # At 7 job 2 completes and its waiting release is taken; 1 comes on the same tick and is higher.
+        lines = file_lines(plan_file((0, 2), (5, 2), (7, 1)))
+        self.assertEqual(lines[2:4], ["J 2 0 2 7 0", "I 6 9 0 - 0 2 1 1 -"])
+
+    def test_its_copy_in_gives_way_as_any_does(self):
+        # Taken at 7 and copied in from then on; 1 comes at 8. What is promoted is 1, and 2 is copied in again behind it.
+        lines = fields("I", plan_file((0, 2), (5, 2), (8, 1)))
+        self.assertEqual(lines[2], ["6", "8", "0", "-", "0", "2", "2", "2", "1"])
+        self.assertEqual(lines[3][3:8], ["1", "2", "-", "2", "1"])
+
+    def test_blocking_is_counted_from_the_taking(self):
+        # Released at 3, while 3 executes in 2-7; taken at 11, in an interval in which the processor idles.
+        self.assertEqual(self.jobs((0, 3), (2, 1), (3, 1)), ["J 3 0 2 9 0", "J 1 2 7 11 1", "J 1 3 13 17 0"])
+
+    def test_the_interval_of_the_taking_counts_whole(self):
+        # Taken at 12 in 11-15, where 2 executes from 11 on.
+        self.assertEqual(self.jobs((0, 3), (2, 1), (3, 1), (9, 2)), ["J 3 0 2 9 0", "J 1 2 7 12 1", "J 2 9 11 16 0", "J 1 3 15 19 1"])
+
+    def test_where_it_came_at_the_end_of_an_interval_at_step_b_it_belongs_to_that_of_its_taking(self):
+        # At 5 the interval 2-5 ends at step b and the next begins; at 6, in it, the release is taken.
+        dispatcher = Dispatcher.open(TASKS)
+        for time, numbers in ((0, (1,)), (2, ())):
+            dispatcher.instant(time, task_set(*numbers))
+        answer = dispatcher.instant(5, task_set(1))
+        self.assertEqual((answer.closed_at, dispatcher.waiting, dispatcher.arrivals), ("b", {1: 5}, set()))
+        dispatcher.instant(6, 0)
+        self.assertEqual([job.release for job in dispatcher.arrivals], [5])
+
+    def test_at_a_taking_no_interval_ends_and_nothing_gives_way(self):
+        """The engine has just ended a copy-out and has chosen nobody yet; it chooses at step e, since one is ready."""
+        takings = 0
+        for seed in range(150):
+            table, releases = read_file(random_file(random.Random(f"takings {seed}")))
+            dispatcher, sets = Dispatcher(table), dict(released_sets(releases))
+            for time, _ in run(table, releases):
+                waiting, interval = set(dispatcher.waiting), dispatcher.interval
+                answer = dispatcher.instant(time, sets.get(time, 0))
+                if answer.job_done is not None and answer.job_done.task in waiting:
+                    takings += 1
+                    self.assertIsNone(answer.interval)
+                    self.assertIs(dispatcher.interval, interval)
+                    self.assertEqual((interval.fate, interval.engine.end), (NO_COPY_IN, time + interval.chosen.task.copy_in))
+        self.assertGreater(takings, 300)
+
+    def test_nothing_waits_when_nothing_is_due(self):
+        for seed in range(50):
+            table, releases = read_file(random_file(random.Random(f"idle {seed}")))
+            dispatcher, sets = Dispatcher(table), dict(released_sets(releases))
+            for time, _ in run(table, releases):
+                if dispatcher.instant(time, sets.get(time, 0)).due is None:
+                    self.assertEqual((dispatcher.pending, dispatcher.waiting), ({}, {}))
+
+    def test_a_release_at_the_limit_waits_and_is_taken_behind_it(self):
+        self.assertEqual(self.jobs((10**9 - 5, 1), (10**9, 1)),
+                         [f"J 1 {10**9 - 5} {10**9 - 3} {10**9 + 1} 0", f"J 1 {10**9} {10**9 + 3} {10**9 + 7} 0"])
+
+    def test_the_mark_of_its_task_is_that_of_the_job_before(self):
+        """It cannot change while one waits, so that the mark at the taking is the one at the release."""
+        dispatcher = Dispatcher.open(TASKS)
+        for time, numbers in ((0, (1,)), (2, ()), (5, (1,))):
+            dispatcher.instant(time, task_set(*numbers))
+            with self.assertRaises(Refused) as caught:
+                dispatcher.mark(1, 0)
+            self.assertEqual(caught.exception.number, 17)
+        dispatcher.instant(6, 0)
+        self.assertEqual(dispatcher.pending[1].task.mark, 1)
 
 
 class ReadingsThatTempt(unittest.TestCase):
@@ -337,11 +470,10 @@ class ReadingsThatTempt(unittest.TestCase):
         tasks = task_entry(1, 1, 0, 2, 3, 1) + task_entry(2, 2, 1, 2, 4, 1)
         self.assertEqual(fields("I", plan_file((0, 1), (1, 2), tasks=tasks))[0][6:8], ["1", "1"])
 
-    def test_a_skipped_marked_release_cancels_nothing(self):
-        # At 3 the engine copies in 2 while job 1 executes; the release of 1 finds it pending.
-        lines = file_lines(plan_file((0, 1), (2, 2), (3, 1)))
-        self.assertEqual(lines[1], "S 1 3")
-        self.assertEqual(lines[2], "I 2 5 1 1 1 - 2 1 -")
+    def test_a_marked_release_that_waits_or_is_skipped_cancels_nothing(self):
+        # At 4 and 5 the engine copies in 2 while job 1 executes; the releases of 1 find it pending, and the second one waiting.
+        lines = file_lines(plan_file((0, 1), (3, 2), (4, 1), (5, 1), tasks=LONG))
+        self.assertEqual(lines[:3], ["I 0 3 0 - 0 - 1 1 -", "S 1 5", "I 3 6 1 1 1 - 2 1 -"])
 
     def test_a_copy_out_is_not_cancelled(self):
         lines = file_lines(plan_file((0, 3), (7, 2), (8, 1)))

@@ -13,7 +13,7 @@ from sim.entries import encode, two_parts
 from sim.files import record
 from sim.lines import file_lines, text
 from sim.sessions import session_bytes
-from sim.tests.plans import TASKS, plan, plan_file
+from sim.tests.plans import TASKS, THIRD_RELEASE, plan, plan_file
 
 ROOT = pathlib.Path(__file__).resolve().parents[2]
 
@@ -91,7 +91,7 @@ class Comparison(unittest.TestCase):
 
     def test_refused_record_is_empty(self):
         self.assertEqual(compare.expected_record(b"\x07"), b"")
-        self.assertEqual(compare.expected_record(plan("F"))[48:58], encode(18, 1, 5))
+        self.assertEqual(compare.expected_record(THIRD_RELEASE)[24:34], encode(18, 1, 4))
 
 
 if __name__ == "__main__":

@@ -3,12 +3,13 @@
 import random
 import unittest
 
+from sim.earlier import NothingWaits
 from sim.entries import INTERVAL, JOB_DONE, NO_TASK, SKIPPED, Refused, encode, release_entry, task_entry, two_parts
 from sim.files import read_file, record
 from sim.generate import random_file
 from sim.generate_records import record_entries
 from sim.reading import read, read_lines
-from sim.tests.plans import PLANS, TASK_1, TASKS, finished_copies_stay, plan
+from sim.tests.plans import PLANS, TASK_1, TASKS, THIRD_RELEASE, finished_copies_stay, plan, plan_file
 
 LIMIT = 1_000_000_000
 
@@ -177,8 +178,59 @@ class NoListYields(unittest.TestCase):
         self.refused(b"".join(record_entries([TASK_1], [(time, 1) for time in range(4097)])), tasks=TASK_1)
 
     def test_a_skipped_release_left_out_is_the_record_of_a_shorter_list(self):
-        stored = record(plan("F"))
+        stored = record(THIRD_RELEASE)
+        self.assertEqual(read(TASKS, stored), [(0, 1), (3, 1), (4, 1)])
+        self.assertEqual(read(TASKS, stored[:24] + stored[34:]), [(0, 1), (3, 1)])
+
+
+class WaitingReleases(unittest.TestCase):
+    """4/13: a job's entry has its original time, so that the list comes back as it was."""
+
+    F = record(plan("F"))
+    AT = 123  # the entry of its second job
+
+    def shown_as_released_at(self, time):
+        return self.F[:self.AT + 2] + time.to_bytes(8, "little") + self.F[self.AT + 10:]
+
+    def test_the_original_times_come_back(self):
+        for releases in (PLANS["F"], [(0, 1), (5, 1), (6, 1)], [(0, 1), (3, 1), (4, 1), (6, 1)], [(0, 3), (2, 1), (3, 1)]):
+            with self.subTest(releases=releases):
+                self.assertEqual(read(TASKS, record(plan_file(*releases))), releases)
+
+    def test_another_time_of_the_wait_is_the_record_of_another_list(self):
+        """The run is the same wherever in the first job's time the second release comes, and at its completion."""
+        for time in range(1, 7):
+            self.assertEqual(read(TASKS, self.shown_as_released_at(time)), [(0, 1), (time, 1)])
+        self.assertEqual(self.shown_as_released_at(6), record(plan("F'")))
+
+    def test_a_time_before_or_behind_the_wait_is_that_of_none(self):
+        for time in (0, 7, 8):
+            self.assertEqual(outcome(TASKS, self.shown_as_released_at(time)), (18, None))
+
+    def test_a_record_of_the_rule_by_which_nothing_waited(self):
+        """The release at 5 was skipped; it would wait now, and leave another run."""
+        stored = b"".join(record_entries([TASKS], PLANS["F"], NothingWaits))
+        self.assertEqual(stored[48:58], encode(SKIPPED, 1, 5))
+        self.assertEqual(outcome(TASKS, stored), (18, None))
         self.assertEqual(read(TASKS, stored[:48] + stored[58:]), PLANS["C"])
+
+    def test_where_nothing_came_while_a_job_was_pending_the_rule_before_left_the_same(self):
+        for name in ("A", "B", "C", "D", "E", "F'"):
+            self.assertEqual(b"".join(record_entries([TASKS], PLANS[name], NothingWaits)), record(plan(name)))
+
+    def test_a_skip_that_finds_none_waiting(self):
+        """In place of the release that waits, and on the tick of its taking, where it would wait in its turn."""
+        stored = record(THIRD_RELEASE)
+        skip = stored[24:34]
+        self.assertEqual(outcome(TASKS, stored[:24] + encode(SKIPPED, 1, 2) + stored[24:]), (18, None))
+        self.assertEqual(outcome(TASKS, stored[:24] + encode(SKIPPED, 1, 3) + skip + stored[34:]), (18, None))
+        behind = 34 + 24 + 27  # the job that completes at 6
+        self.assertEqual(outcome(TASKS, stored[:behind] + encode(SKIPPED, 1, 6) + stored[behind:]), (18, None))
+
+    def test_a_waiting_release_told_twice(self):
+        at = self.AT + 27
+        self.assertEqual(outcome(TASKS, self.F[:at] + encode(SKIPPED, 1, 5) + self.F[at:]), (18, None))
+        self.assertEqual(outcome(TASKS, self.F[:48] + encode(SKIPPED, 1, 5) + self.F[48:]), (18, None))
 
 
 class LentSlice(unittest.TestCase):

@@ -234,6 +234,31 @@ class CallRefusals(unittest.TestCase):
         self.dispatcher.mark(1, 0)
         self.assertEqual(self.dispatcher.table[1].mark, 0)
 
+    def test_17_while_a_release_waits(self):
+        """Through its wait, at its taking, and to its job's completion: the mark that it came with is the one that its job has."""
+        for time, released in ((0, task_set(1)), (2, 0), (5, task_set(1)), (6, 0), (8, 0), (11, 0)):
+            self.dispatcher.instant(time, released)
+            self.mark_refused(17, 1, 0)
+            self.mark_refused(17, 1, 1)
+        self.dispatcher.instant(12, 0)
+        self.dispatcher.mark(1, 0)
+
+    def test_17_in_a_state_in_which_only_a_release_waits(self):
+        """No calls make one: behind what waits there is a pending job."""
+        self.dispatcher.waiting[1] = 0
+        self.mark_refused(17, 1, 0)
+        self.dispatcher.mark(2, 1)
+
+    def test_10_is_not_said_of_a_taking(self):
+        """The release that waits was handed in by the limit; it is taken behind it, by an empty set."""
+        for time, released in ((LIMIT - 5, task_set(1)), (LIMIT - 3, 0), (LIMIT, task_set(1))):
+            self.dispatcher.instant(time, released)
+        self.instant_refused(10, LIMIT + 1, task_set(1))
+        self.assertEqual(self.dispatcher.instant(LIMIT + 1, 0).due, LIMIT + 3)
+        for time in (LIMIT + 3, LIMIT + 6, LIMIT + 7):
+            answer = self.dispatcher.instant(time, 0)
+        self.assertEqual(answer.job_done, (1, LIMIT, LIMIT + 3, LIMIT + 7, 0))
+
     def test_order_at_an_instant(self):
         self.dispatcher.instant(0, 0)
         self.dispatcher.instant(5, task_set(1))

@@ -44,11 +44,24 @@ class ServedCalls(unittest.TestCase):
                          ["O", "A 0 2", "A 0 2", "I 0 2 0 - 0 - 1 1 -", "A 0 5"])
 
     def test_skipped_set_and_closing_at_f(self):
-        self.assertEqual(lines(instant(0, 2), instant(1, 1, 2)), ["O", "A 0 2", "I 0 1 0 - 0 - 2 2 1", "A 4 3"])
+        opening = task_entry(1, 1, 1, 2, 3, 1) + task_entry(2, 2, 0, 3, 4, 1)
+        self.assertEqual(lines(instant(0, 2), instant(1, 2), instant(2, 1, 2), opening=opening),
+                         ["O", "A 0 3", "A 0 3", "I 0 2 0 - 0 - 2 2 1", "A 4 4"])
 
     def test_skipped_set_of_bit_31_is_unsigned(self):
         opening = task_entry(31, 1, 0, 5, 5, 5)
-        self.assertEqual(lines(instant(0, 31), instant(1, 31), opening=opening), ["O", "A 0 5", "A 2147483648 5"])
+        self.assertEqual(lines(instant(0, 31), instant(1, 31), instant(2, 31), opening=opening),
+                         ["O", "A 0 5", "A 0 5", "A 2147483648 5"])
+
+    def test_plan_f_and_a_release_at_its_taking(self):
+        """A release that waits is not told; its job's entry has the time at which it was handed in."""
+        calls = [instant(0, 1), instant(2), instant(5, 1), instant(6, 1), instant(8), instant(11), instant(12)]
+        self.assertEqual(lines(*calls), ["O", "A 0 2", "I 0 2 0 - 0 - 1 1 -", "A 0 5", "I 2 5 1 1 1 - - 0 -", "A 0 6", "J 1 0 2 6 0", "A 0 8",
+                                         "I 5 8 0 - 0 1 1 1 -", "A 0 11", "I 8 11 1 1 1 - - 0 -", "A 0 12", "J 1 5 8 12 0", "A 0 14"])
+
+    def test_only_what_is_skipped_now_is_told(self):
+        calls = [instant(0, 1, 2), instant(1, 1), instant(2, 1, 2), instant(3, 1, 2)]
+        self.assertEqual([line for line in lines(*calls) if line[0] == "A"], ["A 0 2", "A 0 2", "A 2 4", "A 6 4"])
 
     def test_mark(self):
         self.assertEqual(lines((MARK, 2, 1), instant(0, 3), instant(1, 2)),
@@ -64,6 +77,12 @@ class RefusedCalls(unittest.TestCase):
                  (MARK, 1, 2), (MARK, 1, 1), (MARK, 2, 0), instant(2)]
         self.assertEqual(lines(*calls), ["O", "R 16", "R 10", "A 0 2", "R 14", "R 15", "R 16", "R 6", "R 17", "M",
                                          "I 0 2 0 - 0 - 1 1 -", "A 0 5"])
+
+    def test_a_mark_while_a_release_waits(self):
+        """17 from the first release to the completion of the job that waited; what waits is taken at 6."""
+        calls = [instant(0, 1), instant(2), instant(5, 1), (MARK, 1, 0), instant(6), (MARK, 1, 0), instant(8), instant(11), (MARK, 1, 0),
+                 instant(12), (MARK, 1, 0)]
+        self.assertEqual([line for line in lines(*calls) if line[0] in "RM"], ["R 17", "R 17", "R 17", "M"])
 
 
 class RefusedOpenings(unittest.TestCase):

@@ -1,4 +1,4 @@
-"""The picture of a run: what is drawn and where, for document 01's plans A and B and for random runs."""
+"""The picture of a run: what is drawn and where, for document 01's plans A, B and F and for random runs."""
 
 import os
 import pathlib
@@ -314,10 +314,12 @@ class ThrownOut(unittest.TestCase):
             Labels().assert_apart(drawn)
 
     def test_the_first_release_that_could_is_the_one(self):
-        """The releases of 3, which is unmarked, of 4, which is lower, and of 1, which is skipped, throw out nothing; that of 0 comes too late."""
+        """The releases of 3, which is unmarked, of 4, which is lower, and of 1, which wait and are skipped, throw out nothing; that of 0 comes too
+        late."""
         tasks = ("task 0 0 1 1 1 1\ntask 1 1 1 1 20 1\ntask 2 5 0 2 1 1\ntask 3 4 0 1 1 1\ntask 4 6 1 1 1 1\ntask 5 2 1 1 1 1\n")
-        drawn = Drawn.of_plan(tasks + "release 0 1\nrelease 1 2\nrelease 4 1\nrelease 5 3\nrelease 6 4\nrelease 7 5\nrelease 8 0\n")
-        self.assertEqual(drawn.of_kind("skipped", "time", "task"), [(4, 1)])
+        drawn = Drawn.of_plan(tasks + "release 0 1\nrelease 1 2\nrelease 4 1\nrelease 5 1\nrelease 5 3\nrelease 6 4\nrelease 7 5\nrelease 8 0\n")
+        self.assertEqual(drawn.of_kind("waiting", "time", "task"), [(4, 1)])
+        self.assertEqual(drawn.of_kind("skipped", "time", "task"), [(5, 1)])
         self.assertIn(("engine", "copy-in", 2, 1, 3, 2, "thrown out"), drawn.bars())
         self.assertEqual(drawn.of_kind("throw-out", "task", "time", "by"), [(2, 7, 5)])
         self.assertEqual(drawn.of_kind("promotion", "task", "time", "interval")[0], (0, 21, 2))
@@ -329,14 +331,118 @@ class ThrownOut(unittest.TestCase):
         self.assertEqual(drawn.of_kind("throw-out", "task", "time", "by"), [(2, 6, 1)])
 
 
+class PlanF(unittest.TestCase):
+    """The release at 5 waits for the completion at 6: it is seen waiting, and runs as if it had come then."""
+
+    @classmethod
+    def setUpClass(cls):
+        cls.drawn = Drawn(picture.picture(str(ROOT / "plans/f.plan")))
+
+    def test_bars_and_intervals(self):
+        self.assertEqual(set(self.drawn.bars()), {
+            ("engine", "copy-in", 1, 0, 2, 1, "done"), ("processor", "execution", 1, 2, 5, 2, "done"), ("engine", "copy-out", 1, 5, 6, 3, "done"),
+            ("engine", "copy-in", 1, 6, 8, 3, "done"), ("processor", "execution", 1, 8, 11, 4, "done"), ("engine", "copy-out", 1, 11, 12, 5, "done")})
+        self.assertEqual(self.drawn.intervals(), [(1, 0, 2, 0), (2, 2, 5, 1), (3, 5, 8, 0), (4, 8, 11, 1), (5, 11, 12, 0)])
+
+    def test_marks(self):
+        self.assertEqual(self.drawn.of_kind("release", "time", "task"), [(0, 1)])
+        self.assertEqual(self.drawn.of_kind("waiting", "time", "task"), [(5, 1)])
+        self.assertEqual(self.drawn.elements("skipped"), [])
+        self.assertEqual(self.drawn.of_kind("completion", "task", "release", "time"), [(1, 0, 6), (1, 5, 12)])
+
+    def test_the_wait_is_a_bar_from_the_release_to_the_taking(self):
+        (wait,), x = self.drawn.elements("wait"), self.drawn.x_by_time()
+        self.assertEqual(self.drawn.of_kind("wait", "task", "begin", "end"), [(1, 5, 6)])
+        self.assertEqual(wait.find(f"{SVG}title").text, "the release of task 1 at 5 waits until 6")
+        left, top, width, height = first_rect(wait)
+        self.assertAlmostEqual(left, x(5), places=1)
+        self.assertAlmostEqual(left + width, x(6), places=1)
+        (band,) = [band for band in self.drawn.elements("interval") if band.get("data-number") == "3"]
+        self.assertLess(top + height, float(band.findall(f"{SVG}rect")[2].get("y")))
+        self.assertAlmostEqual(first_path_x(wait) + height / 2, x(6), places=1)
+
+    def test_it_stands_below_its_arrow(self):
+        (arrow,), (wait,) = self.drawn.elements("waiting"), self.drawn.elements("wait")
+        tip = float(re.match(r"M[\d.]+ ([\d.]+)v14", arrow.find(f"{SVG}path").get("d")).group(1)) + 14
+        self.assertTrue(0 < first_rect(wait)[1] - tip < 8)
+
+    def test_words(self):
+        labels = [label for label, _ in self.drawn.texts()]
+        self.assertEqual([labels.count(label) for label in ("waiting", "release waits")], [1, 1])
+        self.assertIn("2 releases (1 waiting, 0 skipped)", self.drawn.root.find(f"{SVG}desc").text)
+
+    def test_where_none_waits_nothing_is_said_of_waiting(self):
+        labels = [label for label, _ in Drawn.of_plan(A).texts()]
+        self.assertEqual([label for label in labels if "wait" in label], [])
+
+
+class Waits(unittest.TestCase):
+    """Several waits at once, one behind the other, and parts of them."""
+
+    IN_TURN = TASKS + "release 0 1\nrelease 5 1\nrelease 6 1\n"
+
+    def tops(self, drawn):
+        return {(wait.get("data-task"), wait.get("data-begin")): first_rect(wait)[1] for wait in drawn.elements("wait")}
+
+    def test_in_turn_they_stand_in_one_row(self):
+        drawn = Drawn.of_plan(self.IN_TURN)
+        self.assertEqual(drawn.of_kind("wait", "task", "begin", "end"), [(1, 5, 6), (1, 6, 12)])
+        self.assertEqual(len(set(self.tops(drawn).values())), 1)
+        self.assertIn("1 waits", [label for label, _ in drawn.texts()])
+
+    def test_at_once_they_stand_below_each_other(self):
+        drawn = Drawn.of_plan(TASKS + "release 0 1\nrelease 0 2\nrelease 0 3\nrelease 1 1\nrelease 2 2\nrelease 3 3\n")
+        self.assertEqual([wait[0] for wait in drawn.of_kind("wait", "task", "begin")], [1, 2, 3])
+        tops = list(self.tops(drawn).values())
+        self.assertEqual(tops, sorted(set(tops)))
+        Labels().assert_apart(drawn)
+
+    def test_many_are_thin_and_all_there(self):
+        tasks = "".join(f"task {number} {number} 0 2 2 2\n" for number in range(32))
+        drawn = Drawn.of_plan(tasks + "".join(f"release {time} {number}\n" for time in (0, 1) for number in range(32)))
+        waits = drawn.elements("wait")
+        self.assertEqual(len(waits), 32)
+        boxes = sorted((top, top + height) for _, top, _, height in map(first_rect, waits))
+        for (_, bottom), (top, _) in zip(boxes, boxes[1:]):
+            self.assertLess(bottom, top)
+        self.assertLess(boxes[-1][1] - boxes[0][0], 120)
+        Labels().assert_apart(drawn)
+
+    def test_in_a_part(self):
+        """The interval 8 to 11 lies within the wait from 6 to 12, of which neither end is seen."""
+        with tempfile.TemporaryDirectory() as folder:
+            (path,) = written(folder, self.IN_TURN)
+            drawn = Drawn(picture.picture(path, first=9, last=10))
+        self.assertEqual(drawn.of_kind("wait", "task", "begin", "end"), [(1, 6, 12)])
+        (wait,), x = drawn.elements("wait"), drawn.x_by_time()
+        left, _, width, _ = first_rect(wait)
+        self.assertAlmostEqual(left, x(8), places=1)
+        self.assertAlmostEqual(left + width, x(11), places=1)
+        self.assertEqual(wait.findall(f"{SVG}path"), [])
+
+    def test_a_part_without_them(self):
+        with tempfile.TemporaryDirectory() as folder:
+            (path,) = written(folder, self.IN_TURN + "release 40 1\n")
+            drawn = Drawn(picture.picture(path, first=40, last=50))
+        self.assertEqual(drawn.elements("wait"), [])
+
+    def test_where_the_lines_end_before_the_taking(self):
+        drawn = Drawn.of_plan(TASKS + "release 0 1\nrelease 3 1\n", "I 0 2 0 - 0 - 1 1 -\nI 2 5 1 1 1 - - 0 -\n")
+        (wait,) = drawn.elements("wait")
+        self.assertEqual(wait.find(f"{SVG}title").text, "the release of task 1 at 3 waits on")
+
+
 class OtherPlans(unittest.TestCase):
     def test_a_skipped_release(self):
-        """Plan F: the release at 5 is skipped. Its line is dashed and its number struck out."""
-        drawn = Drawn.of_plan(TASKS + "release 0 1\nrelease 5 1\n")
+        """The release at 3 waits, and so that at 5 is skipped. Its line is dashed and its number struck out."""
+        drawn = Drawn.of_plan(TASKS + "release 0 1\nrelease 3 1\nrelease 5 1\n")
         self.assertEqual(drawn.of_kind("release", "time", "task"), [(0, 1)])
+        self.assertEqual(drawn.of_kind("waiting", "time", "task"), [(3, 1)])
         self.assertEqual(drawn.of_kind("skipped", "time", "task"), [(5, 1)])
-        styles = [[path.get("class") for path in drawn.elements(kind)[0].iter(f"{SVG}path")] for kind in ("release", "skipped")]
-        self.assertEqual(styles, [["line", None], ["dashed", "stop", "strike"]])
+        styles = [[path.get("class") for path in drawn.elements(kind)[0].iter(f"{SVG}path")] for kind in ("release", "waiting", "skipped")]
+        self.assertEqual(styles, [["line", None], ["line", None], ["dashed", "stop", "strike"]])
+        heads = [drawn.elements(kind)[0].findall(f"{SVG}path")[1].get("fill") for kind in ("release", "waiting")]
+        self.assertEqual(heads, ["#1a1a1a", "#ffffff"])
 
     def test_a_copy_in_cancelled_at_the_end_of_its_interval(self):
         """Plan D: interval 0 to 1, and the job that cancelled is promoted."""
@@ -352,9 +458,10 @@ class OtherPlans(unittest.TestCase):
         self.assertIn(("engine", "copy-in", 1, 25, 28, 3, "cancelled"), drawn.bars())
         self.assertEqual(drawn.of_kind("cancellation", "task", "time", "by"), [(1, 28, 2)])
 
-    def test_a_skipped_release_does_not_cancel(self):
+    def test_a_release_that_waits_or_is_skipped_does_not_cancel(self):
         tasks = "task 0 0 1 1 1 1\ntask 1 1 1 2 10 1\ntask 2 2 0 6 1 1\n"
-        drawn = Drawn.of_plan(tasks + "release 0 1\nrelease 1 2\nrelease 4 1\nrelease 6 0\n")
+        drawn = Drawn.of_plan(tasks + "release 0 1\nrelease 1 2\nrelease 3 1\nrelease 4 1\nrelease 6 0\n")
+        self.assertEqual(drawn.of_kind("waiting", "time", "task"), [(3, 1)])
         self.assertEqual(drawn.of_kind("skipped", "time", "task"), [(4, 1)])
         self.assertIn(("engine", "copy-in", 2, 2, 6, 2, "cancelled"), drawn.bars())
         self.assertEqual(drawn.of_kind("cancellation", "task", "time", "by"), [(2, 6, 0)])
@@ -378,6 +485,18 @@ class OtherPlans(unittest.TestCase):
 
     def test_one_short_phase_does_not_stretch_a_run(self):
         self.assertLess(Drawn.of_plan("task 1 1 1 1 1000000 1000000\nrelease 0 1\n").width, 1000)
+
+
+def observed_waits(data):
+    """The waits of a run as (task, begin, end), by looking at what waits in the simulator at each instant."""
+    table, releases = read_file(data)
+    dispatcher, sets, found, before = Dispatcher(dict(table)), dict(released_sets(releases)), [], {}
+    while sets or dispatcher.due() is not None:
+        now = min([*list(sets)[:1], *([] if dispatcher.due() is None else [dispatcher.due()])])
+        dispatcher.instant(now, sets.pop(now, 0))
+        found += [(task, begin, now) for task, begin in before.items() if dispatcher.waiting.get(task) != begin]
+        before = dict(dispatcher.waiting)
+    return sorted(found)
 
 
 def observed_phases(data):
@@ -404,7 +523,9 @@ class RandomRuns(unittest.TestCase):
         self.assertEqual(len(drawn.intervals()), sum(line.startswith("I") for line in lines))
         self.assertEqual(len(drawn.elements("skipped")), sum(line.startswith("S") for line in lines))
         self.assertEqual(len(drawn.elements("completion")), sum(line.startswith("J") for line in lines))
-        self.assertEqual(len(drawn.elements("release") + drawn.elements("skipped")), len(read_file(data)[1]))
+        self.assertEqual(sum(len(drawn.elements(kind)) for kind in ("release", "waiting", "skipped")), len(read_file(data)[1]))
+        self.assertEqual(sorted(drawn.of_kind("wait", "task", "begin", "end")), observed_waits(data))
+        self.assertEqual(sorted(drawn.of_kind("waiting", "task", "time")), sorted(wait[:2] for wait in drawn.of_kind("wait", "task", "begin")))
         self.assertEqual(sorted(bar[:5] for bar in drawn.bars()), observed_phases(data))
         boxes = {band.get("data-number"): first_rect(band) for band in drawn.elements("interval")}
         for bar in drawn.having("data-unit"):
@@ -440,7 +561,7 @@ class Labels(unittest.TestCase):
             self.assertTrue(left >= 0 and top >= 0 and right <= drawn.width and bottom <= drawn.height, label)
 
     def test_plans(self):
-        for name in ("a", "b"):
+        for name in ("a", "b", "f"):
             self.assert_apart(Drawn(picture.picture(str(ROOT / f"plans/{name}.plan"))))
 
     def test_long_and_crowded_runs(self):
@@ -598,6 +719,23 @@ class Command(unittest.TestCase):
                 ("J 1 3 9", "J 1 3 14", "line 5: a job's release, execution start and completion do not rise")):
             self.assertEqual(self.refused(A, LINES_A.replace(old, new)), expected)
 
+    def test_lines_that_do_not_fit_what_waits(self):
+        plan = TASKS + "release 0 1\nrelease 3 1\nrelease 5 1\n"
+        lines = ("I 0 2 0 - 0 - 1 1 -\nI 2 5 1 1 1 - - 0 -\nS 1 5\nJ 1 0 2 6 0\nI 5 8 0 - 0 1 1 1 -\nI 8 11 1 1 1 - - 0 -\nJ 1 3 8 12 0\n"
+                 "I 11 12 0 - 0 1 - 0 -\n")
+        Drawn.of_plan(plan, lines)
+        for old, new, expected in (
+                ("S 1 5", "S 1 3", "line 7: the release of task 1 at 5 is taken before the one at 3"),
+                ("S 1 5\n", "S 1 3\nS 1 5\n", "line 3: the release of task 1 at 3 is skipped, and none of its task waits"),
+                ("J 1 3 8", "J 1 5 8", "line 7: the release of task 1 at 3 is taken before the one at 5"),
+                ("J 1 3 8", "J 1 3 6", "line 7: the job starts at 6, and is taken at 6")):
+            self.assertEqual(self.refused(plan, lines.replace(old, new)), expected)
+
+    def test_lines_of_the_rule_by_which_nothing_waited(self):
+        lines = "I 0 2 0 - 0 - 1 1 -\nI 2 5 1 1 1 - - 0 -\nS 1 5\nJ 1 0 2 6 0\nI 5 6 0 - 0 1 - 0 -\n"
+        self.assertEqual(self.refused(TASKS + "release 0 1\nrelease 5 1\n", lines),
+                         "line 3: the release of task 1 at 5 is skipped, and none of its task waits")
+
     def test_other_fates_of_the_copy_in_of_plan_b(self):
         """A release on the tick on which a copy-in ends does not cancel it, and it does not stay."""
         for fate, expected in (("2", "no release cancels the copy-in of task 2 from 2 to 4"),
@@ -653,7 +791,7 @@ class Command(unittest.TestCase):
 
 class Documents(unittest.TestCase):
     def test_pictures_are_up_to_date(self):
-        for name in ("a", "b"):
+        for name in ("a", "b", "f"):
             kept = (ROOT / f"docs/plan-{name}.svg").read_text(encoding="utf-8")
             self.assertEqual(kept, picture.picture(str(ROOT / f"plans/{name}.plan")),
                              f"python3 tools/picture.py plans/{name}.plan > docs/plan-{name}.svg makes it anew")
@@ -665,9 +803,9 @@ class Documents(unittest.TestCase):
         self.assertEqual(text(self.lines("a")), LINES_A)
 
     def test_lines_in_the_readme(self):
-        """All of plan A, and of plan B those that are not plan A's."""
+        """All of plans A and F, and of plan B those that are not plan A's."""
         readme, lines_a = (ROOT / "README.md").read_text(encoding="utf-8"), self.lines("a")
-        for lines in (lines_a, [line for line in self.lines("b") if line not in lines_a]):
+        for lines in (lines_a, [line for line in self.lines("b") if line not in lines_a], self.lines("f")):
             self.assertIn("\n\n" + "".join(f"    {line}\n" for line in lines) + "\n", readme)
 
 

@@ -2,10 +2,10 @@
 use Rattle.dispatcher.specs.Types.{ℕ, _≡_, State, Dispatcher, Answer, Step, MarkStep, Opening}
 use Rattle.rules.specs.Calls as rules
 use Rattle.rules.specs.Answers.{answer-number, answer-values, mark-number}
-use Rattle.rules.specs.Registers.{arrays, Memory, state-in}
+use Rattle.rules.specs.Registers.{arrays, waits, Memory, state-in}
 
 abbrev pub memory-of : Dispatcher → Memory
-memory-of d = record { table = d .table; clock = d .clock; arrays = arrays (d .release) (d .blocked) }
+memory-of d = record { table = d .table; clock = d .clock; arrays = arrays (d .release) (d .blocked); waiting = waits (d .waiting) (d .waits) }
 
 abbrev pub state-of : Dispatcher → State
 state-of d = state-in (memory-of d) (d .registers)

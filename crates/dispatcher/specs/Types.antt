@@ -1,5 +1,5 @@
 -- The names that the definitions and the proofs share. Those that lower crates declare are passed on to the crates above.
-pub use Rattle.rules.specs.Types.{Table, Jobs, Processor, Idle, CopyingIn, Executing, Finished, CopyOut, NoCopyOut, CopyingOut, CopiedOut, CopyIn, Unchosen, NoneChosen, Copying, Loaded, Cancelled, Interval, Next, NoneNext, LoadedNext, PromotedNext, Outgoing, NoneOutgoing, AwaitsCopyOut, Phase, Between, Within, State, Stage, MaybeTask, NoTask, Task, JobEntry, IntervalEntry, Refusal, NoRefusal, Alone, AtEntry, TaskPart}
+pub use Rattle.rules.specs.Types.{Table, Jobs, WaitingReleases, Processor, Idle, CopyingIn, Executing, Finished, CopyOut, NoCopyOut, CopyingOut, CopiedOut, CopyIn, Unchosen, NoneChosen, Copying, Loaded, Cancelled, Interval, Next, NoneNext, LoadedNext, PromotedNext, Outgoing, NoneOutgoing, AwaitsCopyOut, Phase, Between, Within, State, Stage, MaybeTask, NoTask, Task, JobEntry, IntervalEntry, Refusal, NoRefusal, Alone, AtEntry, TaskPart}
 pub use Rattle.rules.specs.declared.Clock.{Clock}
 pub use Rattle.rules.specs.declared.Clock.the-variants.{Unset, At}
 pub use Rattle.rules.specs.declared.Registers.{Registers}

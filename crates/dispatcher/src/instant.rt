@@ -22,13 +22,16 @@ use rules::interval_entry;
 use rules::is_over;
 use rules::promoted;
 use rules::steps_c_d;
+use rules::to_defer;
+use rules::to_skip;
+use rules::to_take;
 use table::Columns;
 ghost use mathlib.Core.Path.{_≡_};
 ghost use mathlib.Core.Bool.{not, _&&_};
 ghost use lib.Dec.{eqb, ltb};
 ghost use Rattle.rules.specs.Calls as calls;
 ghost use Rattle.rules.specs.Instant as instant;
-ghost use Rattle.rules.specs.Registers.{arrays, phase-in};
+ghost use Rattle.rules.specs.Registers.{arrays, waits as waiting-releases, phase-in};
 ghost use Rattle.dispatcher.specs.Dispatcher.{state-of, step-of, Answers};
 ghost use Rattle.dispatcher.specs.Promises.{Refuses, StepsAB, StepsCToF, StepsAToG};
 
@@ -116,20 +119,24 @@ pub fn steps_a_b(
     }
 }
 
-// Steps c to f, with the tasks whose release is taken: what is left, and the interval that ends after the releases.
+// Steps c to f, with the tasks whose release is taken and those whose release waits: what is left, and the interval that ends after the
+// releases.
 pub fn steps_c_to_f(
     r: Registers,
     t: u64,
     new: u32,
+    late: u32,
     present: u32,
     priority: &[u8; 32],
     columns: &Columns,
     release: &mut [u64; 32],
     blocked: &mut [u8; 32],
+    waiting: &mut u32,
+    waits: &mut [u64; 32],
 ) -> Tested
-    ensures { λ x. ⌜ StepsCToF r t new present (now (priority .entry)) (now (columns .entry)) (arrays (now (release .entry)) (now (blocked .entry))) (arrays (now (release .exit)) (now (blocked .exit))) x ⌝ }
+    ensures { λ x. ⌜ StepsCToF r t new late present (now (priority .entry)) (now (columns .entry)) (arrays (now (release .entry)) (now (blocked .entry))) (waiting-releases (now (waiting .entry)) (now (waits .entry))) (arrays (now (release .exit)) (now (blocked .exit))) (waiting-releases (now (waiting .exit)) (now (waits .exit))) x ⌝ }
 {
-    let d = steps_c_d(r, t, new, priority, release, blocked);
+    let d = steps_c_d(r, t, new, late, priority, release, blocked, waiting, waits);
     let e = chosen(d, t, priority, columns);
     if is_over(e) {
         let p = promoted(e, priority);
@@ -155,16 +162,31 @@ fn steps_a_to_g<'a>(
     columns: &'a Columns,
     release: &mut [u64; 32],
     blocked: &mut [u8; 32],
+    waiting: &mut u32,
+    waits: &mut [u64; 32],
 ) -> Stepped
-    ensures { λ x. ⌜ StepsAToG r t set present (now (priority .entry)) (now (columns .entry)) (arrays (now (release .entry)) (now (blocked .entry))) (arrays (now (release .exit)) (now (blocked .exit))) x ⌝ }
+    ensures { λ x. ⌜ StepsAToG r t set present (now (priority .entry)) (now (columns .entry)) (arrays (now (release .entry)) (now (blocked .entry))) (waiting-releases (now (waiting .entry)) (now (waits .entry))) (arrays (now (release .exit)) (now (blocked .exit))) (waiting-releases (now (waiting .exit)) (now (waits .exit))) x ⌝ }
 {
     let done = completed(r, t, release, blocked);
     let b = steps_a_b(r, t, present, priority, columns, blocked);
     let first = b.closed;
     let open = b.registers;
-    let new = sets::difference(set, open.pending);
-    let skipped = sets::intersection(set, open.pending);
-    let f = steps_c_to_f(open, t, new, present, priority, columns, release, blocked);
+    let new = to_take(set, open.pending, *waiting);
+    let late = to_defer(set, open.pending, *waiting);
+    let skipped = to_skip(set, open.pending, *waiting);
+    let f = steps_c_to_f(
+        open,
+        t,
+        new,
+        late,
+        present,
+        priority,
+        columns,
+        release,
+        blocked,
+        waiting,
+        waits,
+    );
     let last = f.closed;
     let left = f.registers;
     let held = held_over(open, new);
@@ -187,6 +209,8 @@ fn served(d: Dispatcher, t: u64, set: u32) -> Step
 {
     let mut release = d.release;
     let mut blocked = d.blocked;
+    let mut waiting = d.waiting;
+    let mut waits = d.waits;
     let x = steps_a_to_g(
         d.registers,
         t,
@@ -196,6 +220,8 @@ fn served(d: Dispatcher, t: u64, set: u32) -> Step
         &d.table.columns,
         &mut release,
         &mut blocked,
+        &mut waiting,
+        &mut waits,
     );
     let registers = x.registers;
     let occurred = x.occurred;
@@ -205,6 +231,8 @@ fn served(d: Dispatcher, t: u64, set: u32) -> Step
             clock: Clock::At(t),
             release,
             blocked,
+            waiting,
+            waits,
             registers,
         },
         answer: Answer::Served(occurred),

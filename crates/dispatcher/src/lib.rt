@@ -19,12 +19,14 @@ use table::Refusal;
 use table::Table;
 
 // The state of the rules as an instant has it: the arrays by task stand beside the registers, so that nothing is taken apart or put
-// together from call to call.
+// together from call to call. `waits` has the times of the waiting releases, and `waiting` the tasks that have one.
 pub struct Dispatcher {
     pub table: Table,
     pub clock: Clock,
     pub release: [u64; 32],
     pub blocked: [u8; 32],
+    pub waiting: u32,
+    pub waits: [u64; 32],
     pub registers: Registers,
 }
 

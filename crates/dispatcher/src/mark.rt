@@ -12,8 +12,8 @@ ghost use Rattle.dispatcher.specs.Dispatcher.{state-of, MarkAnswers};
 ghost use Rattle.dispatcher.specs.Promises.{MarkRefuses};
 
 // 16, 6, 17, in this order; 0 is none.
-pub fn mark_refusal(present: u32, pending: u32, task: u8, mark: u8) -> u8
-    ensures { λ r. ⌜ MarkRefuses present pending task mark r ⌝ }
+pub fn mark_refusal(present: u32, pending: u32, waiting: u32, task: u8, mark: u8) -> u8
+    ensures { λ r. ⌜ MarkRefuses present pending waiting task mark r ⌝ }
 {
     if !sets::contains(present, task) {
         return 16;
@@ -21,7 +21,7 @@ pub fn mark_refusal(present: u32, pending: u32, task: u8, mark: u8) -> u8
     if mark > 1 {
         return 6;
     }
-    if sets::contains(pending, task) {
+    if sets::contains(sets::union(pending, waiting), task) {
         return 17;
     }
     0
@@ -47,11 +47,17 @@ fn with_mark(d: Dispatcher, task: u8, mark: u8) -> Dispatcher
 }
 
 impl Dispatcher {
-    // A mark call: one task's mark, while it has no pending job.
+    // A mark call: one task's mark, while it has no pending job and no waiting release.
     pub fn mark(self, task: u8, mark: u8) -> MarkStep
         ensures { λ r. ⌜ MarkAnswers self task mark r ⌝ }
     {
-        let number = mark_refusal(self.table.present, self.registers.pending, task, mark);
+        let number = mark_refusal(
+            self.table.present,
+            self.registers.pending,
+            self.waiting,
+            task,
+            mark,
+        );
         if number == 0 {
             return MarkStep {
                 state: with_mark(self, task, mark),

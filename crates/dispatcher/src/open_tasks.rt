@@ -8,7 +8,7 @@ ghost use mathlib.Core.Path.{_≡_};
 ghost use Rattle.rules.specs.Calls as calls;
 ghost use Rattle.dispatcher.specs.Dispatcher.{state-of, opening-of};
 
-// No task has a job, and the first interval gives the processor half 0.
+// No task has a job, no release waits, and the first interval gives the processor half 0.
 pub fn opened(table: Table, marked: u32) -> Dispatcher
     ensures { λ r. ⌜ state-of r ≡ calls.opened table marked ⌝ }
 {
@@ -17,6 +17,8 @@ pub fn opened(table: Table, marked: u32) -> Dispatcher
         clock: Clock::Unset,
         release: [0; 32],
         blocked: [0; 32],
+        waiting: 0,
+        waits: [0; 32],
         registers: rules::empty(marked),
     }
 }

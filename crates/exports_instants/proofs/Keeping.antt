@@ -9,22 +9,22 @@ use Rattle.table.specs.Refusals.{refusal-number, refusal-place}
 use Rattle.guarantees.specs.Claim.{Claim, OpenedWithClaim}
 use Rattle.dispatcher.specs.declared.Opening.{Opening}
 use Rattle.dispatcher.specs.Dispatcher.{state-of}
-use Rattle.dispatcher.specs.Types.{Refusal, NoRefusal, Alone, AtEntry, List, ℕ, State, Registers, Clock, Unset, At, Occurred, Due, Answer, Served}
+use Rattle.dispatcher.specs.Types.{Refusal, NoRefusal, Alone, AtEntry, List, ℕ, State, WaitingReleases, Registers, Clock, Unset, At, Occurred, Due, Answer, Served}
 use Rattle.rules.specs.Instant.{at-g, occurred, due}
 use Rattle.rules.specs.Calls as calls
 use Rattle.rules.specs.Calls.{refusal, instant, served, mark-refusal, mark, opening}
-use Rattle.rules.specs.Registers.{Arrays, arrays, Memory, with-arrays, at-tick, interval-in, phase-in, state-in}
+use Rattle.rules.specs.Registers.{Arrays, arrays, Memory, with-kept, at-tick, interval-in, phase-in, state-in}
 use Rattle.sets.specs.Sets.{insert, remove}
 use Rattle.exports_instants.specs.declared.Left.{Left}
 use Rattle.exports_instants.specs.Stored.{Stored, stored, registers-in, clock-in, memory-in, kept, times-of, sets-of, codes-of, Told, tells, told, due-number, due-after}
 use Rattle.exports_instants.specs.Promises.{Occurrences, occurrences, LeftTo, Answered, MarkedIn, with-sets, OpenedAt}
 
 -- what is put is what is kept
-pub kept-put : {times sets codes : List ℕ} (r : Registers) (m : Memory) (last timed : ℕ) → times ≡ times-of r last → sets ≡ sets-of r (m .table .present) → codes ≡ codes-of r timed
+pub kept-put : {times sets codes : List ℕ} (r : Registers) (m : Memory) (last timed : ℕ) → times ≡ times-of r last → sets ≡ sets-of r (m .table .present) (m .waiting .tasks) → codes ≡ codes-of r timed
     → cond (eqb timed 0) Unset (At last) ≡ m .clock
-    → kept (stored times sets codes (m .table .priority) (m .table .columns) (m .arrays .release) (m .arrays .blocked)) ≡ state-in m r
+    → kept (stored times sets codes (m .table .priority) (m .table .columns) (m .arrays .release) (m .arrays .blocked) (m .waiting .times)) ≡ state-in m r
 kept-put r m last timed p q s h =
-    rw (p, q, s) (ap (λ (clock : Clock). state-in (record { table = m .table; clock = clock; arrays = m .arrays }) r) h)
+    rw (p, q, s) (ap (λ (clock : Clock). state-in (record { table = m .table; clock = clock; arrays = m .arrays; waiting = m .waiting }) r) h)
 
 -- a call that is refused
 pub refused-at : (s : Stored) (t set : ℕ) (before : Told) (number : ℕ) → number ≡ refusal (kept s) t set → (number ≡ 0 → ⊥) → Answered s t set before number s before
@@ -61,16 +61,16 @@ told-parts o before a b c d e f g = rw (a, b, c, d, e, f, g)
 
 -- an instant that is served, of what its parts left
 pub instant-at : (s : Stored) (t set : ℕ) (before : Told) (number : ℕ) → number ≡ refusal (kept s) t set → number ≡ 0
-    → (r : Registers) → r ≡ registers-in (s .times) (s .sets) (s .codes) → (a : Arrays) (x : Left) (skipped : ℕ) (after : Occurrences)
-    → LeftTo (state-in (memory-in s) r) t set (with-arrays (memory-in s) a) x skipped (occurrences (before .job-times) (before .job-bytes) (before .interval-times) (before .interval-bytes)) after
-    → {times sets codes : List ℕ} → times ≡ times-of (x .registers) t → sets ≡ sets-of (x .registers) (getD (s .sets) 4 0) → codes ≡ codes-of (x .registers) 1
+    → (r : Registers) → r ≡ registers-in (s .times) (s .sets) (s .codes) → (a : Arrays) (w : WaitingReleases) (x : Left) (skipped : ℕ) (after : Occurrences)
+    → LeftTo (state-in (memory-in s) r) t set (with-kept (memory-in s) a w) x skipped (occurrences (before .job-times) (before .job-bytes) (before .interval-times) (before .interval-bytes)) after
+    → {times sets codes : List ℕ} → times ≡ times-of (x .registers) t → sets ≡ sets-of (x .registers) (getD (s .sets) 4 0) (w .tasks) → codes ≡ codes-of (x .registers) 1
     → (next : Due) {is-due due′ : ℕ} → next ≡ due (phase-in (x .registers)) → is-due ≡ due-number next → due′ ≡ due-after next (before .due)
-    → Answered s t set before 0 (stored times sets codes (s .priority) (s .columns) (a .release) (a .blocked))
+    → Answered s t set before 0 (stored times sets codes (s .priority) (s .columns) (a .release) (a .blocked) (w .times))
     (tells (x .done ∷ x .closed ∷ is-due ∷ []) skipped due′ (after .job-times) (after .job-bytes) (after .interval-times) (after .interval-bytes))
-instant-at s t set before number n none r is a x skipped after left p q k next h i j =
+instant-at s t set before number n none r is a w x skipped after left p q k next h i j =
     let d = kept s in
-    let m = at-tick (with-arrays (memory-in s) a) t in
-    let l = subst (λ (z : Registers). LeftTo (state-in (memory-in s) z) t set (with-arrays (memory-in s) a) x skipped (occurrences (before .job-times) (before .job-bytes) (before .interval-times) (before .interval-bytes)) after) is left in
+    let m = at-tick (with-kept (memory-in s) a w) t in
+    let l = subst (λ (z : Registers). LeftTo (state-in (memory-in s) z) t set (with-kept (memory-in s) a w) x skipped (occurrences (before .job-times) (before .job-bytes) (before .interval-times) (before .interval-bytes)) after) is left in
     let u = due-is d t set m (x .registers) (l .state-is) h in
     served-at s t set before number _ _ n none
     (kept-put (x .registers) m t 1 p q k refl ∙ l .state-is)
@@ -85,7 +85,7 @@ mark-refused s n m number e some = record { number-is = e; state-is = simp (← 
 
 pub mark-served : (s : Stored) (n m number marked : ℕ) → number ≡ mark-refusal (kept s) n m → number ≡ 0
     → marked ≡ cond (eqb m 1) (insert n (getD (s .sets) 0 0)) (remove n (getD (s .sets) 0 0))
-    → MarkedIn s n m 0 (with-sets s (marked ∷ getD (s .sets) 1 0 ∷ getD (s .sets) 2 0 ∷ getD (s .sets) 3 0 ∷ getD (s .sets) 4 0 ∷ []))
+    → MarkedIn s n m 0 (with-sets s (marked ∷ getD (s .sets) 1 0 ∷ getD (s .sets) 2 0 ∷ getD (s .sets) 3 0 ∷ getD (s .sets) 4 0 ∷ getD (s .sets) 5 0 ∷ []))
 unfolding mark state-in phase-in interval-in
 mark-served s n m number marked e none h = record {
   number-is = sym none ∙ e;

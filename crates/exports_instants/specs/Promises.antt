@@ -1,9 +1,9 @@
 -- What the calls on a dispatcher that C or Rust keeps promise: the rules' outcome, of the states that are read before and after; a refused call
 -- leaves what is kept, and what was told before, as it was.
-use Rattle.dispatcher.specs.Types.{List, ℕ, _≡_, State, Registers, Closed, Call, NoRefusal}
+use Rattle.dispatcher.specs.Types.{List, ℕ, _≡_, State, WaitingReleases, Registers, Closed, Call, NoRefusal}
 use Rattle.exports_instants.specs.declared.Left.{Left}
 use Rattle.rules.specs.Instant.{closing, at-g, occurred}
-use Rattle.rules.specs.Registers.{Arrays, Memory, with-arrays, at-tick, state-in}
+use Rattle.rules.specs.Registers.{Arrays, Memory, with-kept, at-tick, state-in}
 use Rattle.rules.specs.Calls.{refusal, instant, mark-refusal, mark, opening}
 use Rattle.table.specs.Refusals.{refusal-number, refusal-place}
 use Rattle.guarantees.specs.Claim.{Claim}
@@ -18,7 +18,7 @@ pub record Answered (s : Stored) (t set : ℕ) (before : Told) (number : ℕ) (s
 
 -- a mark call is lent the sets alone: whatever stands beside them
 abbrev pub with-sets : Stored → List ℕ → Stored
-with-sets s sets = stored (s .times) sets (s .codes) (s .priority) (s .columns) (s .release) (s .blocked)
+with-sets s sets = stored (s .times) sets (s .codes) (s .priority) (s .columns) (s .release) (s .blocked) (s .waits)
 
 pub record MarkedIn (s : Stored) (n m number : ℕ) (s′ : Stored) : Type 0 where
   pub number-is : number ≡ mark-refusal (kept s) n m
@@ -73,7 +73,7 @@ pub record LeftTo (d : State) (t set : ℕ) (m : Memory) (x : Left) (skipped : �
   pub interval-times-is : after .interval-times ≡ closing-times (occurred d t set .closed) (before .interval-times)
   pub interval-bytes-is : after .interval-bytes ≡ closing-bytes (occurred d t set .closed) (before .interval-bytes)
 
-abbrev pub StepsTold : Registers → ℕ → ℕ → ℕ → List ℕ → List ℕ → Arrays → Arrays → Left → ℕ → Occurrences → Occurrences → Type 0
-StepsTold r t set present priority columns a a′ x skipped before after =
+abbrev pub StepsTold : Registers → ℕ → ℕ → ℕ → List ℕ → List ℕ → Arrays → WaitingReleases → Arrays → WaitingReleases → Left → ℕ → Occurrences → Occurrences → Type 0
+StepsTold r t set present priority columns a w a′ w′ x skipped before after =
     (m : Memory) → m .table .present ≡ present → m .table .priority ≡ priority → m .table .columns ≡ columns
-    → LeftTo (state-in (with-arrays m a) r) t set (with-arrays m a′) x skipped before after
+    → LeftTo (state-in (with-kept m a w) r) t set (with-kept m a′ w′) x skipped before after

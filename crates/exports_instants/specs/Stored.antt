@@ -5,7 +5,7 @@ use mathlib.Core.List.{[], _∷_}
 use lib.Dec.{eqb}
 use lib.ListN.{getD}
 use Rattle.entries.specs.Entries.{choice-bytes}
-use Rattle.rules.specs.Registers.{arrays, Memory, state-in}
+use Rattle.rules.specs.Registers.{arrays, waits as waiting-releases, Memory, state-in}
 
 -- ---- The state
 
@@ -17,9 +17,10 @@ pub record Stored : Type 0 where
   pub columns : List ℕ
   pub release : List ℕ
   pub blocked : List ℕ
+  pub waits : List ℕ
 
-abbrev pub stored : List ℕ → List ℕ → List ℕ → List ℕ → List ℕ → List ℕ → List ℕ → Stored
-stored times sets codes priority columns release blocked = record {
+abbrev pub stored : List ℕ → List ℕ → List ℕ → List ℕ → List ℕ → List ℕ → List ℕ → List ℕ → Stored
+stored times sets codes priority columns release blocked waits = record {
   times = times;
   sets = sets;
   codes = codes;
@@ -27,6 +28,7 @@ stored times sets codes priority columns release blocked = record {
   columns = columns;
   release = release;
   blocked = blocked;
+  waits = waits;
 }
 
 abbrev pub registers-in : List ℕ → List ℕ → List ℕ → Registers
@@ -60,18 +62,19 @@ memory-in s = record {
   table = record { present = getD (s .sets) 4 0; priority = s .priority; columns = s .columns };
   clock = clock-in (s .times) (s .codes);
   arrays = arrays (s .release) (s .blocked);
+  waiting = waiting-releases (getD (s .sets) 5 0) (s .waits);
 }
 
 -- the state that is kept
 abbrev pub kept : Stored → State
 kept s = state-in (memory-in s) (registers-in (s .times) (s .sets) (s .codes))
 
--- the arrays of a state's registers, of the tasks that there are and of the time of the last instant
+-- the arrays of a state's registers, of the tasks that there are, of those whose release waits and of the time of the last instant
 abbrev pub times-of : Registers → ℕ → List ℕ
 times-of r last = r .begin ∷ r .start ∷ r .until ∷ r .outstart ∷ r .outuntil ∷ r .inuntil ∷ last ∷ []
 
-abbrev pub sets-of : Registers → ℕ → List ℕ
-sets-of r present = r .marked ∷ r .pending ∷ r .ready ∷ r .candidates ∷ present ∷ []
+abbrev pub sets-of : Registers → ℕ → ℕ → List ℕ
+sets-of r present waiting = r .marked ∷ r .pending ∷ r .ready ∷ r .candidates ∷ present ∷ waiting ∷ []
 
 abbrev pub codes-of : Registers → ℕ → List ℕ
 codes-of r timed = r .half ∷ r .work ∷ r .processor ∷ r .task ∷ r .copyout ∷ r .outtask ∷ r .copyin ∷ r .intask ∷ timed ∷ []

@@ -14,12 +14,12 @@ use table::Refusal;
 ghost use mathlib.Core.Path.{_≡_};
 ghost use Rattle.entries.specs.Entries.{task-byte, choice-bytes};
 ghost use Rattle.exports_instants.specs.Stored as stored;
-ghost use Rattle.rules.specs.Registers.{arrays};
+ghost use Rattle.rules.specs.Registers.{arrays, waits as waiting-releases};
 ghost use Rattle.dispatcher.specs.Dispatcher.{state-of};
 ghost use Rattle.exports_instants.specs.Promises.{Answered, Marked, OpenedAt, PutsLast, occurrences, StepsTold};
 
 // The registers as they are kept.
-fn registers_in(times: &[u64; 7], sets: &[u32; 5], codes: &[u8; 9]) -> Registers
+fn registers_in(times: &[u64; 7], sets: &[u32; 6], codes: &[u8; 9]) -> Registers
     ensures { λ r. ⌜ r ≡ stored.registers-in (now (times .entry)) (now (sets .entry)) (now (codes .entry)) ⌝ }
 {
     Registers {
@@ -59,12 +59,13 @@ fn put_registers(
     last: u64,
     timed: u8,
     present: u32,
+    waiting: u32,
     times: &mut [u64; 7],
-    sets: &mut [u32; 5],
+    sets: &mut [u32; 6],
     codes: &mut [u8; 9],
 )
     ensures { λ _. ⌜ now (times .exit) ≡ stored.times-of r last ⌝ }
-    ensures { λ _. ⌜ now (sets .exit) ≡ stored.sets-of r present ⌝ }
+    ensures { λ _. ⌜ now (sets .exit) ≡ stored.sets-of r present waiting ⌝ }
     ensures { λ _. ⌜ now (codes .exit) ≡ stored.codes-of r timed ⌝ }
 {
     *times = [
@@ -76,7 +77,7 @@ fn put_registers(
         r.inuntil,
         last,
     ];
-    *sets = [r.marked, r.pending, r.ready, r.candidates, present];
+    *sets = [r.marked, r.pending, r.ready, r.candidates, present, waiting];
     *codes = [
         r.half,
         r.work,
@@ -197,22 +198,37 @@ fn steps(
     columns: &[u32; 96],
     release: &mut [u64; 32],
     blocked: &mut [u8; 32],
+    waiting: &mut u32,
+    waits: &mut [u64; 32],
     skipped: &mut u32,
     jobtimes: &mut [u64; 3],
     jobbytes: &mut [u8; 2],
     spantimes: &mut [u64; 2],
     spanbytes: &mut [u8; 7],
 ) -> Left
-    ensures { λ x. ⌜ StepsTold r t set present (now (priority .entry)) (now (columns .entry)) (arrays (now (release .entry)) (now (blocked .entry))) (arrays (now (release .exit)) (now (blocked .exit))) x (now (skipped .exit)) (occurrences (now (jobtimes .entry)) (now (jobbytes .entry)) (now (spantimes .entry)) (now (spanbytes .entry))) (occurrences (now (jobtimes .exit)) (now (jobbytes .exit)) (now (spantimes .exit)) (now (spanbytes .exit))) ⌝ }
+    ensures { λ x. ⌜ StepsTold r t set present (now (priority .entry)) (now (columns .entry)) (arrays (now (release .entry)) (now (blocked .entry))) (waiting-releases (now (waiting .entry)) (now (waits .entry))) (arrays (now (release .exit)) (now (blocked .exit))) (waiting-releases (now (waiting .exit)) (now (waits .exit))) x (now (skipped .exit)) (occurrences (now (jobtimes .entry)) (now (jobbytes .entry)) (now (spantimes .entry)) (now (spanbytes .entry))) (occurrences (now (jobtimes .exit)) (now (jobbytes .exit)) (now (spantimes .exit)) (now (spanbytes .exit))) ⌝ }
 {
     let done = put_job(rules::completed(r, t, release, blocked), jobtimes, jobbytes);
     let b = dispatcher::steps_a_b(r, t, present, priority, columns, blocked);
     let before = b.closed;
     let first = put_first(before, spantimes, spanbytes);
     let open = b.registers;
-    let new = sets::difference(set, open.pending);
-    *skipped = sets::intersection(set, open.pending);
-    let f = dispatcher::steps_c_to_f(open, t, new, present, priority, columns, release, blocked);
+    let new = rules::to_take(set, open.pending, *waiting);
+    let late = rules::to_defer(set, open.pending, *waiting);
+    *skipped = rules::to_skip(set, open.pending, *waiting);
+    let f = dispatcher::steps_c_to_f(
+        open,
+        t,
+        new,
+        late,
+        present,
+        priority,
+        columns,
+        release,
+        blocked,
+        waiting,
+        waits,
+    );
     let after = f.closed;
     let closed = put_last(first, after, spantimes, spanbytes);
     let left = f.registers;
@@ -225,16 +241,17 @@ fn steps(
     }
 }
 
-// An instant of the dispatcher that the first seven arrays keep: 0 and what occurred in the rest, or the number of the refusal.
+// An instant of the dispatcher that the first eight arrays keep: 0 and what occurred in the rest, or the number of the refusal.
 #[no_mangle]
 pub extern "C" fn gateway_instant_parts(
     times: &mut [u64; 7],
-    sets: &mut [u32; 5],
+    sets: &mut [u32; 6],
     codes: &mut [u8; 9],
     priority: &[u8; 32],
     columns: &[u32; 96],
     release: &mut [u64; 32],
     blocked: &mut [u8; 32],
+    waits: &mut [u64; 32],
     time: u64,
     set: u32,
     flags: &mut [u8; 3],
@@ -245,7 +262,7 @@ pub extern "C" fn gateway_instant_parts(
     spantimes: &mut [u64; 2],
     spanbytes: &mut [u8; 7],
 ) -> u8
-    ensures { λ r. ⌜ Answered (stored.stored (now (times .entry)) (now (sets .entry)) (now (codes .entry)) (now (priority .entry)) (now (columns .entry)) (now (release .entry)) (now (blocked .entry))) time set (stored.tells (now (flags .entry)) (now (skipped .entry)) (now (due .entry)) (now (jobtimes .entry)) (now (jobbytes .entry)) (now (spantimes .entry)) (now (spanbytes .entry))) r (stored.stored (now (times .exit)) (now (sets .exit)) (now (codes .exit)) (now (priority .entry)) (now (columns .entry)) (now (release .exit)) (now (blocked .exit))) (stored.tells (now (flags .exit)) (now (skipped .exit)) (now (due .exit)) (now (jobtimes .exit)) (now (jobbytes .exit)) (now (spantimes .exit)) (now (spanbytes .exit))) ⌝ }
+    ensures { λ r. ⌜ Answered (stored.stored (now (times .entry)) (now (sets .entry)) (now (codes .entry)) (now (priority .entry)) (now (columns .entry)) (now (release .entry)) (now (blocked .entry)) (now (waits .entry))) time set (stored.tells (now (flags .entry)) (now (skipped .entry)) (now (due .entry)) (now (jobtimes .entry)) (now (jobbytes .entry)) (now (spantimes .entry)) (now (spanbytes .entry))) r (stored.stored (now (times .exit)) (now (sets .exit)) (now (codes .exit)) (now (priority .entry)) (now (columns .entry)) (now (release .exit)) (now (blocked .exit)) (now (waits .exit))) (stored.tells (now (flags .exit)) (now (skipped .exit)) (now (due .exit)) (now (jobtimes .exit)) (now (jobbytes .exit)) (now (spantimes .exit)) (now (spanbytes .exit))) ⌝ }
 {
     let r = registers_in(times, sets, codes);
     let clock = clock_in(times, codes);
@@ -254,6 +271,7 @@ pub extern "C" fn gateway_instant_parts(
     if number != 0 {
         return number;
     }
+    let mut waiting = sets[5];
     let x = steps(
         r,
         time,
@@ -263,13 +281,15 @@ pub extern "C" fn gateway_instant_parts(
         columns,
         release,
         blocked,
+        &mut waiting,
+        waits,
         skipped,
         jobtimes,
         jobbytes,
         spantimes,
         spanbytes,
     );
-    put_registers(x.registers, time, 1, present, times, sets, codes);
+    put_registers(x.registers, time, 1, present, waiting, times, sets, codes);
     let next = put_due(rules::due_time(x.registers), due);
     *flags = [x.done, x.closed, next];
     0
@@ -277,17 +297,18 @@ pub extern "C" fn gateway_instant_parts(
 
 // A mark call on the dispatcher whose sets are lent: 0, or the number of the refusal.
 #[no_mangle]
-pub extern "C" fn gateway_mark_parts(sets: &mut [u32; 5], task: u8, mark: u8) -> u8
+pub extern "C" fn gateway_mark_parts(sets: &mut [u32; 6], task: u8, mark: u8) -> u8
     ensures { λ r. ⌜ Marked (now (sets .entry)) task mark r (now (sets .exit)) ⌝ }
 {
     let pending = sets[1];
     let present = sets[4];
-    let number = dispatcher::mark_refusal(present, pending, task, mark);
+    let waiting = sets[5];
+    let number = dispatcher::mark_refusal(present, pending, waiting, task, mark);
     if number != 0 {
         return number;
     }
     let marked = dispatcher::marked_with(sets[0], task, mark);
-    *sets = [marked, pending, sets[2], sets[3], present];
+    *sets = [marked, pending, sets[2], sets[3], present, waiting];
     0
 }
 
@@ -295,14 +316,15 @@ pub extern "C" fn gateway_mark_parts(sets: &mut [u32; 5], task: u8, mark: u8) ->
 fn put_state(
     d: Dispatcher,
     times: &mut [u64; 7],
-    sets: &mut [u32; 5],
+    sets: &mut [u32; 6],
     codes: &mut [u8; 9],
     priority: &mut [u8; 32],
     columns: &mut [u32; 96],
     release: &mut [u64; 32],
     blocked: &mut [u8; 32],
+    waits: &mut [u64; 32],
 )
-    ensures { λ _. ⌜ stored.kept (stored.stored (now (times .exit)) (now (sets .exit)) (now (codes .exit)) (now (priority .exit)) (now (columns .exit)) (now (release .exit)) (now (blocked .exit))) ≡ state-of d ⌝ }
+    ensures { λ _. ⌜ stored.kept (stored.stored (now (times .exit)) (now (sets .exit)) (now (codes .exit)) (now (priority .exit)) (now (columns .exit)) (now (release .exit)) (now (blocked .exit)) (now (waits .exit))) ≡ state-of d ⌝ }
 {
     let clock = d.clock;
     let present = d.table.present;
@@ -310,13 +332,25 @@ fn put_state(
     let lengths = d.table.columns;
     let released = d.release;
     let counts = d.blocked;
+    let waiting = d.waiting;
+    let originals = d.waits;
     *priority = ranks;
     *columns = lengths;
     *release = released;
     *blocked = counts;
+    *waits = originals;
     match clock {
-        Clock::Unset => put_registers(d.registers, 0, 0, present, times, sets, codes),
-        Clock::At(last) => put_registers(d.registers, last, 1, present, times, sets, codes),
+        Clock::Unset => put_registers(d.registers, 0, 0, present, waiting, times, sets, codes),
+        Clock::At(last) => put_registers(
+            d.registers,
+            last,
+            1,
+            present,
+            waiting,
+            times,
+            sets,
+            codes,
+        ),
     }
 }
 
@@ -325,15 +359,16 @@ fn put_state(
 pub extern "C" fn gateway_open_parts(
     entries: &[u8],
     times: &mut [u64; 7],
-    sets: &mut [u32; 5],
+    sets: &mut [u32; 6],
     codes: &mut [u8; 9],
     priority: &mut [u8; 32],
     columns: &mut [u32; 96],
     release: &mut [u64; 32],
     blocked: &mut [u8; 32],
+    waits: &mut [u64; 32],
     place: &mut usize,
 ) -> u8
-    ensures { λ r. ⌜ OpenedAt (now (entries .entry)) (stored.stored (now (times .entry)) (now (sets .entry)) (now (codes .entry)) (now (priority .entry)) (now (columns .entry)) (now (release .entry)) (now (blocked .entry))) r (now (place .exit)) (stored.stored (now (times .exit)) (now (sets .exit)) (now (codes .exit)) (now (priority .exit)) (now (columns .exit)) (now (release .exit)) (now (blocked .exit))) ⌝ }
+    ensures { λ r. ⌜ OpenedAt (now (entries .entry)) (stored.stored (now (times .entry)) (now (sets .entry)) (now (codes .entry)) (now (priority .entry)) (now (columns .entry)) (now (release .entry)) (now (blocked .entry)) (now (waits .entry))) r (now (place .exit)) (stored.stored (now (times .exit)) (now (sets .exit)) (now (codes .exit)) (now (priority .exit)) (now (columns .exit)) (now (release .exit)) (now (blocked .exit)) (now (waits .exit))) ⌝ }
 {
     let opening = guarantees::open(entries);
     let refusal = opening.refusal;
@@ -350,6 +385,7 @@ pub extern "C" fn gateway_open_parts(
                 columns,
                 release,
                 blocked,
+                waits,
             );
             0
         }

@@ -68,6 +68,8 @@ fn print_run(input: &[u8], part: TaskPart, out: &mut [u8])
 {
     let mut release = [0u64; 32];
     let mut blocked = [0u8; 32];
+    let mut waiting: u32 = 0;
+    let mut waits = [0u64; 32];
     let mut entries = [0u8; run::MOST];
     let mut r = rules::empty(part.marked);
     let mut at = part.end;
@@ -82,6 +84,8 @@ fn print_run(input: &[u8], part: TaskPart, out: &mut [u8])
             &part.table.columns,
             &mut release,
             &mut blocked,
+            &mut waiting,
+            &mut waits,
             &mut entries,
         );
         if x.time == u64::MAX {

@@ -1,15 +1,15 @@
 -- Every state that calls made names tasks of the table alone, and no time and no count of it comes near the end of its type.
-use Rattle.guarantees.specs.Types.{_≡_, refl, sym, ap, _∙_, subst, List, _⊎_, inl, inr, ℕ, _+_, _≤_, _<_, min, Table, Jobs, NoneNext, NoneOutgoing, Phase, Between, State, Due, Never, Tick, Call}
+use Rattle.guarantees.specs.Types.{_≡_, refl, sym, ap, _∙_, subst, List, _⊎_, inl, inr, ℕ, _+_, _≤_, _<_, min, Table, Jobs, WaitingReleases, NoneNext, NoneOutgoing, Phase, Between, State, Due, Never, Tick, Call}
 use native.Mathlib.Omega.{arith}
 use mathlib.Core.Path.{ap₂}
 use borrow.Author.Tests.{eqb-true, eq-eqb, leb-true, leb-false}
 use lib.Dec.{eqb, leb}
 use lib.ListN.{getD}
 use Rattle.table.specs.Table.{copyin-length, execution-length, copyout-length}
-use Rattle.sets.specs.Sets.{member, below, collect, union, difference}
+use Rattle.sets.specs.Sets.{member, below, collect, union, intersection, difference}
 use Rattle.sets.proofs.Laws.{by-test, member-task}
-use Rattle.rules.specs.With.{with-jobs, with-phase, at-clock, later}
-use Rattle.rules.specs.Instant.{step-a, step-b, step-c, step-d, step-e, step-g, taken, with-candidates, due, at-a, at-b, at-e, at-f, at-g, new-at}
+use Rattle.rules.specs.With.{with-jobs, with-phase, with-waiting, at-clock, later}
+use Rattle.rules.specs.Instant.{step-a, step-b, step-c, step-d, step-e, step-g, taken, deferred, original, with-candidates, due, at-a, at-b, at-e, at-f, at-g, new-at, late-at}
 use Rattle.rules.specs.Calls.{opened, opening, refusal}
 use Rattle.rules.proofs.ByTask.{stamped-none}
 use Rattle.guarantees.specs.History.{after-calls}
@@ -21,27 +21,33 @@ use Rattle.guarantees.proofs.Served.{Served-at, served-at, due-drop, No
 use Rattle.guarantees.proofs.Invariant.{Good, good-opened, good-after, drop-one, debt-less}
 use Rattle.guarantees.proofs.Completion.{AtRest, rests, due-times}
 
--- ---- an instant at which nothing is due and nothing is released
+-- ---- an instant at which nothing is due and nothing is released, while nothing waits
 
 module _ (d : State) (t : ℕ) where
   abbrev no-jobs : Jobs
   no-jobs = record { pending = 0; ready = 0; release = d .jobs .release; blocked = d .jobs .blocked }
 
+  abbrev none-waits : WaitingReleases
+  none-waits = record { tasks = 0; times = d .waiting .times }
+
   abbrev idle : State
-  idle = with-phase (with-jobs d no-jobs) (Between NoneNext NoneOutgoing)
+  idle = with-phase (with-waiting (with-jobs d no-jobs) none-waits) (Between NoneNext NoneOutgoing)
 
   idle-stays : at-g idle t 0 ≡ at-clock idle t
-  unfolding at-g at-f at-e at-b at-a new-at step-a step-b step-c step-d step-e step-g taken with-candidates union difference collect below member
-  idle-stays = rw (stamped-none t 0 (d .jobs .release), stamped-none 0 0 (d .jobs .blocked))
+  unfolding at-g at-f at-e at-b at-a new-at late-at step-a step-b step-c step-d step-e step-g taken deferred with-candidates union intersection difference collect below member
+  idle-stays = rw (stamped-none (original none-waits t) 0 (d .jobs .release), stamped-none (λ k. 0) 0 (d .jobs .blocked), stamped-none (λ k. t) 0 (d .waiting .times))
 
-  is-idle : d .phase ≡ Between NoneNext NoneOutgoing → d .jobs .pending ≡ 0 → d .jobs .ready ≡ 0 → d ≡ idle
-  is-idle p q r = ap₂ (λ (j : Jobs) (p : Phase). with-phase (with-jobs d j) p) jobs p
+  is-idle : AtRest d → d ≡ idle
+  is-idle r = ap₂ (λ (j : Jobs) (p : Phase). with-phase (with-jobs d j) p) jobs (r .phase) ∙ ap (λ (w : WaitingReleases). with-phase (with-waiting (with-jobs d no-jobs) w) (Between NoneNext NoneOutgoing)) waits
     where
       jobs : d .jobs ≡ no-jobs
-      jobs = ap₂ (λ (x y : ℕ). record { pending = x; ready = y; release = d .jobs .release; blocked = d .jobs .blocked }) q r
+      jobs = ap₂ (λ (x y : ℕ). record { pending = x; ready = y; release = d .jobs .release; blocked = d .jobs .blocked }) (r .pending) (r .ready)
 
-  nothing-begins : d .phase ≡ Between NoneNext NoneOutgoing → d .jobs .pending ≡ 0 → d .jobs .ready ≡ 0 → at-g d t 0 ≡ at-clock d t
-  nothing-begins p q r = subst (λ (x : State). at-g x t 0 ≡ at-clock x t) (sym (is-idle p q r)) idle-stays
+      waits : d .waiting ≡ none-waits
+      waits = ap (λ (x : ℕ). record { tasks = x; times = d .waiting .times }) (r .waiting)
+
+  nothing-begins : AtRest d → at-g d t 0 ≡ at-clock d t
+  nothing-begins r = subst (λ (x : State). at-g x t 0 ≡ at-clock x t) (sym (is-idle r)) idle-stays
 
 -- ---- every state that calls made
 
@@ -59,11 +65,12 @@ module _ (table : Table) (marks : ℕ) (fair : Fair table marks) where
         marked = g .parted .marks;
         pending = g .parted .pending;
         ready = g .parted .ready;
+        waiting = g .parted .waits;
         phase = g .parted .known;
       })
 
   -- up to here a time has room for every length
-  plain-time : (t : ℕ) → t ≤ 2000000000 → PlainTime table t
+  plain-time : (t : ℕ) → t ≤ 3000000000 → PlainTime table t
   plain-time t l = record {
     copyin = λ n k. room (copyin-length (table .columns) n) (fair .copyins n k .1);
     execution = λ n k. room (execution-length (table .columns) n) (fair .executions n k .1);
@@ -76,21 +83,22 @@ module _ (table : Table) (marks : ℕ) (fair : Fair table marks) where
   -- and past it nothing is released, and nothing is due
   times : (d : State) (t set : ℕ) → G d → Served-at d t set → PlainTime (d .table) t ⊎ (at-g d t set ≡ at-clock d t)
   times d t set g s =
-      by-test (leb t 2000000000)
-      (λ l. inl (subst (λ (x : Table). PlainTime x t) (sym (g .table-is)) (plain-time t (leb-true t 2000000000 l))))
-      (λ l. by-test (eqb set 0) (λ e. inr (late (leb-false t 2000000000 l) (eqb-true set 0 e))) (λ e. absurd (omega (arith, s .early e, leb-false t 2000000000 l))))
+      by-test (leb t 3000000000)
+      (λ l. inl (subst (λ (x : Table). PlainTime x t) (sym (g .table-is)) (plain-time t (leb-true t 3000000000 l))))
+      (λ l. by-test (eqb set 0) (λ e. inr (late (leb-false t 3000000000 l) (eqb-true set 0 e))) (λ e. absurd (omega (arith, s .early e, leb-false t 3000000000 l))))
     where
-      go : (x : Due) → due (d .phase) ≡ x → 2000000000 < t → at-g d t 0 ≡ at-clock d t
-      go Never e l = let r : AtRest d = rests table marks fair d g e in nothing-begins d t (r .phase) (r .pending) (r .ready)
+      go : (x : Due) → due (d .phase) ≡ x → 3000000000 < t → at-g d t 0 ≡ at-clock d t
+      go Never e l = nothing-begins d t (rests table marks fair d g e)
       go (Tick u) e l =
           absurd (omega (arith, due-times table marks fair d u g e .bound, debt-less d (g .sound), drop-one (NotBefore t) u (d .phase) (s .due) (due-drop u (d .phase) e)))
 
-      late : 2000000000 < t → set ≡ 0 → at-g d t set ≡ at-clock d t
+      late : 3000000000 < t → set ≡ 0 → at-g d t set ≡ at-clock d t
       late l e = ap (at-g d t) e ∙ go (due (d .phase)) refl l
 
   plain : (calls : List Call) → PlainState (after-calls (opened table marks) calls)
   plain calls = record {
     named = named d good;
+    behind = good .behind;
     counts = λ n l. bounded n l .most;
     instants = λ t set e. record {
       times = times d t set good (served-at d t set (eq-eqb (refusal d t set) 0 e));

@@ -10,7 +10,7 @@ use Rattle.sets.specs.Sets.{member, intersection, bit}
 use Rattle.sets.proofs.Laws.{by-test, clash, left, right, none, collect-out, union-out, intersection-right, insert-out, remove-out}
 use Rattle.rules.specs.With.{at-clock}
 use Rattle.rules.specs.Order.{highest-of, higher, higher-than}
-use Rattle.rules.specs.Instant.{step-a, step-b, step-c, step-d, step-e, step-g, over, promoted, without-promoted, next-of, awaiting-execution, blocks, counted, stamped, close, with-candidates, cancel, choose, begin, begin-processor, without-done, ended, copyin-at, processor-task, at-a, at-b, at-e, at-f, at-g, new-at, fresh-stage}
+use Rattle.rules.specs.Instant.{step-a, step-b, step-c, step-d, step-e, step-g, over, promoted, without-promoted, next-of, awaiting-execution, blocks, counted, stamped, close, with-candidates, cancel, choose, begin, begin-processor, without-done, ended, copyin-at, processor-task, at-a, at-b, at-e, at-f, at-g, new-at, late-at, fresh-stage}
 use Rattle.rules.specs.Calls.{opened}
 use Rattle.guarantees.proofs.Highest.{Best}
 use Rattle.guarantees.proofs.Walk.{with-marks}
@@ -35,7 +35,7 @@ counted-at s k (x ∷ xs) zero = rw (add-zero k) (go (member k s))
 counted-at s k (x ∷ xs) (suc n) = subst (λ (j : ℕ). getD (counted s (suc k) xs) n 0 ≤ getD xs n 0 + bit (member j s)) (shift k n) (counted-at s (suc k) xs n)
 
 -- and none for one whose release is taken
-stamped-at : (s k : ℕ) (xs : List ℕ) (n : ℕ) → getD (stamped s 0 k xs) n 0 ≤ cond (member (k + n) s) 0 (getD xs n 0)
+stamped-at : (s k : ℕ) (xs : List ℕ) (n : ℕ) → getD (stamped s (λ j. 0) k xs) n 0 ≤ cond (member (k + n) s) 0 (getD xs n 0)
 unfolding stamped
 stamped-at s k [] n = go (member (k + n) s)
   where
@@ -43,7 +43,7 @@ stamped-at s k [] n = go (member (k + n) s)
     go true = omega arith
     go false = omega arith
 stamped-at s k (x ∷ xs) zero = rw (add-zero k) (omega arith)
-stamped-at s k (x ∷ xs) (suc n) = subst (λ (j : ℕ). getD (stamped s 0 (suc k) xs) n 0 ≤ cond (member j s) 0 (getD xs n 0)) (shift k n) (stamped-at s (suc k) xs n)
+stamped-at s k (x ∷ xs) (suc n) = subst (λ (j : ℕ). getD (stamped s (λ j. 0) (suc k) xs) n 0 ≤ cond (member j s) 0 (getD xs n 0)) (shift k n) (stamped-at s (suc k) xs n)
 
 zeros : (k n : ℕ) → _≡_ {A = ℕ} (getD (replicate k 0) n 0) 0
 zeros zero n = refl
@@ -246,28 +246,28 @@ module _ (pr : List ℕ) (n : ℕ) (small : n < 32) where
   b-bounded t s h = b-cases Bounded s t (λ i e o. h) (λ next outgoing e. h) (λ i e o. close-bounded (s .state) t i e o h)
 
   -- c
-  c-bounded : (t new : ℕ) (d : State) → Bounded d → Bounded (step-c d t new)
+  c-bounded : (t new late : ℕ) (d : State) → Bounded d → Bounded (step-c d t new late)
   unfolding step-c
-  c-bounded t new d h =
+  c-bounded t new late d h =
       by-test (member n new)
       (λ m.
-      let z : count (step-c d t new) ≤ 0 = omega (arith, fewer, ap (λ (b : Bool). cond b 0 (count d)) m) in
-      record { table = h .table; most = omega arith; far = λ x. far-none (count (step-c d t new)) (Waits (step-c d t new)) (place (step-c d t new .phase)) z })
+      let z : count (step-c d t new late) ≤ 0 = omega (arith, fewer, ap (λ (b : Bool). cond b 0 (count d)) m) in
+      record { table = h .table; most = omega arith; far = λ x. far-none (count (step-c d t new late)) (Waits (step-c d t new late)) (place (step-c d t new late .phase)) z })
       (λ m.
-      let z : count (step-c d t new) ≤ count d = omega (arith, fewer, ap (λ (b : Bool). cond b 0 (count d)) m) in
+      let z : count (step-c d t new late) ≤ count d = omega (arith, fewer, ap (λ (b : Bool). cond b 0 (count d)) m) in
       record {
         table = h .table;
         most = omega (arith, h .most);
         far = λ x.
-            subst (Far (count (step-c d t new)) (Waits (step-c d t new))) (sym (c-place d new (d .phase)))
-            (far-map (count d) (count (step-c d t new)) (Waits d) (Waits (step-c d t new)) (place (d .phase)) z
-            (c-waiting pr n (Bound pr n) (NotLower pr n) (rule-old pr n small) small t new d)
+            subst (Far (count (step-c d t new late)) (Waits (step-c d t new late))) (sym (c-place d new (d .phase)))
+            (far-map (count d) (count (step-c d t new late)) (Waits d) (Waits (step-c d t new late)) (place (d .phase)) z
+            (c-waiting pr n (Bound pr n) (NotLower pr n) (rule-old pr n small) small t new late d)
             (h .far (⊎-elim (λ y. inl (⊎-elim (λ z. z) (λ z. clash (member n new) z m) (union-out (d .jobs .ready) new n y)))
             (λ y. inr (ap (is-task n) (sym (c-up-next d new (d .phase))) ∙ y)) x)));
       })
     where
-      fewer : count (step-c d t new) ≤ cond (member n new) 0 (count d)
-      fewer = unfold step-c in subst (λ (j : ℕ). count (step-c d t new) ≤ cond (member j new) 0 (count d)) (zero-add n) (stamped-at new 0 (d .jobs .blocked) n)
+      fewer : count (step-c d t new late) ≤ cond (member n new) 0 (count d)
+      fewer = unfold step-c in subst (λ (j : ℕ). count (step-c d t new late) ≤ cond (member j new) 0 (count d)) (zero-add n) (stamped-at new 0 (d .jobs .blocked) n)
 
   -- d
   pub d-like : (new : ℕ) (d : State) → Like d (step-d d new (d .phase))
@@ -355,8 +355,9 @@ module _ (pr : List ℕ) (n : ℕ) (small : n < 32) where
     bounded-e =
         let b : State = at-b d t .state in
         let new : ℕ = new-at d t set in
-        let c : State = step-c b t new in
-        e-bounded t (step-d c new (c .phase)) (d-bounded new c (c-new b t new) (c-bounded t new b (b-bounded t (at-a d t) bounded-a)))
+        let late : ℕ = late-at d t set in
+        let c : State = step-c b t new late in
+        e-bounded t (step-d c new (c .phase)) (d-bounded new c (c-new b t new late) (c-bounded t new late b (b-bounded t (at-a d t) bounded-a)))
 
     pub bounded-g : Bounded (at-g d t set)
     unfolding at-g at-f

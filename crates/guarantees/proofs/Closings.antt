@@ -4,14 +4,14 @@ use Rattle.guarantees.specs.Types.{_≡_, refl, sym, ap, _∙_, subst, B
 use native.Mathlib.Omega.{arith}
 use Rattle.rules.specs.With.{at-clock}
 use Rattle.rules.specs.Order.{highest-of}
-use Rattle.rules.specs.Instant.{step-a, step-b, step-c, step-d, step-e, step-g, close, close-stage, entry-with, interval-entry, closing, occurred, over, with-candidates, cancel, choose, begin, wanted, ended as ended-by, processor-task, copyout-task, copyout-at, at-a, at-b, at-e, at-f, at-g, new-at, fresh-stage}
-use Rattle.guarantees.specs.History.{Event, Comes, Begins, Ends, history, happens, processor-events-in, finish-events-in, completion-events, end-events, take-events, giving-events-in, begin-events, start-events}
+use Rattle.rules.specs.Instant.{step-a, step-b, step-c, step-d, step-e, step-g, close, close-stage, entry-with, interval-entry, closing, occurred, over, with-candidates, cancel, choose, begin, wanted, ended as ended-by, processor-task, copyout-task, copyout-at, at-a, at-b, at-e, at-f, at-g, new-at, late-at, fresh-stage}
+use Rattle.guarantees.specs.History.{Event, Comes, Begins, Ends, history, happens, processor-events-in, finish-events-in, completion-events, end-events, take-events, defer-events, giving-events-in, begin-events, start-events}
 use Rattle.guarantees.specs.Queries.{NoneOpen, Latest, latest-by, each}
 use Rattle.guarantees.specs.Entries.{answers, Completion, completed-in, done, completions, Ended, of-entry, closed-in, closed, ended}
 use Rattle.guarantees.proofs.Walk.{walk-told}
 use Rattle.guarantees.proofs.Cases.{held-at, copyout-cases, d-cases, e-cases}
 use Rattle.guarantees.proofs.Steps.{processor-task-same}
-use Rattle.guarantees.proofs.Events.{by-processor, by-finishes, by-completes, by-gives, by-ends, by-takes, by-begins, by-starts, tail-of, happens-parts, front-parts, tail-parts}
+use Rattle.guarantees.proofs.Events.{by-processor, by-finishes, by-completes, by-gives, by-ends, by-takes, by-defers, by-begins, by-starts, tail-of, happens-parts, front-parts, tail-parts}
 use Rattle.guarantees.proofs.Order.{situation-of, situation-e}
 
 -- ---- the open interval
@@ -51,7 +51,8 @@ module _ (x : Latest) where
   e-at d t set h =
       let b : State = at-b d t .state in
       let new : ℕ = new-at d t set in
-      let c : State = step-c b t new in
+      let late : ℕ = late-at d t set in
+      let c : State = step-c b t new late in
       let y : State = step-d c new (c .phase) in
       e-agrees y t (d-agrees c new (c-agrees b new (b .phase) h))
 
@@ -73,6 +74,10 @@ front-ended d t x ys =
 takes-ended : (new marks t : ℕ) (x : Latest) (ys : List Event) → ended x (take-events 32 new marks t ++ ys) ≡ ended x ys
 unfolding ended
 takes-ended new marks t x ys = by-takes (As x ys) 32 new marks t (λ n l m es e. e) ys refl
+
+defers-ended : (late t : ℕ) (x : Latest) (ys : List Event) → ended x (defer-events 32 late t ++ ys) ≡ ended x ys
+unfolding ended
+defers-ended late t x ys = by-defers (As x ys) 32 late t (λ n l m es e. e) ys refl
 
 gives-ended : (p q : Phase) (x : Latest) (ys : List Event) → ended x (giving-events-in p q ++ ys) ≡ ended x ys
 unfolding ended
@@ -207,9 +212,10 @@ module _ (d : State) (t set : ℕ) where
       comes es = unfold ended in refl
 
       tail-is : (ys : List Event) → tail-of d t set ++ ys
-          ≡ giving-events-in (at-b d t .state .phase) (at-e d t set .phase)
+          ≡ defer-events 32 (late-at d t set) t
+          ++ (giving-events-in (at-b d t .state .phase) (at-e d t set .phase)
           ++ (end-events t (at-e d t set .phase) (at-f d t set .state .phase)
-          ++ ((begin-events t (at-f d t set .state .phase) (at-g d t set .phase) ++ start-events t (at-f d t set .state .phase) (at-g d t set .phase)) ++ ys))
+          ++ ((begin-events t (at-f d t set .state .phase) (at-g d t set .phase) ++ start-events t (at-f d t set .state .phase) (at-g d t set .phase)) ++ ys)))
       tail-is ys = unfold tail-of in simp append-assoc
 
       closing-so : closing (at-b d t .closed) (at-f d t set .closed) ≡ occurred d t set .closed
@@ -228,6 +234,7 @@ module _ (d : State) (t set : ℕ) where
           ∙ ap (λ (z : List Ended). closed-of (at-b d t .closed) ++ z)
           (takes-ended (new-at d t set) (d .marked) t (b .next) (tail-of d t set ++ ys)
           ∙ ap (ended (b .next)) (tail-is ys)
+          ∙ defers-ended (late-at d t set) t (b .next) (giving-events-in (at-b d t .state .phase) (at-e d t set .phase) ++ (ends-f ++ (begins ++ ys)))
           ∙ gives-ended (at-b d t .state .phase) (at-e d t set .phase) (b .next) (ends-f ++ (begins ++ ys))
           ∙ f .says (begins ++ ys)
           ∙ ap (λ (z : List Ended). closed-of (at-f d t set .closed) ++ z) (g .says ys))
@@ -285,6 +292,7 @@ happens-completions d t set h =
     ∙ completes-so (at-a d t .done) (ends-b ++ rest)
     ∙ ap (λ (z : List Completion). completed-in (at-a d t .done) ++ z)
     (skip-ends (at-a d t .state .phase) (at-b d t .state .phase) rest ∙ skip-takes (tail-of d t set ++ h) ∙ ap completions (tail-parts d t set h)
+    ∙ skip-defers (giving-events-in (at-b d t .state .phase) (at-e d t set .phase) ++ (end-events t (at-e d t set .phase) (at-f d t set .state .phase) ++ (begins ++ (starts ++ h))))
     ∙ skip-gives (at-b d t .state .phase) (at-e d t set .phase) (end-events t (at-e d t set .phase) (at-f d t set .state .phase) ++ (begins ++ (starts ++ h)))
     ∙ skip-ends (at-e d t set .phase) (at-f d t set .state .phase) (begins ++ (starts ++ h)) ∙ skip-begins (at-f d t set .state .phase) (at-g d t set .phase))
     ∙ ap (λ (o : Done). completed-in o ++ completions h) (sym (done-so d t set))
@@ -299,6 +307,9 @@ happens-completions d t set h =
 
     skip-takes : (zs : List Event) → completions (take-events 32 (new-at d t set) (d .marked) t ++ zs) ≡ completions zs
     skip-takes zs = unfold each in by-takes (Same zs) 32 (new-at d t set) (d .marked) t (λ n l m es e. e) zs refl
+
+    skip-defers : (zs : List Event) → completions (defer-events 32 (late-at d t set) t ++ zs) ≡ completions zs
+    skip-defers zs = unfold each in by-defers (Same zs) 32 (late-at d t set) t (λ n l m es e. e) zs refl
 
     skip-gives : (p q : Phase) (zs : List Event) → completions (giving-events-in p q ++ zs) ≡ completions zs
     skip-gives p q zs = unfold each in by-gives (Same zs) (λ n es e. e) p q zs refl

@@ -1,22 +1,23 @@
--- Empty sets at the due times come to an end, and then nothing is pending: each of them brings some phase to its end, and nothing is due
--- only where nothing is pending.
-use Rattle.guarantees.specs.Types.{_≡_, refl, sym, ap, _∙_, subst, Bool, true, false, List, [], _∷_, ℕ, zero, suc, _+_, _≤_, _<_, Table, Clock, Unset, At, Processor, Idle, CopyingIn, Executing, Finished, CopyOut, NoCopyOut, CopyingOut, CopiedOut, CopyIn, Unchosen, NoneChosen, Copying, Loaded, Cancelled, Next, NoneNext, Outgoing, NoneOutgoing, Phase, Between, Within, State, Due, Never, Tick, Call, Instant}
+-- Empty sets at the due times come to an end, and then nothing is pending and nothing waits: each of them brings some phase to its end, nothing is
+-- due only where nothing is pending, and what waits does so behind a pending job.
+use Rattle.guarantees.specs.Types.{_≡_, refl, sym, ap, _∙_, subst, Bool, true, false, List, [], _∷_, _++_, ℕ, zero, suc, _+_, _≤_, _<_, Table, Clock, Unset, At, Processor, Idle, CopyingIn, Executing, Finished, CopyOut, NoCopyOut, CopyingOut, CopiedOut, CopyIn, Unchosen, NoneChosen, Copying, Loaded, Cancelled, Next, NoneNext, Outgoing, NoneOutgoing, Phase, Between, Within, State, Due, Never, Tick, Call, Instant}
 use native.Mathlib.Omega.{arith}
 use borrow.Author.Tests.{eq-eqb, le-ltb, lt-leb}
 use lib.Dec.{eqb}
 use Rattle.sets.specs.Sets.{member, difference, bit, size}
-use Rattle.sets.proofs.Laws.{none, by-test, clash, difference-left, empty, difference-small}
-use Rattle.rules.specs.Instant.{over, copying-out, resting, settled, due, sooner, processor-due, copyout-due, copyin-due, at-g}
+use Rattle.sets.proofs.Laws.{none, by-test, clash, difference-left, empty, difference-small, size-none}
+use Rattle.rules.specs.Instant.{over, copying-out, resting, settled, due, sooner, processor-due, copyout-due, copyin-due, at-b, at-g}
 use Rattle.rules.specs.Calls.{unknown, not-after, refusal, after-call}
-use Rattle.guarantees.specs.History.{Event, by-call, after-calls, history, EmptySets}
+use Rattle.guarantees.specs.History.{Event, happens, by-call, after-calls, history, EmptySets}
 use Rattle.guarantees.specs.Queries.{total, is-take, is-completion}
 use Rattle.guarantees.proofs.Proper.{Fair}
 use Rattle.guarantees.proofs.Walk.{walk-to, served}
 use Rattle.guarantees.proofs.Settled.{Decided, DecidedAt, OpenAt, RestAt}
 use Rattle.guarantees.proofs.Places.{instant-moves, stage}
 use Rattle.guarantees.proofs.Steps.{Sub}
+use Rattle.guarantees.proofs.Releases.{balance-g, skipped-none}
 use Rattle.guarantees.proofs.Served.{due-drop, last, Served-at, served-at, sooner-never}
-use Rattle.guarantees.proofs.Invariant.{Good, Until, mass, debt, sinks, debt-less, new-none, drop-one, good-next, good-quiet}
+use Rattle.guarantees.proofs.Invariant.{Good, Until, mass, debt, sinks, debt-less, drop-one, good-next, good-quiet}
 use Rattle.guarantees.proofs.Totals.{takes-of, completes-of}
 
 -- ---- nothing is due only where nothing is pending
@@ -49,11 +50,12 @@ at-rest (Within i) h e o =
     let u : copying-out (i .copyout) ≡ false = copyout-rests (i .copyout) (y .0) in
     clash (over i) (rw (processor-rests (i .processor) (x .0), u, copyin-rests (i .copyin) (i .copyout) (y .1) e u)) o
 
--- nothing is pending, and nothing is to come
+-- nothing is pending, nothing waits, and nothing is to come
 pub record AtRest (d : State) : Type 0 where
   pub phase : d .phase ≡ Between NoneNext NoneOutgoing
   pub ready : d .jobs .ready ≡ 0
   pub pending : d .jobs .pending ≡ 0
+  pub waiting : d .waiting .tasks ≡ 0
 
 bit-zero : (b : Bool) → bit b ≡ 0 → b ≡ false
 bit-zero true h = absurd (omega arith)
@@ -71,14 +73,17 @@ module _ (table : Table) (marks : ℕ) (fair : Fair table marks) where
           let b : d .phase ≡ Between (z .0) (z .1) = e ∙ z .2 in
           let r : (z .0 ≡ NoneNext) × (z .1 ≡ NoneOutgoing) × (d .jobs .ready ≡ 0) = subst (λ (x : Phase). RestAt (d .jobs .ready) x) b (g .settled .rests) in
           let c : d .phase ≡ Between NoneNext NoneOutgoing = cc in
+          let n : (k : ℕ) → k < 32 → member k (d .jobs .pending) ≡ false =
+          λ k l. bit-zero (member k (d .jobs .pending))
+          (let f : bit (member k (d .jobs .pending)) ≡ bit (member k (d .jobs .ready)) + 0 =
+          subst (λ (x : Phase). bit (member k (d .jobs .pending)) ≡ bit (member k (d .jobs .ready)) + stage k x) c (g .parted .parts k l) in
+          omega (arith, f, ap (λ (s : ℕ). bit (member k s)) (r .2), ap bit (none k))) in
           record {
             phase = c;
             ready = r .2;
-            pending = empty (d .jobs .pending) (g .parted .few)
-                (λ k l. bit-zero (member k (d .jobs .pending))
-                (let f : bit (member k (d .jobs .pending)) ≡ bit (member k (d .jobs .ready)) + 0 =
-                subst (λ (x : Phase). bit (member k (d .jobs .pending)) ≡ bit (member k (d .jobs .ready)) + stage k x) c (g .parted .parts k l) in
-                omega (arith, f, ap (λ (s : ℕ). bit (member k s)) (r .2), ap bit (none k))));
+            pending = empty (d .jobs .pending) (g .parted .few) n;
+            waiting = empty (d .waiting .tasks) (g .waits-few)
+                (λ k l. by-test (member k (d .waiting .tasks)) (λ x. clash (member k (d .jobs .pending)) (g .behind k l x) (n k l)) (λ x. x));
           }
 
   -- ---- the instants at due times
@@ -111,7 +116,7 @@ module _ (table : Table) (marks : ℕ) (fair : Fair table marks) where
 
   -- an instant at a due time brings the end nearer
   nearer : (d : State) (t : ℕ) → G d → due (d .phase) ≡ Tick t → mass (at-g d t 0) + debt d + 1 ≤ mass d + debt (at-g d t 0)
-  nearer d t g e = omega (arith, sinks d t 0 (g .sound), due-drop t (d .phase) e, new-none d t 0 (λ k l. none k))
+  nearer d t g e = omega (arith, sinks d t 0 (g .sound), due-drop t (d .phase) e, size-none)
 
   none-due : (d : State) → due (d .phase) ≡ Never → (rest : List Call) × EmptySets d rest
   unfolding EmptySets
@@ -132,18 +137,34 @@ module _ (table : Table) (marks : ℕ) (fair : Fair table marks) where
   -- and what they leave
   pub record Drained (d : State) (rest : List Call) : Type 0 where
     pub never : due (after-calls d rest .phase) ≡ Never
-    pub takes : total is-take (history d rest) ≡ 0
+    -- what waited is taken or waits still, and nothing else is taken
+    pub takes : total is-take (history d rest) + size (after-calls d rest .waiting .tasks) ≡ size (d .waiting .tasks)
 
   drained-more : (d : State) (t : ℕ) (rest : List Call) → eqb (refusal d t 0) 0 ≡ true → Drained (at-g d t 0) rest → Drained d (Instant t 0 ∷ rest)
-  unfolding after-calls history by-call
   drained-more d t rest e h = record {
-    never = ap (λ (g : State). due (after-calls g rest .phase)) (served d t 0 e) ∙ h .never;
-    takes = rw (e, served d t 0 e) (omega (arith, takes-of d t 0 (history (at-g d t 0) rest), new-none d t 0 (λ k l. none k), h .takes));
+    never = ap (λ (g : State). due (g .phase)) left ∙ h .never;
+    takes =
+        omega (
+          arith,
+          ap (total is-take) occurs,
+          takes-of d t 0 (history (at-g d t 0) rest),
+          ap (λ (g : State). size (g .waiting .tasks)) left,
+          balance-g d t 0,
+          size-none,
+          skipped-none (at-b d t .state) 0 (λ k l. none k),
+          h .takes,
+        );
   }
+    where
+      left : after-calls d (Instant t 0 ∷ rest) ≡ after-calls (at-g d t 0) rest
+      left = unfold after-calls in ap (λ (g : State). after-calls g rest) (served d t 0 e)
+
+      occurs : history d (Instant t 0 ∷ rest) ≡ happens d t 0 ++ history (at-g d t 0) rest
+      occurs = unfold history by-call in rw (e, served d t 0 e)
 
   pub drained : (rest : List Call) (d : State) → G d → EmptySets d rest → Drained d rest
   unfolding EmptySets
-  drained [] d g h = unfold after-calls history total in record { never = h; takes = refl }
+  drained [] d g h = unfold after-calls history total in record { never = h; takes = omega arith }
   drained (c ∷ rest) d g h = go (h .0 .0) (h .0 .1) (h .0 .2) (λ t e x. drained rest (at-g d t 0) (served-due d t g e) x)
     where
       go : (t : ℕ) → due (d .phase) ≡ Tick t → c ≡ Instant t 0

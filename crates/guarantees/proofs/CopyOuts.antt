@@ -8,16 +8,16 @@ use Rattle.sets.specs.Sets.{member, bit}
 use Rattle.sets.proofs.Laws.{same-task, member-task}
 use Rattle.rules.specs.With.{at-clock, later}
 use Rattle.rules.specs.Order.{highest-of}
-use Rattle.rules.specs.Instant.{step-a, step-b, step-c, step-d, step-e, step-g, close, close-stage, over, with-candidates, cancel, choose, begin, begin-processor, begin-copyout, copying-out, wanted, completed, ended, processor-task, copyout-task, copyout-at, awaiting-copyout, resting, job-entry, at-a, at-b, at-e, at-f, at-g, new-at, fresh-stage}
+use Rattle.rules.specs.Instant.{step-a, step-b, step-c, step-d, step-e, step-g, close, close-stage, over, with-candidates, cancel, choose, begin, begin-processor, begin-copyout, copying-out, wanted, completed, ended, processor-task, copyout-task, copyout-at, awaiting-copyout, resting, job-entry, at-a, at-b, at-e, at-f, at-g, new-at, late-at, fresh-stage}
 use Rattle.rules.specs.Calls.{opened}
-use Rattle.guarantees.specs.History.{Event, Begins, Ends, history, happens, finish-events-in, completion-events, end-events, take-events, begin-events, start-events}
+use Rattle.guarantees.specs.History.{Event, Begins, Ends, history, happens, finish-events-in, completion-events, end-events, take-events, giving-events-in, begin-events, start-events}
 use Rattle.guarantees.proofs.Proper.{Fair}
 use Rattle.guarantees.proofs.Walk.{walk}
 use Rattle.guarantees.proofs.Settled.{RestAt}
 use Rattle.guarantees.proofs.Times.{Times, times-map, copyout-times}
 use Rattle.guarantees.proofs.Cases.{held-at, d-cases, e-cases}
 use Rattle.guarantees.proofs.Steps.{processor-task-same}
-use Rattle.guarantees.proofs.Events.{by-processor, by-finishes, by-gives, by-takes, by-starts, tail-of, front-of, happens-parts, front-parts, tail-parts}
+use Rattle.guarantees.proofs.Events.{by-processor, by-finishes, by-gives, by-takes, by-defers, by-starts, tail-of, front-of, happens-parts, front-parts, tail-parts}
 use Rattle.guarantees.proofs.Served.{last, served-at}
 use Rattle.guarantees.proofs.Invariant.{Good, Until, mass, debt, debt-less, good-opened, good-next, good-quiet}
 use Rattle.guarantees.proofs.Frames.{Frame, b-frame, table-e, clock-g}
@@ -28,7 +28,7 @@ use Rattle.guarantees.specs.States.{copyout-known}
 -- ---- the engine of a state
 
 abbrev pub Plain : ℕ → Type 0
-Plain u = u ≤ 2000000000
+Plain u = u ≤ 3000000000
 
 abbrev engine-in : MaybeTask → CopyOut → Engine
 engine-in r NoCopyOut = Running r
@@ -119,7 +119,8 @@ unfolding at-e step-c
 engine-e d t set =
     let b : State = at-b d t .state in
     let new : ℕ = new-at d t set in
-    let c : State = step-c b t new in
+    let late : ℕ = late-at d t set in
+    let c : State = step-c b t new late in
     let x : State = step-d c new (c .phase) in
     e-engine x t ∙ d-engine c t new ∙ c-engine b t new (b .phase)
 
@@ -202,7 +203,7 @@ module _ (columns : List ℕ) (t : ℕ) where
   out-leaving table r (AwaitsCopyOut n start) ys e p a h =
       ((refl, a, (refl, refl)), subst (λ (u : ℕ). Leaving columns t (Busy r n u) ys) (exact (copyout-length (table .columns) n) p ∙ ap (λ (l : List ℕ). t + copyout-length l n) e) h)
     where
-      exact : (x : ℕ) → later t x ≤ 2000000000 → later t x ≡ t + x
+      exact : (x : ℕ) → later t x ≤ 3000000000 → later t x ≡ t + x
       exact x l = omega arith
 
   opens-leaving : (table : Table) (next : Next) (outgoing : Outgoing) (q : Phase) (ys : List Event) → table .columns ≡ columns
@@ -269,12 +270,13 @@ module _ (table : Table) (marks : ℕ) (fair : Fair table marks) where
       let f : State = at-f d t set .state in
       let z : List Event = start-events t (f .phase) (at-g d t set .phase) ++ ys in
       rw (tail-parts d t set ys)
+      (by-defers (Leaving (table .columns) t (engine-of t (e .phase))) 32 (late-at d t set) t (λ n l m es h. h) (giving-events-in (at-b d t .state .phase) (e .phase) ++ (end-events t (e .phase) (f .phase) ++ (begin-events t (f .phase) (at-g d t set .phase) ++ z)))
       (by-gives (Leaving (table .columns) t (engine-of t (e .phase))) (λ n es h. h) (at-b d t .state .phase) (e .phase) (end-events t (e .phase) (f .phase) ++ (begin-events t (f .phase) (at-g d t set .phase) ++ z))
       (b-leaving (table .columns) t s (e .phase) (begin-events t (f .phase) (at-g d t set .phase) ++ z) refl
       (g-leaving (table .columns) t f (held-at d t set) (f .phase) z refl
       (ap (λ (y : Table). y .columns) (ap (λ (y : Frame). y .table) (b-frame s t) ∙ table-e d t set ∙ x)) (plain (at-g d t set) n)
       (apart-at (table .present) (fair .present) (at-g d t set) (at-g d t set .phase) (n .parted))
-      (by-starts (Leaving (table .columns) t (engine-of t (at-g d t set .phase))) t (λ n es h. h) (f .phase) (at-g d t set .phase) ys h))))
+      (by-starts (Leaving (table .columns) t (engine-of t (at-g d t set .phase))) t (λ n es h. h) (f .phase) (at-g d t set .phase) ys h)))))
 
   leaving-front : (d : State) (t : ℕ) (ys : List Event) → last (d .clock) ≤ t → Leaving (table .columns) t (engine-of t (at-b d t .state .phase)) ys
       → Leaving (table .columns) (last (d .clock)) (engine-of t (d .phase)) (front-of d t ++ ys)

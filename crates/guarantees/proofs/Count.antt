@@ -13,7 +13,7 @@ use Rattle.guarantees.proofs.Totals.{begins-of, takes-of}
 use Rattle.guarantees.specs.History.{history, Event, begin-events}
 use Rattle.rules.specs.Calls.{opened}
 use Rattle.guarantees.specs.Queries.{total, is-take, is-begin}
-use Rattle.rules.specs.Instant.{step-a, step-b, step-c, step-d, step-e, step-g, promoted, next-of, without-promoted, close, close-stage, over, with-candidates, cancel, choose, choose-if, begin, begin-processor, begin-copyout, wanted, without-done, ended, copyin-at, processor-at, awaiting-copyout, at-a, at-b, at-e, at-f, at-g, new-at, copyout-at, fresh-stage}
+use Rattle.rules.specs.Instant.{step-a, step-b, step-c, step-d, step-e, step-g, promoted, next-of, without-promoted, close, close-stage, over, with-candidates, cancel, choose, choose-if, begin, begin-processor, begin-copyout, wanted, without-done, ended, copyin-at, processor-at, awaiting-copyout, at-a, at-b, at-e, at-f, at-g, new-at, late-at, copyout-at, fresh-stage}
 use Rattle.rules.specs.With.{at-clock}
 use Rattle.rules.specs.Order.{highest-of, outranks}
 use Rattle.guarantees.proofs.Steps.{Sub, c-new, NewIn, NewAt, best-of}
@@ -265,9 +265,9 @@ c-paid d new (Within i) h =
     paid-more (d .jobs .ready) (i .candidates) (union (d .jobs .ready) new) (union (i .candidates) (intersection new (d .marked)))
     (λ k l m. union-left (d .jobs .ready) new k l m) (λ k l m. union-left (i .candidates) (intersection new (d .marked)) k l m) (i .copyin) h
 
-c-leads : (d : State) (t new : ℕ) → Sound d (d .phase) → Leads d (d .phase) (step-c d t new) (step-c d t new .phase) 0 (size new)
+c-leads : (d : State) (t new late : ℕ) → Sound d (d .phase) → Leads d (d .phase) (step-c d t new late) (step-c d t new late .phase) 0 (size new)
 unfolding step-c
-c-leads d t new h = record {
+c-leads d t new late h = record {
   sound = record { few = union-small (d .jobs .ready) new; paid = c-paid d new (d .phase) (h .paid) };
   weigh = omega (arith, c-phase d new (d .phase) .0, c-phase d new (d .phase) .1, size-union (d .jobs .ready) new);
   sink = omega (arith, c-phase d new (d .phase) .0, c-phase d new (d .phase) .1, size-union (d .jobs .ready) new, c-rank d new (d .phase));
@@ -407,11 +407,12 @@ unfolding at-e
 to-e d t set h =
     let b : State = at-b d t .state in
     let new : ℕ = new-at d t set in
-    let c : State = step-c b t new in
+    let late : ℕ = late-at d t set in
+    let c : State = step-c b t new late in
     let x : State = step-d c new (c .phase) in
     let e : State = step-e x t (x .phase) in
-    let l1 : Leads b (b .phase) c (c .phase) 0 (size new) = c-leads b t new h in
-    let l2 : Leads c (c .phase) x (x .phase) 0 0 = d-leads c new (c-new b t new) (l1 .sound) in
+    let l1 : Leads b (b .phase) c (c .phase) 0 (size new) = c-leads b t new late h in
+    let l2 : Leads c (c .phase) x (x .phase) 0 0 = d-leads c new (c-new b t new late) (l1 .sound) in
     let l3 : Leads x (x .phase) e (e .phase) 0 0 = e-leads x t (l2 .sound) in
     record { sound = l3 .sound; weigh = omega (arith, l1 .weigh, l2 .weigh, l3 .weigh); sink = omega (arith, l1 .sink, l2 .sink, l3 .sink) }
 

@@ -166,7 +166,7 @@ module _ (table : Table) (marks : ℕ) (fair : Fair table marks) (calls : List C
           parted =
               unfold at-a in
               a-moves (table .present) (fair .present) (at-clock d t) t (d .phase) refl
-              (record { few = h .few; marks = h .marks; pending = h .pending; ready = h .ready; known = h .known; parts = h .parts }) .parted;
+              (record { few = h .few; marks = h .marks; pending = h .pending; ready = h .ready; waits = h .waits; known = h .known; parts = h .parts }) .parted;
           bounded = bounded-a (table .priority) n small d t set bounded;
           counted = knows-a table marks fair n small d t set x good known-set bounded knows .counts;
         }

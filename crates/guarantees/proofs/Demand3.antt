@@ -1,17 +1,17 @@
 -- Demand 3: the claim holds of every list of calls.
-use Rattle.guarantees.specs.Types.{_≡_, refl, sym, ap, _∙_, subst, Bool, true, false, List, _++_, inl, inr, ℕ, zero, suc, _≤_, _<_, Table, MaybeTask, NoTask, Task, State, Call}
+use Rattle.guarantees.specs.Types.{_≡_, refl, sym, ap, _∙_, subst, Bool, true, List, _∷_, _++_, append-assoc, inl, inr, ℕ, zero, suc, _≤_, _<_, Table, MaybeTask, NoTask, Task, State, Never, Call}
 use native.Mathlib.Omega.{arith}
 use native.Mathlib.Nat.{le-of-suc-le-suc}
 use borrow.Author.Tests.{ltb-true, ltb-false}
 use lib.Dec.{ltb}
 use lib.ListN.{getD, length}
 use Rattle.sets.specs.Sets.{member, size}
-use Rattle.sets.proofs.Laws.{by-test, none, member-task, size-none}
+use Rattle.sets.proofs.Laws.{by-test, member-task, size-none}
 use Rattle.rules.specs.Instant.{due}
 use Rattle.rules.specs.Calls.{opened, opening}
-use Rattle.guarantees.specs.History.{Event, history, after-calls}
-use Rattle.guarantees.specs.Queries.{none-yet, Situation, NoneOpen, Open, situation, intervals, total, is-take, met}
-use Rattle.guarantees.specs.Claim.{Lower, ThisOrHigher, InOrder, Holds, AllCompleted, Claim, Demand3}
+use Rattle.guarantees.specs.History.{Event, Takes, Defers, history, after-calls, EmptySets}
+use Rattle.guarantees.specs.Queries.{none-yet, Situation, NoneOpen, Open, situation, intervals, total, is-take, taking, deferring, met}
+use Rattle.guarantees.specs.Claim.{Lower, ThisOrHigher, InOrder, Holds, TakenLater, AllCompleted, Claim, Demand3}
 use Rattle.guarantees.proofs.Proper.{Fair, Opens, opens}
 use Rattle.guarantees.proofs.Walk.{after-append, history-append}
 use Rattle.guarantees.proofs.Waiting.{NotLower}
@@ -27,8 +27,9 @@ use Rattle.guarantees.proofs.Promotions.{promoted-in, promotions}
 use Rattle.guarantees.proofs.Told.{tells}
 use Rattle.guarantees.proofs.Closings.{closings, all-done}
 use Rattle.guarantees.proofs.Known.{KnownTask, AllKnown, release-known, begins-known, interval-known, all-known}
-use Rattle.guarantees.proofs.Pending.{pending-in, pending-same, completes-after}
-use Rattle.guarantees.proofs.Completion.{rests, drains, Drained, drained, balanced}
+use Rattle.guarantees.proofs.Serving.{all-served-jobs}
+use Rattle.guarantees.proofs.Deferred.{deferred-small, taken-later, releases-balance}
+use Rattle.guarantees.proofs.Completion.{AtRest, rests, drains, Drained, drained, balanced}
 
 module _ (table : Table) (marks : ℕ) (fair : Fair table marks) where
   -- ---- the order
@@ -95,29 +96,36 @@ module _ (table : Table) (marks : ℕ) (fair : Fair table marks) where
 
   -- ---- the empty sets after a list
 
-  -- no job is pending at the opening
-  none-at-first : (n : ℕ) → member n (opened table marks .jobs .pending) ≡ false
+  -- no job is pending at the opening, and no release waits
+  none-at-first : (size (opened table marks .jobs .pending) ≡ 0) × (size (opened table marks .waiting .tasks) ≡ 0)
   unfolding opened
-  none-at-first n = none n
+  none-at-first = (size-none, size-none)
 
-  size-at-first : size (opened table marks .jobs .pending) ≡ 0
-  unfolding opened
-  size-at-first = size-none
+  module _ (calls : List Call) (p : after-calls (opened table marks) calls .jobs .pending ≡ 0) (w : after-calls (opened table marks) calls .waiting .tasks ≡ 0) where
+    -- the job of a release that waited is one that is taken
+    deferred-completed : (before after : List Event) (n t : ℕ) → history (opened table marks) calls ≡ before ++ (Defers n t ∷ after) → TakenLater n after
+    deferred-completed before after n t e = go (taken-later (opened table marks) calls w before after n t (deferred-small (opened table marks) calls before after n t e) e)
+      where
+        go : (between later : List Event) × (tick : ℕ) × (marked : Bool) × (after ≡ between ++ (Takes n tick marked ∷ later)) × (taking n between ≡ Never) × (deferring n between ≡ Never) → TakenLater n after
+        go x = record {
+          between = x .0;
+          later = x .1;
+          tick = x .2;
+          marked = x .3;
+          is-taken = x .4;
+          next-taken = x .5;
+          alone = x .6;
+          completed =
+              all-served-jobs table marks fair calls p (before ++ (Defers n t ∷ x .0)) (x .1) n (x .2) (x .3)
+              (e ∙ ap (λ (y : List Event). before ++ (Defers n t ∷ y)) (x .4) ∙ sym (append-assoc before (Defers n t ∷ x .0) (Takes n (x .2) (x .3) ∷ x .1)));
+        }
 
-  all-completed : (calls : List Call) → after-calls (opened table marks) calls .jobs .pending ≡ 0 → AllCompleted (history (opened table marks) calls)
-  all-completed calls p = record {
-    each = λ before after n t m e.
-        let k : (member n (table .present) ≡ true) × AllKnown (table .present) after =
-        release-known (table .present) before after n t m (subst (AllKnown (table .present)) e (all-known table marks fair d calls (good-opened table marks fair))) in
-        completes-after before after n t m false
-        (subst (λ (x : List Event). pending-in n false x ≡ false) e
-        (subst (λ (b : Bool). pending-in n b (history d calls) ≡ false) (none-at-first n)
-        (pending-same n (member-task n (table .present) (fair .present) (k .0)) d calls ∙ ap (member n) p ∙ none n)));
-    as-many = omega (arith, balanced table marks fair d calls (good-opened table marks fair), size-at-first, ap size p, size-none);
-  }
-    where
-      d : State
-      d = opened table marks
+    all-completed : AllCompleted (history (opened table marks) calls)
+    all-completed = record {
+      each = λ before after n t m e. all-served-jobs table marks fair calls p before after n t m e;
+      as-many = omega (arith, balanced table marks fair (opened table marks) calls (good-opened table marks fair), none-at-first .0, ap size p, size-none);
+      each-deferred = λ before after n t e. deferred-completed before after n t e;
+    }
 
   claim : (calls : List Call) → Claim (opened table marks) calls
   claim calls = record {
@@ -125,15 +133,24 @@ module _ (table : Table) (marks : ℕ) (fair : Fair table marks) where
     entries = record {
       each-job = λ before after t set o e c. unfold opened in tells table marks fair before t set o e;
       each-done = all-done calls d;
+      each-release = omega (arith, releases-balance d calls, none-at-first .1);
       each-interval = unfold opened in closings calls d none-yet tt;
     };
     come-to-an-end = drains table marks fair (mass (after-calls d calls)) (after-calls d calls) good (omega arith);
     with-empty-sets = λ rest e. unfold opened in holds (calls ++ rest);
-    nothing-pending = λ rest e. pending rest (drained table marks fair rest (after-calls d calls) good e);
-    complete-every-job = λ rest e. all-completed (calls ++ rest) (pending rest (drained table marks fair rest (after-calls d calls) good e));
-    none-more-taken = λ rest e.
+    nothing-pending = λ rest e. at-rest rest e .pending;
+    complete-every-job = λ rest e. all-completed (calls ++ rest) (at-rest rest e .pending) (at-rest rest e .waiting);
+    nothing-waits = λ rest e. at-rest rest e .waiting;
+    waiting-taken = λ rest e.
         ap (total is-take) (history-append calls rest d)
-        ∙ omega (arith, total-append is-take (history d calls) (history (after-calls d calls) rest), drained table marks fair rest (after-calls d calls) good e .takes);
+        ∙ omega (
+          arith,
+          total-append is-take (history d calls) (history (after-calls d calls) rest),
+          drained-by rest e .takes,
+          ap (λ (g : State). size (g .waiting .tasks)) (after-append calls rest d),
+          ap size (at-rest rest e .waiting),
+          size-none,
+        );
   }
     where
       d : State
@@ -142,12 +159,14 @@ module _ (table : Table) (marks : ℕ) (fair : Fair table marks) where
       good : Good table marks fair (after-calls (opened table marks) calls)
       good = good-after table marks fair calls (opened table marks) (good-opened table marks fair)
 
-      pending : (rest : List Call) → Drained table marks fair (after-calls (opened table marks) calls) rest
-          → after-calls (opened table marks) (calls ++ rest) .jobs .pending ≡ 0
-      pending rest x =
+      drained-by : (rest : List Call) → EmptySets (after-calls (opened table marks) calls) rest → Drained table marks fair (after-calls (opened table marks) calls) rest
+      drained-by rest e = drained table marks fair rest (after-calls (opened table marks) calls) good e
+
+      at-rest : (rest : List Call) → EmptySets (after-calls (opened table marks) calls) rest → AtRest (after-calls (opened table marks) (calls ++ rest))
+      at-rest rest e =
           rests table marks fair (after-calls (opened table marks) (calls ++ rest))
           (good-after table marks fair (calls ++ rest) (opened table marks) (good-opened table marks fair))
-          (ap (λ (g : State). due (g .phase)) (after-append calls rest (opened table marks)) ∙ x .never) .pending
+          (ap (λ (g : State). due (g .phase)) (after-append calls rest (opened table marks)) ∙ drained-by rest e .never)
 
 pub demand-3 : Demand3
 unfolding Demand3

@@ -5,7 +5,7 @@ use Rattle.guarantees.specs.Types.{_≡_, refl, sym, ap, _∙_, subst, f
 use native.Mathlib.Omega.{arith}
 use borrow.Author.Tests.{eq-eqb, le-leb, lt-leb}
 use lib.Dec.{eqb}
-use Rattle.guarantees.specs.History.{Event, Starts, Stops, Comes, Finishes, Completes, Ends, Takes, GivesWay, Begins}
+use Rattle.guarantees.specs.History.{Event, Starts, Stops, Comes, Finishes, Completes, Ends, Takes, Defers, GivesWay, Begins}
 use Rattle.guarantees.specs.Queries.{end-tick, begin-tick, copied-out, completion, last-instant, Latest, none-yet, latest-by, latest, after, first}
 use Rattle.guarantees.specs.Claim.{if-reached, CopiedOut}
 
@@ -77,6 +77,7 @@ module _ (columns : List ℕ) where
   Leaving now s (Comes t ∷ es) = (now ≤ t) × Leaving t s es
   Leaving now s (Takes n t m ∷ es) = Leaving now s es
   Leaving now s (Finishes n ∷ es) = Leaving now s es
+  Leaving now s (Defers n t ∷ es) = Leaving now s es
   Leaving now s (GivesWay n ∷ es) = Leaving now s es
   Leaving now s (Starts n v ∷ es) = Leaving now s es
   Leaving now s (Stops n v ∷ es) = Leaving now s es
@@ -93,6 +94,7 @@ module _ (columns : List ℕ) where
   onward (Comes t ∷ es) now s h = omega (arith, h .0, onward es t s (h .1))
   onward (Takes n t m ∷ es) now s h = onward es now s h
   onward (Finishes n ∷ es) now s h = onward es now s h
+  onward (Defers n t ∷ es) now s h = onward es now s h
   onward (GivesWay n ∷ es) now s h = onward es now s h
   onward (Starts n v ∷ es) now s h = onward es now s h
   onward (Stops n v ∷ es) now s h = onward es now s h
@@ -108,6 +110,7 @@ module _ (columns : List ℕ) where
     busy (Comes t ∷ es) now r u h = busy es t r u (h .1)
     busy (Takes k t m ∷ es) now r u h = busy es now r u h
     busy (Finishes k ∷ es) now r u h = busy es now r u h
+    busy (Defers k t ∷ es) now r u h = busy es now r u h
     busy (GivesWay k ∷ es) now r u h = busy es now r u h
     busy (Starts k v ∷ es) now r u h = busy es now r u h
     busy (Stops k v ∷ es) now r u h = busy es now r u h
@@ -128,6 +131,7 @@ module _ (columns : List ℕ) where
     owed (Comes t ∷ es) now e h = let x : Leaves e t es = owed es t e (h .1) in record { begins = x .begins; completes = x .completes }
     owed (Takes k t m ∷ es) now e h = let x : Leaves e now es = owed es now e h in record { begins = x .begins; completes = x .completes }
     owed (Finishes k ∷ es) now e h = let x : Leaves e now es = owed es now e h in record { begins = x .begins; completes = x .completes }
+    owed (Defers k t ∷ es) now e h = let x : Leaves e now es = owed es now e h in record { begins = x .begins; completes = x .completes }
     owed (GivesWay k ∷ es) now e h = let x : Leaves e now es = owed es now e h in record { begins = x .begins; completes = x .completes }
     owed (Starts k v ∷ es) now e h = let x : Leaves e now es = owed es now e h in record { begins = x .begins; completes = x .completes }
     owed (Stops k v ∷ es) now e h = let x : Leaves e now es = owed es now e h in record { begins = x .begins; completes = x .completes }
@@ -153,6 +157,7 @@ module _ (columns : List ℕ) where
     running (Comes t ∷ es) now s r h e x = let y : Leaves e t es = running es t s r (h .1) e x in record { begins = y .begins; completes = y .completes }
     running (Takes k t m ∷ es) now s r h e x = let y : Leaves e now es = running es now s r h e x in record { begins = y .begins; completes = y .completes }
     running (Finishes k ∷ es) now s r h e x = let y : Leaves e now es = running es now s r h e x in record { begins = y .begins; completes = y .completes }
+    running (Defers k t ∷ es) now s r h e x = let y : Leaves e now es = running es now s r h e x in record { begins = y .begins; completes = y .completes }
     running (GivesWay k ∷ es) now s r h e x = let y : Leaves e now es = running es now s r h e x in record { begins = y .begins; completes = y .completes }
     running (Starts k v ∷ es) now s r h e x = let y : Leaves e now es = running es now s r h e x in record { begins = y .begins; completes = y .completes }
     running (Stops k v ∷ es) now s r h e x = let y : Leaves e now es = running es now s r h e x in record { begins = y .begins; completes = y .completes }
@@ -193,6 +198,7 @@ module _ (columns : List ℕ) where
     split (Comes u ∷ es) after t now l s h = split es after t u l s (h .1)
     split (Takes k u m ∷ es) after t now l s h = split es after t now l s h
     split (Finishes k ∷ es) after t now l s h = split es after t now l s h
+    split (Defers k u ∷ es) after t now l s h = split es after t now l s h
     split (GivesWay k ∷ es) after t now l s h = split es after t now l s h
     split (Starts k v ∷ es) after t now l s h = split es after t now l s h
     split (Stops k v ∷ es) after t now l s h = split es after t now l s h
@@ -243,6 +249,7 @@ module _ (columns : List ℕ) where
   meets (Comes t ∷ es) e after now s x h a = meets es e after t s x (h .1) a
   meets (Takes k t m ∷ es) e after now s x h a = meets es e after now s x h a
   meets (Finishes k ∷ es) e after now s x h a = meets es e after now s x h a
+  meets (Defers k t ∷ es) e after now s x h a = meets es e after now s x h a
   meets (GivesWay k ∷ es) e after now s x h a = meets es e after now s x h a
   meets (Starts k v ∷ es) e after now s x h a = meets es e after now s x h a
   meets (Stops k v ∷ es) e after now s x h a = meets es e after now s x h a

@@ -4,8 +4,8 @@ use Rattle.guarantees.specs.Types.{_≡_, refl, ap, _∙_, Bool, true, f
 use native.Mathlib.Omega.{arith}
 use lib.Dec.{eqb}
 use Rattle.sets.specs.Sets.{member}
-use Rattle.rules.specs.Instant.{processor-task, copyout-task, at-a, at-b, at-e, at-f, at-g, new-at}
-use Rattle.guarantees.specs.History.{Event, Comes, Starts, Stops, Finishes, Completes, Ends, Takes, GivesWay, Begins, happens, processor-events, processor-events-in, finish-events, finish-events-in, completion-events, end-events, take-events, given-way, giving-events, giving-events-in, begin-events, execution-events, start-events}
+use Rattle.rules.specs.Instant.{processor-task, copyout-task, at-a, at-b, at-e, at-f, at-g, new-at, late-at}
+use Rattle.guarantees.specs.History.{Event, Comes, Starts, Stops, Finishes, Completes, Ends, Takes, Defers, GivesWay, Begins, happens, processor-events, processor-events-in, finish-events, finish-events-in, completion-events, end-events, take-events, defer-events, given-way, giving-events, giving-events-in, begin-events, execution-events, start-events}
 use Rattle.guarantees.specs.Queries.{intervals, each}
 
 -- ---- the events of each step
@@ -93,6 +93,18 @@ module _ (P : List Event → Type 0) where
       go true f = f refl es h
       go false f = h
 
+  pub by-defers : (k late t : ℕ) → ((n : ℕ) → n < k → member n late ≡ true → (es : List Event) → P es → P (Defers n t ∷ es))
+      → (es : List Event) → P es → P (defer-events k late t ++ es)
+  unfolding defer-events
+  by-defers zero late t f es h = h
+  by-defers (suc k) late t f es h =
+      rw (append-assoc (defer-events k late t) (cond (member k late) (Defers k t ∷ []) []) es)
+      (by-defers k late t (λ n l. f n (omega arith)) (cond (member k late) (Defers k t ∷ []) [] ++ es) (go (member k late) (f k (omega arith))))
+    where
+      go : (b : Bool) → (b ≡ true → (es : List Event) → P es → P (Defers k t ∷ es)) → P (cond b (Defers k t ∷ []) [] ++ es)
+      go true f = f refl es h
+      go false f = h
+
   pub by-begins : (t : ℕ) → ((r l : MaybeTask) (es : List Event) → P es → P (Begins t r l ∷ es)) → (p q : Phase) (es : List Event) → P es → P (begin-events t p q ++ es)
   unfolding begin-events
   by-begins t f (Within i) q es h = h
@@ -110,13 +122,14 @@ front-of d t =
     ++ (completion-events (at-a d t .done)
     ++ end-events t (at-a d t .state .phase) (at-b d t .state .phase))))
 
--- after them
+-- after those that are taken
 unfoldable pub tail-of : State → ℕ → ℕ → List Event
 tail-of d t set =
-    giving-events-in (at-b d t .state .phase) (at-e d t set .phase)
+    defer-events 32 (late-at d t set) t
+    ++ (giving-events-in (at-b d t .state .phase) (at-e d t set .phase)
     ++ (end-events t (at-e d t set .phase) (at-f d t set .state .phase)
     ++ (begin-events t (at-f d t set .state .phase) (at-g d t set .phase)
-    ++ start-events t (at-f d t set .state .phase) (at-g d t set .phase)))
+    ++ start-events t (at-f d t set .state .phase) (at-g d t set .phase))))
 
 pub happens-parts : (d : State) (t set : ℕ) (h : List Event)
     → happens d t set ++ h ≡ front-of d t ++ (take-events 32 (new-at d t set) (d .marked) t ++ (tail-of d t set ++ h))
@@ -133,10 +146,11 @@ unfolding front-of
 front-parts d t es = simp append-assoc
 
 pub tail-parts : (d : State) (t set : ℕ) (es : List Event) → tail-of d t set ++ es
-    ≡ giving-events-in (at-b d t .state .phase) (at-e d t set .phase)
+    ≡ defer-events 32 (late-at d t set) t
+    ++ (giving-events-in (at-b d t .state .phase) (at-e d t set .phase)
     ++ (end-events t (at-e d t set .phase) (at-f d t set .state .phase)
     ++ (begin-events t (at-f d t set .state .phase) (at-g d t set .phase)
-    ++ (start-events t (at-f d t set .state .phase) (at-g d t set .phase) ++ es)))
+    ++ (start-events t (at-f d t set .state .phase) (at-g d t set .phase) ++ es))))
 unfolding tail-of
 tail-parts d t set es = simp append-assoc
 
@@ -180,7 +194,9 @@ tail-intervals d t set h =
     let e : List Event = end-events t (at-e d t set .phase) (at-f d t set .state .phase) in
     let b : List Event = begin-events t (at-f d t set .state .phase) (at-g d t set .phase) in
     let s : List Event = start-events t (at-f d t set .state .phase) (at-g d t set .phase) in
+    let w : List Event = giving-events-in (at-b d t .state .phase) (at-e d t set .phase) in
     ap intervals (tail-parts d t set h)
+    ∙ by-defers (As (w ++ (e ++ (b ++ (s ++ h))))) 32 (late-at d t set) t (λ n l m es e. e) (w ++ (e ++ (b ++ (s ++ h)))) refl
     ∙ by-gives (As (e ++ (b ++ (s ++ h)))) (λ n es e. e) (at-b d t .state .phase) (at-e d t set .phase) (e ++ (b ++ (s ++ h))) refl
     ∙ by-ends (As (b ++ (s ++ h))) t (λ es e. e) (at-e d t set .phase) (at-f d t set .state .phase) (b ++ (s ++ h)) refl
     ∙ begins-intervals t (at-f d t set .state .phase) (at-g d t set .phase) (s ++ h)

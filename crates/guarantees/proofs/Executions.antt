@@ -8,7 +8,7 @@ use Rattle.table.specs.Table.{copyin-length, execution-length}
 use Rattle.sets.proofs.Laws.{same-task}
 use Rattle.rules.specs.With.{at-clock, later}
 use Rattle.rules.specs.Order.{highest-of}
-use Rattle.rules.specs.Instant.{step-a, step-b, step-c, step-d, step-e, step-g, close, close-stage, over, promoted, next-of, with-candidates, cancel, choose, begin, begin-processor, wanted, ended, processor-at, processor-task, copyout-task, copyin-at, resting, settled, at-a, at-b, at-e, at-f, at-g, new-at, fresh-stage}
+use Rattle.rules.specs.Instant.{step-a, step-b, step-c, step-d, step-e, step-g, close, close-stage, over, promoted, next-of, with-candidates, cancel, choose, begin, begin-processor, wanted, ended, processor-at, processor-task, copyout-task, copyin-at, resting, settled, at-a, at-b, at-e, at-f, at-g, new-at, late-at, fresh-stage}
 use Rattle.rules.specs.Calls.{opened}
 use Rattle.guarantees.specs.History.{Event, Starts, Stops, Finishes, GivesWay, Begins, Ends, history, happens, processor-events, processor-events-in, finish-events, finish-events-in, completion-events, end-events, take-events, given-way, giving-events, giving-events-in, begin-events, start-events, execution-events}
 use Rattle.guarantees.specs.States.{processor-known, phase-known}
@@ -17,7 +17,7 @@ use Rattle.guarantees.proofs.Walk.{walk}
 use Rattle.guarantees.proofs.Times.{Times, processor-times}
 use Rattle.guarantees.proofs.Cases.{held-at, Held, d-cases, e-cases}
 use Rattle.guarantees.proofs.Steps.{Opened, e-opens, settles}
-use Rattle.guarantees.proofs.Events.{by-completes, by-takes, tail-of, front-of, happens-parts, front-parts, tail-parts}
+use Rattle.guarantees.proofs.Events.{by-completes, by-takes, by-defers, tail-of, front-of, happens-parts, front-parts, tail-parts}
 use Rattle.guarantees.proofs.Served.{last, served-at}
 use Rattle.guarantees.proofs.Invariant.{Good, Until, mass, debt, good-opened, good-next, good-quiet}
 use Rattle.guarantees.proofs.Frames.{Frame, b-frame, table-e, clock-g}
@@ -122,15 +122,16 @@ unfolding at-e step-c
 given-e d t set =
     let b : State = at-b d t .state in
     let new : ℕ = new-at d t set in
-    let c : State = step-c b t new in
+    let late : ℕ = late-at d t set in
+    let c : State = step-c b t new late in
     let x : State = step-d c new (c .phase) in
     e-given (b .phase) x t (c-given b new (b .phase) (x .phase) (d-given c new))
 
 -- a time with room for a length
-plain-later : (t x : ℕ) → t ≤ 2000000000 → x ≤ 1000000 → later t x ≡ t + x
+plain-later : (t x : ℕ) → t ≤ 3000000000 → x ≤ 1000000 → later t x ≡ t + x
 plain-later t x h l = omega arith
 
-exact : (t x : ℕ) → later t x ≤ 2000000000 → later t x ≡ t + x
+exact : (t x : ℕ) → later t x ≤ 3000000000 → later t x ≡ t + x
 exact t x l = omega arith
 
 module _ (table : Table) (marks : ℕ) (fair : Fair table marks) (t : ℕ) where
@@ -150,7 +151,7 @@ module _ (table : Table) (marks : ℕ) (fair : Fair table marks) (t : ℕ) where
           let u : until ≡ t = eqb-true until t e in (
             (refl, sym u, refl),
             subst (λ (x : ℕ). Working (table .columns) t (Runs n x) l ys)
-                (plain-later t (execution-length (table .columns) n) (subst (λ (x : ℕ). x ≤ 2000000000) u p) (fair .executions n k .1)) h,
+                (plain-later t (execution-length (table .columns) n) (subst (λ (x : ℕ). x ≤ 3000000000) u p) (fair .executions n k .1)) h,
           )
       go false e h = h
   processor-works (Executing n start until) l ys k p h = go (eqb until t) refl h
@@ -309,10 +310,11 @@ module _ (table : Table) (marks : ℕ) (fair : Fair table marks) where
       let g : Phase = at-g d t set .phase in
       let z : List Event = begin-events t (f .phase) g ++ (start-events t (f .phase) g ++ ys) in
       rw (tail-parts d t set ys)
+      (by-defers (WorksAt t (at-b d t .state .phase)) 32 (late-at d t set) t (λ n l m es h. unfold Working in h) (giving-events-in (at-b d t .state .phase) (e .phase) ++ (end-events t (e .phase) (f .phase) ++ z))
       (works-gives t (at-b d t .state .phase) (e .phase) (end-events t (e .phase) (f .phase) ++ z) (given-e d t set)
       (b-works table marks fair t s (e .phase) z refl
       (g-works table marks fair t f (held-at d t set) (f .phase) ys refl
-      (ap (λ (y : Frame). y .table) (b-frame s t) ∙ table-e d t set ∙ x) (plain table marks fair (at-g d t set) n) h)))
+      (ap (λ (y : Frame). y .table) (b-frame s t) ∙ table-e d t set ∙ x) (plain table marks fair (at-g d t set) n) h))))
 
   works-front : (d : State) (t : ℕ) (ys : List Event) → last (d .clock) ≤ t → Good table marks fair d
       → WorksAt t (at-b d t .state .phase) ys → WorksAt (last (d .clock)) (d .phase) (front-of d t ++ ys)

@@ -1,6 +1,8 @@
--- The steps leave the table and the marks, and the clock at the instant's time.
-use Rattle.guarantees.specs.Types.{_≡_, refl, ap, _∙_, ℕ, Table, Clock, At, MaybeTask, NoTask, Task, Interval, State, Stage}
-use Rattle.rules.specs.Instant.{step-a, step-b, step-c, step-d, step-e, step-g, close, cancel, choose, begin, at-a, at-b, at-e, at-f, at-g, new-at, fresh-stage}
+-- The steps leave the table and the marks, and the clock at the instant's time; steps a and c alone change what is pending, and step c alone what
+-- waits.
+use Rattle.guarantees.specs.Types.{_≡_, refl, ap, _∙_, ℕ, Table, WaitingReleases, Clock, At, MaybeTask, NoTask, Task, Interval, Phase, Between, Within, State, Stage}
+use Rattle.sets.specs.Sets.{union}
+use Rattle.rules.specs.Instant.{step-a, step-b, step-c, step-d, step-e, step-g, without-done, after-done, close, cancel, choose, begin, at-a, at-b, at-e, at-f, at-g, new-at, late-at, fresh-stage}
 use Rattle.rules.specs.With.{at-clock}
 use Rattle.rules.specs.Order.{highest-of}
 use Rattle.guarantees.proofs.Cases.{held-at, a-cases, b-cases, d-cases, e-cases, g-cases}
@@ -9,20 +11,24 @@ pub record Frame : Type 0 where
   pub table : Table
   pub marked : ℕ
   pub clock : Clock
+  pub pending : ℕ
+  pub waiting : WaitingReleases
 
 abbrev pub frame : State → Frame
-frame d = record { table = d .table; marked = d .marked; clock = d .clock }
+frame d = record { table = d .table; marked = d .marked; clock = d .clock; pending = d .jobs .pending; waiting = d .waiting }
 
-a-frame : (d : State) (t : ℕ) → frame (step-a d t (d .phase) .state) ≡ frame d
-a-frame d t = a-cases (λ x. frame x ≡ frame d) d t (λ next outgoing e. refl) (λ i e. refl)
+-- with other pending jobs
+abbrev frame-with : State → ℕ → Frame
+frame-with d s = record { table = d .table; marked = d .marked; clock = d .clock; pending = s; waiting = d .waiting }
+
+-- ---- each step
+
+a-frame : (d : State) (t : ℕ) → frame (step-a d t (d .phase) .state) ≡ frame-with d (step-a d t (d .phase) .state .jobs .pending)
+a-frame d t = a-cases (λ x. frame x ≡ frame-with d (x .jobs .pending)) d t (λ next outgoing e. refl) (λ i e. refl)
 
 pub b-frame : (s : Stage) (t : ℕ) → frame (step-b s t (s .state .phase) .state) ≡ frame (s .state)
 unfolding close
 b-frame s t = b-cases (λ x. frame x ≡ frame (s .state)) s t (λ i e o. refl) (λ next outgoing e. refl) (λ i e o. refl)
-
-pub c-frame : (d : State) (t new : ℕ) → frame (step-c d t new) ≡ frame d
-unfolding step-c
-c-frame d t new = refl
 
 pub d-frame : (d : State) (new : ℕ) → frame (step-d d new (d .phase)) ≡ frame d
 unfolding cancel
@@ -33,7 +39,7 @@ unfolding choose
 choose-frame d t i NoTask = refl
 choose-frame d t i (Task q) = refl
 
-e-frame : (d : State) (t : ℕ) → frame (step-e d t (d .phase)) ≡ frame d
+pub e-frame : (d : State) (t : ℕ) → frame (step-e d t (d .phase)) ≡ frame d
 e-frame d t = e-cases (λ x. frame x ≡ frame d) d t refl (λ i e s u. choose-frame d t i (highest-of d (d .jobs .ready)))
 
 g-frame : (d : State) (t new : ℕ) → frame (step-g d t new (d .phase)) ≡ frame d
@@ -41,22 +47,16 @@ unfolding begin
 g-frame d t new =
     g-cases (λ x. frame x ≡ frame d) d t new (λ i e. refl) (λ next outgoing e w. refl) (λ next outgoing e w. e-frame (begin d t new next outgoing) t)
 
-frame-b : (d : State) (t : ℕ) → frame (at-b d t .state) ≡ frame (at-clock d t)
+-- ---- up to step b
+
+frame-b : (d : State) (t : ℕ) → frame (at-b d t .state) ≡ frame-with (at-clock d t) (at-a d t .state .jobs .pending)
 unfolding at-b at-a
 frame-b d t = b-frame (at-a d t) t ∙ a-frame (at-clock d t) t
 
-frame-e : (d : State) (t set : ℕ) → frame (at-e d t set) ≡ frame (at-clock d t)
-unfolding at-e
-frame-e d t set =
-    let new : ℕ = new-at d t set in
-    let c : State = step-c (at-b d t .state) t new in
-    e-frame (step-d c new (c .phase)) t ∙ d-frame c new ∙ c-frame (at-b d t .state) t new ∙ frame-b d t
-
-frame-g : (d : State) (t set : ℕ) → frame (at-g d t set) ≡ frame (at-clock d t)
-unfolding at-g at-f
-frame-g d t set =
-    g-frame (at-f d t set .state) t (held-at d t set)
-    ∙ b-frame (fresh-stage (at-e d t set)) t ∙ frame-e d t set
+a-pending : (d : State) (t : ℕ) (p : Phase) → step-a d t p .state .jobs .pending ≡ after-done (d .jobs .pending) (step-a d t p .done)
+unfolding step-a without-done
+a-pending d t (Between next outgoing) = refl
+a-pending d t (Within i) = refl
 
 pub table-a : (d : State) (t : ℕ) → at-a d t .state .table ≡ d .table
 unfolding at-a
@@ -68,11 +68,58 @@ table-b d t = ap (λ (x : Frame). x .table) (frame-b d t)
 pub marked-b : (d : State) (t : ℕ) → at-b d t .state .marked ≡ d .marked
 marked-b d t = ap (λ (x : Frame). x .marked) (frame-b d t)
 
-pub table-e : (d : State) (t set : ℕ) → at-e d t set .table ≡ d .table
-table-e d t set = ap (λ (x : Frame). x .table) (frame-e d t set)
+pub pending-b : (d : State) (t : ℕ) → at-b d t .state .jobs .pending ≡ after-done (d .jobs .pending) (at-a d t .done)
+unfolding at-a
+pending-b d t = ap (λ (x : Frame). x .pending) (frame-b d t) ∙ a-pending (at-clock d t) t (d .phase)
 
-pub table-g : (d : State) (t set : ℕ) → at-g d t set .table ≡ d .table
-table-g d t set = ap (λ (x : Frame). x .table) (frame-g d t set)
+pub waiting-b : (d : State) (t : ℕ) → at-b d t .state .waiting ≡ d .waiting
+waiting-b d t = ap (λ (x : Frame). x .waiting) (frame-b d t)
 
-pub clock-g : (d : State) (t set : ℕ) → at-g d t set .clock ≡ At t
-clock-g d t set = ap (λ (x : Frame). x .clock) (frame-g d t set)
+-- ---- step c, and from it on
+
+-- the state that it leaves
+abbrev pub at-c : State → ℕ → ℕ → State
+at-c d t set = step-c (at-b d t .state) t (new-at d t set) (late-at d t set)
+
+pub c-table : (d : State) (t new late : ℕ) → step-c d t new late .table ≡ d .table
+unfolding step-c
+c-table d t new late = refl
+
+c-clock : (d : State) (t new late : ℕ) → step-c d t new late .clock ≡ d .clock
+unfolding step-c
+c-clock d t new late = refl
+
+c-pending : (d : State) (t new late : ℕ) → step-c d t new late .jobs .pending ≡ union (d .jobs .pending) new
+unfolding step-c
+c-pending d t new late = refl
+
+frame-e : (d : State) (t set : ℕ) → frame (at-e d t set) ≡ frame (at-c d t set)
+unfolding at-e
+frame-e d t set =
+    let new : ℕ = new-at d t set in
+    let c : State = at-c d t set in
+    e-frame (step-d c new (c .phase)) t ∙ d-frame c new
+
+frame-g : (d : State) (t set : ℕ) → frame (at-g d t set) ≡ frame (at-c d t set)
+unfolding at-g at-f
+frame-g d t set =
+    g-frame (at-f d t set .state) t (held-at d t set)
+    ∙ b-frame (fresh-stage (at-e d t set)) t ∙ frame-e d t set
+
+module _ (d : State) (t set : ℕ) where
+  pub table-e : at-e d t set .table ≡ d .table
+  table-e = ap (λ (x : Frame). x .table) (frame-e d t set) ∙ c-table (at-b d t .state) t (new-at d t set) (late-at d t set) ∙ table-b d t
+
+  pub table-g : at-g d t set .table ≡ d .table
+  table-g = ap (λ (x : Frame). x .table) (frame-g d t set) ∙ c-table (at-b d t .state) t (new-at d t set) (late-at d t set) ∙ table-b d t
+
+  pub clock-g : at-g d t set .clock ≡ At t
+  clock-g =
+      ap (λ (x : Frame). x .clock) (frame-g d t set) ∙ c-clock (at-b d t .state) t (new-at d t set) (late-at d t set) ∙ ap (λ (x : Frame). x .clock) (frame-b d t)
+
+  pub pending-g : at-g d t set .jobs .pending ≡ union (at-b d t .state .jobs .pending) (new-at d t set)
+  pending-g = ap (λ (x : Frame). x .pending) (frame-g d t set) ∙ c-pending (at-b d t .state) t (new-at d t set) (late-at d t set)
+
+  -- what waits after an instant waits since its step c
+  pub waiting-g : at-g d t set .waiting ≡ at-c d t set .waiting
+  waiting-g = ap (λ (x : Frame). x .waiting) (frame-g d t set)

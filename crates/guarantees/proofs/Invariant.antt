@@ -1,24 +1,25 @@
 -- The invariant of the states that calls made, and that each call keeps it. Its last part bounds the times: each phase under way ends after
 -- the clock, at most 1,000,000 ticks after it, and before a bound that the mass still to come pushes down; so no time comes near the last tick
 -- of a u64, since releases come by 1,000,000,000 and every phase that ends after that takes from the mass.
-use Rattle.guarantees.specs.Types.{_≡_, refl, sym, ap, _∙_, subst, false, List, ℕ, _+_, _*_, _^_, _≤_, _<_, Table, Clock, Processor, Idle, CopyingIn, Executing, Finished, CopyOut, NoCopyOut, CopyingOut, CopiedOut, CopyIn, Unchosen, NoneChosen, Copying, Loaded, Cancelled, Next, NoneNext, LoadedNext, PromotedNext, Outgoing, NoneOutgoing, AwaitsCopyOut, Phase, Between, Within, State, Call}
+use Rattle.guarantees.specs.Types.{_≡_, refl, sym, ap, _∙_, subst, false, List, ℕ, _+_, _*_, _^_, _≤_, _<_, Table, WaitingReleases, Clock, Processor, Idle, CopyingIn, Executing, Finished, CopyOut, NoCopyOut, CopyingOut, CopiedOut, CopyIn, Unchosen, NoneChosen, Copying, Loaded, Cancelled, Next, NoneNext, LoadedNext, PromotedNext, Outgoing, NoneOutgoing, AwaitsCopyOut, Phase, Between, Within, State, Call}
 use native.Mathlib.Omega.{arith}
 use borrow.Author.Tests.{eqb-true, eqb-false, eq-eqb, ltb-true, ltb-false}
 use lib.Dec.{eqb, ltb}
 use lib.ListN.{getD}
 use Rattle.table.specs.Table.{copyin-length, execution-length, copyout-length}
 use Rattle.sets.specs.Sets.{member, difference, bit, size}
-use Rattle.sets.proofs.Laws.{count-none, none, by-test, clash, difference-left, size-most}
+use Rattle.sets.proofs.Laws.{none, by-test, clash, size-none, size-most, union-small}
 use Rattle.guarantees.proofs.Walk.{with-marks, MarksKnown, after}
 use Rattle.guarantees.proofs.Proper.{Fair}
 use Rattle.guarantees.specs.History.{after-calls}
 use Rattle.rules.specs.Calls.{opened}
-use Rattle.rules.specs.Instant.{taken, settled, at-b, at-e, at-f, at-g, new-at, fresh-stage}
+use Rattle.rules.specs.Instant.{taken, deferred, settled, at-b, at-e, at-f, at-g, new-at, fresh-stage}
 use Rattle.rules.specs.With.{later}
-use Rattle.guarantees.proofs.Frames.{table-g, clock-g}
+use Rattle.guarantees.proofs.Frames.{table-g, clock-g, waiting-b}
+use Rattle.guarantees.proofs.Releases.{taken-none, waits-g, behind-g, balance-g}
 use Rattle.guarantees.proofs.Count.{Sound, weight, rank, rank-small, phase-weight, phase-debt, b-leads, debt-covered, instant-leads, copyin-weight, processor-weight, next-weight, outgoing-weight}
 use Rattle.guarantees.proofs.Settled.{Settled, settled-after}
-use Rattle.guarantees.proofs.Times.{Times, times-map, processor-times, copyout-times, copyin-times, Starts, Later, drop, processor-drop, copyout-drop, copyin-drop, instant-times, instant-still}
+use Rattle.guarantees.proofs.Times.{Times, times-map, processor-times, copyout-times, copyin-times, Starts, Later, drop, processor-drop, copyout-drop, copyin-drop, instant-times, instant-still, still-pending}
 use Rattle.guarantees.proofs.Places.{Parted, instant-moves}
 use Rattle.guarantees.proofs.Steps.{Sub}
 use Rattle.guarantees.proofs.Served.{instant-sinks, last, Served-at, served-at, NotBefore}
@@ -51,21 +52,22 @@ phase-weight-small (Within i) = omega (arith, go (i .copyin), go-processor (i .p
     go-processor (Executing n start until) = omega arith
     go-processor (Finished n start) = omega arith
 
+-- what is still to come: a release that waits weighs what its job will when it is taken, so that its taking adds nothing
 unfoldable pub mass : State → ℕ
-mass d = 8 * weight d (d .phase) + rank (d .phase)
+mass d = 8 * weight d (d .phase) + rank (d .phase) + 24 * size (d .waiting .tasks)
 
 pub debt : State → ℕ
 debt d = 8 * phase-debt (d .phase)
 
-mass-small : (d : State) → mass d ≤ 796
+mass-small : (d : State) → mass d ≤ 1564
 unfolding mass
-mass-small d = omega (arith, size-most (d .jobs .ready), phase-weight-small (d .phase), rank-small (d .phase))
+mass-small d = omega (arith, size-most (d .jobs .ready), size-most (d .waiting .tasks), phase-weight-small (d .phase), rank-small (d .phase))
 
 -- the time at which a phase under way ends: after the clock, not far, and far from the last tick of a clock
 pub record Until (clock mass debt u : ℕ) : Type 0 where
   pub after : clock < u
   pub near : u ≤ clock + 1000000
-  pub bound : u + 1000000 * mass ≤ 2000000000 + 1000000 * debt
+  pub bound : u + 1000000 * mass ≤ 3000000000 + 1000000 * debt
 
 -- ---- times by cases
 
@@ -158,13 +160,13 @@ module _ (X Y : ℕ → Type 0) where
 
 -- ---- the pieces of an instant
 
--- an empty set is taken as none
-pub new-none : (d : State) (t set : ℕ) → ((k : ℕ) → k < 32 → member k set ≡ false) → size (new-at d t set) ≡ 0
-unfolding size new-at taken
-new-none d t set h =
-    let s : ℕ = difference set (at-b d t .state .jobs .pending) in
-    count-none 32 (λ k. member k s)
-    (λ k l. by-test (member k s) (λ x. clash (member k set) (difference-left set (at-b d t .state .jobs .pending) k x) (h k l)) (λ x. x))
+-- of an empty set none is taken while nothing ends: what waits goes on waiting behind its pending job
+none-taken : (d : State) (t set : ℕ) → ((k : ℕ) → k < 32 → member k set ≡ false) → Sub (d .waiting .tasks) (d .jobs .pending) → drop t (d .phase) ≡ 0
+    → (k : ℕ) → k < 32 → member k (new-at d t set) ≡ false
+unfolding new-at
+none-taken d t set h behind z =
+    taken-none (at-b d t .state) set h
+    (λ k l m. ap (member k) (still-pending d t z) ∙ behind k l (ap (λ (w : WaitingReleases). member k (w .tasks)) (sym (waiting-b d t)) ∙ m))
 
 few-f : (d : State) (t set : ℕ) → Sound d (d .phase) → at-f d t set .state .jobs .ready < 2 ^ 32
 unfolding at-f
@@ -172,9 +174,9 @@ few-f d t set h =
     let e : State = at-e d t set in
     b-leads (fresh-stage e) t (e .phase) refl (Count.to-e d t set (Count.to-b d t h .sound) .sound) .sound .few
 
-pub sinks : (d : State) (t set : ℕ) → Sound d (d .phase) → mass (at-g d t set) + debt d + drop t (d .phase) ≤ mass d + debt (at-g d t set) + 24 * size (new-at d t set)
+pub sinks : (d : State) (t set : ℕ) → Sound d (d .phase) → mass (at-g d t set) + debt d + drop t (d .phase) ≤ mass d + debt (at-g d t set) + 24 * size set
 unfolding mass debt
-sinks d t set h = instant-sinks d t set h
+sinks d t set h = omega (arith, instant-sinks d t set h, balance-g d t set)
 
 pub debt-less : (d : State) → Sound d (d .phase) → debt d ≤ mass d
 unfolding mass debt
@@ -188,6 +190,8 @@ module _ (table : Table) (marks : ℕ) (fair : Fair table marks) where
     pub sound : Sound d (d .phase)
     pub parted : Parted (table .present) (fair .present) d (d .phase)
     pub settled : Settled d (d .phase)
+    pub waits-few : d .waiting .tasks < 2 ^ 32
+    pub behind : Sub (d .waiting .tasks) (d .jobs .pending)
     pub times : Times (Until (last (d .clock)) (mass d) (debt d)) (d .phase)
 
   pub good-opened : Good (opened table marks)
@@ -200,15 +204,18 @@ module _ (table : Table) (marks : ℕ) (fair : Fair table marks) where
       marks = λ k l m. fair .marks k m;
       pending = λ k l h. clash (member k 0) h (none k);
       ready = λ k l h. clash (member k 0) h (none k);
+      waits = λ k l h. clash (member k 0) h (none k);
       known = (tt, tt);
       parts = λ k l. rw (none k);
     };
     settled = record { decided = tt; open-yet = tt; rests = (refl, refl, refl) };
+    waits-few = omega arith;
+    behind = λ k l h. clash (member k 0) h (none k);
     times = tt;
   }
 
   -- what starts at t ends in time
-  starts : (t m e : ℕ) → t + 1000000 + 1000000 * m ≤ 2000000000 + 1000000 * e → t ≤ 2000000000 → Starts table (fair .present) t (Until t m e)
+  starts : (t m e : ℕ) → t + 1000000 + 1000000 * m ≤ 3000000000 + 1000000 * e → t ≤ 3000000000 → Starts table (fair .present) t (Until t m e)
   starts t m e h l = record {
     copyin = λ n k. soon (copyin-length (table .columns) n) (fair .copyins n k .0) (fair .copyins n k .1);
     execution = λ n k. soon (execution-length (table .columns) n) (fair .executions n k .0) (fair .executions n k .1);
@@ -239,28 +246,28 @@ module _ (table : Table) (marks : ℕ) (fair : Fair table marks) where
     -- releases come early
     times-released : eqb set 0 ≡ false → Times After (at-g d t set .phase)
     times-released e =
-        let m : mass (at-g d t set) ≤ 796 = mass-small (at-g d t set) in
+        let m : mass (at-g d t set) ≤ 1564 = mass-small (at-g d t set) in
         let l : t ≤ 1000000000 = served .early e in
         let o : last (d .clock) ≤ t = served .onward in
         by-starts (starts t (mass (at-g d t set)) (debt (at-g d t set)) (omega arith) (omega arith))
         (λ u b ne. record { after = omega (arith, b .1); near = omega (arith, b .0 .near); bound = omega (arith, b .0 .near) })
 
-    times-ended : size (new-at d t set) ≡ 0 → 1 ≤ drop t (d .phase) → Times After (at-g d t set .phase)
+    times-ended : size set ≡ 0 → 1 ≤ drop t (d .phase) → Times After (at-g d t set .phase)
     times-ended z h =
         let x : Before t = drop-one Before t (d .phase) before h in
-        let y : mass (at-g d t set) + debt d + drop t (d .phase) ≤ mass d + debt (at-g d t set) + 24 * size (new-at d t set) = sinks d t set (good .sound) in
+        let y : mass (at-g d t set) + debt d + drop t (d .phase) ≤ mass d + debt (at-g d t set) + 24 * size set = sinks d t set (good .sound) in
         let o : last (d .clock) ≤ t = served .onward in
         by-starts (starts t (mass (at-g d t set)) (debt (at-g d t set)) (omega (arith, x .0 .bound)) (omega (arith, x .0 .bound, debt-less d (good .sound))))
         (λ u b ne. record { after = omega (arith, b .1); near = omega (arith, b .0 .near); bound = omega (arith, b .0 .bound) })
 
-    times-still : ((k : ℕ) → k < 32 → member k set ≡ false) → size (new-at d t set) ≡ 0 → drop t (d .phase) ≡ 0 → Times After (at-g d t set .phase)
+    times-still : ((k : ℕ) → k < 32 → member k set ≡ false) → size set ≡ 0 → drop t (d .phase) ≡ 0 → Times After (at-g d t set .phase)
     times-still n z h =
-        let y : mass (at-g d t set) + debt d + drop t (d .phase) ≤ mass d + debt (at-g d t set) + 24 * size (new-at d t set) = sinks d t set (good .sound) in
+        let y : mass (at-g d t set) + debt d + drop t (d .phase) ≤ mass d + debt (at-g d t set) + 24 * size set = sinks d t set (good .sound) in
         let o : last (d .clock) ≤ t = served .onward in
         times-map (Other Before t) After
         (λ u b. record { after = omega (arith, b .0 .1, b .1); near = omega (arith, b .0 .0 .near); bound = omega (arith, b .0 .0 .bound) })
         (at-g d t set .phase)
-        (instant-still (Other Before t) t d set h n
+        (instant-still (Other Before t) t d set h (none-taken d t set n (good .behind) h)
         (record { times = drop-none Before t (d .phase) before h; decided = good .settled .decided; open-yet = good .settled .open-yet; rests = good .settled .rests }) .times)
 
     times-next : Times After (at-g d t set .phase)
@@ -268,7 +275,7 @@ module _ (table : Table) (marks : ℕ) (fair : Fair table marks) where
         by-test (eqb set 0)
         (λ e.
         let n : (k : ℕ) → k < 32 → member k set ≡ false = λ k l. ap (member k) (eqb-true set 0 e) ∙ none k in
-        let z : size (new-at d t set) ≡ 0 = new-none d t set n in
+        let z : size set ≡ 0 = ap size (eqb-true set 0 e) ∙ size-none in
         by-test (eqb (drop t (d .phase)) 0)
         (λ f. times-still n z (eqb-true (drop t (d .phase)) 0 f))
         (λ f. times-ended z (omega (arith, eqb-false (drop t (d .phase)) 0 f))))
@@ -280,6 +287,8 @@ module _ (table : Table) (marks : ℕ) (fair : Fair table marks) where
       sound = instant-leads d t set (good .sound) .sound;
       parted = instant-moves (table .present) (fair .present) d t set known-set (good .parted) .parted;
       settled = settled-after d t set (few-f d t set (good .sound));
+      waits-few = subst (λ (s : ℕ). s < 2 ^ 32) (sym (waits-g d t set)) (union-small (difference (at-b d t .state .waiting .tasks) (taken (at-b d t .state) set)) (deferred (at-b d t .state) set));
+      behind = behind-g d t set;
       times = subst (λ (c : Clock). Times (Until (last c) (mass (at-g d t set)) (debt (at-g d t set))) (at-g d t set .phase)) (sym (clock-g d t set)) times-next;
     }
 
@@ -292,10 +301,13 @@ module _ (table : Table) (marks : ℕ) (fair : Fair table marks) where
       marks = subst (λ (t : Table). Sub (d .marked) (t .present) → Sub marks (t .present)) (g .table-is) known (g .parted .marks);
       pending = g .parted .pending;
       ready = g .parted .ready;
+      waits = g .parted .waits;
       known = g .parted .known;
       parts = g .parted .parts;
     };
     settled = record { decided = g .settled .decided; open-yet = g .settled .open-yet; rests = g .settled .rests };
+    waits-few = g .waits-few;
+    behind = g .behind;
     times = unfold mass debt in g .times;
   }
 

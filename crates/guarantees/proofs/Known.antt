@@ -1,16 +1,17 @@
 -- Every task that is taken or executed in a history is one of the table's.
-use Rattle.guarantees.specs.Types.{_≡_, Bool, true, false, cond, List, [], _∷_, _++_, sym, subst, ℕ, zero, suc, _<_, Table, MaybeTask, NoTask, Task, Processor, Idle, CopyingIn, Executing, Finished, Phase, Between, Within, State, Call}
+use Rattle.guarantees.specs.Types.{_≡_, ap, _∙_, ⊎-elim, Bool, true, false, cond, List, [], _∷_, _++_, sym, subst, ℕ, zero, suc, _<_, Table, WaitingReleases, MaybeTask, NoTask, Task, Processor, Idle, CopyingIn, Executing, Finished, Phase, Between, Within, State, Call}
 use native.Mathlib.Nat.{not-suc-le-zero, le-of-suc-le-suc}
 use lib.ListN.{getD, length}
 use Rattle.sets.specs.Sets.{member}
-use Rattle.sets.proofs.Laws.{difference-left}
-use Rattle.rules.specs.Instant.{at-b, at-e, at-f, at-g, new-at, taken, processor-task}
-use Rattle.guarantees.specs.History.{Event, Starts, Stops, Comes, Finishes, Completes, Ends, Takes, GivesWay, Begins, history, happens, end-events, take-events, begin-events, start-events}
+use Rattle.rules.specs.Instant.{at-b, at-e, at-f, at-g, new-at, late-at, processor-task}
+use Rattle.guarantees.specs.History.{Event, Starts, Stops, Comes, Finishes, Completes, Ends, Takes, Defers, GivesWay, Begins, history, happens, end-events, take-events, giving-events-in, begin-events, start-events}
 use Rattle.guarantees.specs.Queries.{is-task, intervals, each, upto}
 use Rattle.guarantees.proofs.Proper.{Fair}
 use Rattle.guarantees.proofs.Walk.{walk}
-use Rattle.guarantees.proofs.Events.{by-gives, by-ends, by-takes, by-starts, by-front, tail-of, happens-parts, tail-parts}
+use Rattle.guarantees.proofs.Events.{by-gives, by-ends, by-takes, by-defers, by-starts, by-front, tail-of, happens-parts, tail-parts}
 use Rattle.guarantees.proofs.Steps.{Sub}
+use Rattle.guarantees.proofs.Frames.{waiting-b}
+use Rattle.guarantees.proofs.Releases.{taken-from}
 use Rattle.guarantees.proofs.Served.{served-at}
 use Rattle.guarantees.proofs.Invariant.{Good, good-next, good-quiet}
 use Rattle.guarantees.specs.States.{set-known, processor-known, phase-known}
@@ -23,6 +24,7 @@ module _ (present : ℕ) where
   abbrev pub KnownIn : Event → Type 0
   KnownIn (Comes t) = Unit {0}
   KnownIn (Finishes n) = Unit {0}
+  KnownIn (Defers n t) = Unit {0}
   KnownIn (GivesWay n) = Unit {0}
   KnownIn (Starts n v) = Unit {0}
   KnownIn (Stops n v) = Unit {0}
@@ -52,6 +54,7 @@ module _ (present : ℕ) where
   interval-known n [] h i l = absurd (not-suc-le-zero l)
   interval-known n (Comes t ∷ es) h i l = interval-known n es (h .1) i l
   interval-known n (Finishes k ∷ es) h i l = interval-known n es (h .1) i l
+  interval-known n (Defers k t ∷ es) h i l = interval-known n es (h .1) i l
   interval-known n (GivesWay k ∷ es) h i l = interval-known n es (h .1) i l
   interval-known n (Starts k v ∷ es) h i l = interval-known n es (h .1) i l
   interval-known n (Stops k v ∷ es) h i l = interval-known n es (h .1) i l
@@ -80,24 +83,26 @@ module _ (present : ℕ) where
   known-begins t (Between next outgoing) (Between x y) ys h k = k
   known-begins t (Between next outgoing) (Within j) ys h k = (known-processor (j .processor) (h .1), k)
 
-  known-happens : (d : State) (t set : ℕ) (ys : List Event) → set-known present set → phase-known present (at-g d t set .phase) → AllKnown ys → AllKnown (happens d t set ++ ys)
+  known-happens : (d : State) (t set : ℕ) (ys : List Event) → set-known present set → Sub (d .waiting .tasks) present → phase-known present (at-g d t set .phase) → AllKnown ys → AllKnown (happens d t set ++ ys)
   unfolding AllKnown
-  known-happens d t set ys f g h =
+  known-happens d t set ys f w g h =
       let x : List Event = begin-events t (at-f d t set .state .phase) (at-g d t set .phase) in
       let z : List Event = start-events t (at-f d t set .state .phase) (at-g d t set .phase) ++ ys in
       let tail : AllKnown (tail-of d t set ++ ys) =
       subst AllKnown (sym (tail-parts d t set ys))
+      (by-defers AllKnown 32 (late-at d t set) t (λ n l m es k. (tt, k)) (giving-events-in (at-b d t .state .phase) (at-e d t set .phase) ++ (end-events t (at-e d t set .phase) (at-f d t set .state .phase) ++ (x ++ z)))
       (by-gives AllKnown (λ n es k. (tt, k)) (at-b d t .state .phase) (at-e d t set .phase) (end-events t (at-e d t set .phase) (at-f d t set .state .phase) ++ (x ++ z))
       (by-ends AllKnown t (λ es k. (tt, k)) (at-e d t set .phase) (at-f d t set .state .phase) (x ++ z)
       (known-begins t (at-f d t set .state .phase) (at-g d t set .phase) z g
-      (by-starts AllKnown t (λ n es k. (tt, k)) (at-f d t set .state .phase) (at-g d t set .phase) ys h)))) in
+      (by-starts AllKnown t (λ n es k. (tt, k)) (at-f d t set .state .phase) (at-g d t set .phase) ys h))))) in
       rw (happens-parts d t set ys)
       (by-front AllKnown (λ t es k. (tt, k)) (λ n t es k. (tt, k)) (λ n t es k. (tt, k)) (λ n es k. (tt, k)) (λ n t es k. (tt, k)) (λ t es k. (tt, k)) d t
       (take-events 32 (new-at d t set) (d .marked) t ++ (tail-of d t set ++ ys))
-      (by-takes AllKnown 32 (new-at d t set) (d .marked) t (λ n l m es k. (f n l (was-released n m), k)) (tail-of d t set ++ ys) tail))
+      (by-takes AllKnown 32 (new-at d t set) (d .marked) t (λ n l m es k. (was-known n l m, k)) (tail-of d t set ++ ys) tail))
     where
-      was-released : (n : ℕ) → member n (new-at d t set) ≡ true → member n set ≡ true
-      was-released n = unfold new-at taken in difference-left set (at-b d t .state .jobs .pending) n
+      was-known : Sub (new-at d t set) present
+      was-known n l m = unfold new-at in
+          ⊎-elim (λ x. w n l (ap (λ (y : WaitingReleases). member n (y .tasks)) (sym (waiting-b d t)) ∙ x)) (λ x. f n l x) (taken-from (at-b d t .state) set n m)
 
 -- ---- along the calls
 
@@ -109,6 +114,6 @@ module _ (table : Table) (marks : ℕ) (fair : Fair table marks) where
       (λ d t set cs e k g.
       let n : Good table marks fair (at-g d t set) = good-next table marks fair d t set g (served-at d t set e) in
       known-happens (table .present) d t set (history (at-g d t set) cs)
-      (subst (λ (x : Table). Sub set (x .present)) (g .table-is) (served-at d t set e .known)) (n .parted .known) (k n))
+      (subst (λ (x : Table). Sub set (x .present)) (g .table-is) (served-at d t set e .known)) (g .parted .waits) (n .parted .known) (k n))
       (λ d m e h k g. k (good-quiet table marks fair d m e g))
       cs d

@@ -1,27 +1,28 @@
 -- What a state knows of the last job of a task is what the walk of Tally finds, and each step keeps that.
-use Rattle.guarantees.specs.Types.{_≡_, refl, sym, ap, _∙_, subst, Bool, true, false, cond, _&&_, _||_, false≢true, List, [], _∷_, _++_, _⊎_, inl, inr, ⊎-elim, ℕ, _+_, _^_, _≤_, _<_, min, Table, MaybeTask, NoTask, Task, Processor, Idle, CopyingIn, Executing, Finished, CopyOut, NoCopyOut, CopyingOut, CopiedOut, CopyIn, Unchosen, NoneChosen, Copying, Loaded, Cancelled, Interval, Next, NoneNext, LoadedNext, PromotedNext, Outgoing, NoneOutgoing, AwaitsCopyOut, Phase, Between, Within, State, Stage, Due, Never, Tick}
+use Rattle.guarantees.specs.Types.{_≡_, refl, sym, ap, _∙_, subst, Bool, true, false, cond, not, _&&_, _||_, false≢true, List, [], _∷_, _++_, _⊎_, inl, inr, ⊎-elim, ℕ, _+_, _^_, _≤_, _<_, min, Table, WaitingReleases, MaybeTask, NoTask, Task, Processor, Idle, CopyingIn, Executing, Finished, CopyOut, NoCopyOut, CopyingOut, CopiedOut, CopyIn, Unchosen, NoneChosen, Copying, Loaded, Cancelled, Interval, Next, NoneNext, LoadedNext, PromotedNext, Outgoing, NoneOutgoing, AwaitsCopyOut, Phase, Between, Within, State, Stage, Due, Never, Tick}
 use native.Mathlib.Omega.{arith}
 use native.Mathlib.Nat.{add-zero, zero-add}
 use borrow.Author.Tests.{eqb-true, ne-eqb, le-ltb}
 use Rattle.table.specs.Table.{execution-length}
 use lib.Dec.{eqb, ltb}
 use lib.ListN.{getD, length}
-use Rattle.sets.specs.Sets.{member, bit}
-use Rattle.sets.proofs.Laws.{by-test, clash, none, collected, union-out, same-task, insert-same, insert-other}
+use Rattle.sets.specs.Sets.{member, difference, bit}
+use Rattle.sets.proofs.Laws.{by-test, clash, none, collected, united, difference-member, union-out, same-task, insert-same, insert-other}
 use Rattle.rules.specs.With.{later}
 use Rattle.rules.specs.Order.{highest-of, higher, higher-than}
-use Rattle.rules.specs.Instant.{step-a, step-b, step-c, step-d, step-e, step-g, close, close-stage, over, promoted, awaiting-copyout, awaiting-execution, blocks, stamped, settled, with-candidates, cancel, choose, begin, begin-processor, begin-copyout, wanted, without-done, ended, processor-at, copyout-at, copyin-at, processor-task, taken}
-use Rattle.guarantees.specs.History.{Event, Takes, Ends, processor-events, processor-events-in, finish-events, finish-events-in, completion-events, end-events, take-events, begin-events, start-events}
-use Rattle.guarantees.specs.Queries.{is-task, Situation, Open}
+use Rattle.rules.specs.Instant.{step-a, step-b, step-c, step-d, step-e, step-g, close, close-stage, over, promoted, awaiting-copyout, awaiting-execution, blocks, stamped, settled, with-candidates, original as stamps, cancel, choose, begin, begin-processor, begin-copyout, wanted, without-done, ended, processor-at, copyout-at, copyin-at, processor-task}
+use Rattle.guarantees.specs.History.{Event, Takes, Ends, processor-events, processor-events-in, finish-events, finish-events-in, completion-events, end-events, take-events, defer-events, begin-events, start-events}
+use Rattle.guarantees.specs.Queries.{is-task, Situation, Open, original}
 use Rattle.guarantees.specs.Entries.{is-lower, lower-in}
 use Rattle.guarantees.proofs.Cases.{d-cases, e-cases}
+use Rattle.guarantees.proofs.Frames.{Frame, d-frame, e-frame}
 use Rattle.guarantees.proofs.Steps.{Opened, e-opens, settles, processor-task-same}
 use Rattle.guarantees.proofs.Waiting.{held-task, next-task, up-next, runs}
 use Rattle.guarantees.proofs.Order.{situation-of, c-situation, d-situation, e-situation}
 use Rattle.guarantees.proofs.Blocking.{Place, Out, In, place, c-place, c-up-next, Awaits, AwaitsIn, Bounded, Like, a-like, d-like, e-like, promoted-awaits, promoted-ready}
 use Rattle.guarantees.proofs.Places.{Parted, stage, next-bit, outgoing-bit, processor-bit, copyout-bit}
 use Rattle.guarantees.proofs.Tally.{Tally, first-of, or-else, grown, tally-by, tally, tally-append}
-use Rattle.guarantees.proofs.Tallies.{counted-length, counted-exact, stamped-length, stamped-exact, with-started, started-after, processor-tally, finish-tally, completion-tally, takes-others, takes-this, started-next, begun, opened-tally}
+use Rattle.guarantees.proofs.Tallies.{counted-length, counted-exact, stamped-length, stamped-exact, with-started, with-held, started-after, processor-tally, finish-tally, completion-tally, takes-others, takes-this, defers-tally, started-next, begun, opened-tally}
 
 -- ---- how many intervals are lower
 
@@ -65,27 +66,33 @@ module _ (pr : List ℕ) (n : ℕ) (small : n < 32) where
 
   -- a job that awaits execution: its count is of all intervals but the open one
   pub record Awaiting (x : Tally) (d : State) : Type 0 where
-    pub taken : x .taken ≡ Tick (getD (d .jobs .release) n 0)
+    pub release : x .release ≡ Tick (getD (d .jobs .release) n 0)
     pub unexecuted : x .executed ≡ false
     pub count : getD (d .jobs .blocked) n 0 + low (place (d .phase)) ≡ lower-in pr n (x .waits)
     pub unstarted : x .started ≡ Never
 
   -- one that is executed, or was: its count is of all
   pub record Ran (x : Tally) (s : Due) (d : State) : Type 0 where
-    pub taken : x .taken ≡ Tick (getD (d .jobs .release) n 0)
+    pub release : x .release ≡ Tick (getD (d .jobs .release) n 0)
     pub executed : x .executed ≡ true
     pub count : getD (d .jobs .blocked) n 0 ≡ lower-in pr n (x .waits)
     pub started : x .started ≡ s
+
+  -- the release that waits
+  pub record Holds (h : Due) (w : WaitingReleases) : Type 0 where
+    pub times : n < length (w .times)
+    pub is : h ≡ cond (member n (w .tasks)) (Tick (getD (w .times) n 0)) Never
 
   pub record Knows (x : Tally) (d : State) : Type 0 where
     pub table : d .table .priority ≡ pr
     pub at : x .at ≡ situation-of (d .phase)
     pub releases : n < length (d .jobs .release)
     pub counts : n < length (d .jobs .blocked)
+    pub holds : Holds (x .held) (d .waiting)
     pub awaits : AwaitsIn pr n small d → Awaiting x d
     pub runs : (s : Due) → RunsAt s (d .phase) → Ran x s d
 
-  -- ---- a step that changes none of it
+  -- ---- a step that changes none of it but what waits
 
   record Alike (d g : State) : Type 0 where
     like : Like pr n small d g
@@ -95,23 +102,24 @@ module _ (pr : List ℕ) (n : ℕ) (small : n < 32) where
     at : situation-of (g .phase) ≡ situation-of (d .phase)
     runs : (s : Due) → RunsAt s (g .phase) → RunsAt s (d .phase)
 
-  alike-knows : (d g : State) (x : Tally) → Alike d g → Knows x d → Knows x g
-  alike-knows d g x l k = record {
+  alike-knows : (d g : State) (x : Tally) (h : Due) → Alike d g → Holds h (g .waiting) → Knows x d → Knows (with-held n x h) g
+  alike-knows d g x h l z k = record {
     table = l .like .table ∙ k .table;
     at = k .at ∙ sym (l .at);
     releases = omega (arith, k .releases, l .releases);
     counts = omega (arith, k .counts, l .counts);
+    holds = z;
     awaits = λ w.
         let a : Awaiting x d = k .awaits (l .like .awaits w) in
         record {
-          taken = a .taken ∙ ap Tick (sym (l .release));
+          release = a .release ∙ ap Tick (sym (l .release));
           unexecuted = a .unexecuted;
           count = omega (arith, a .count, l .like .count, ap low (l .like .place));
           unstarted = a .unstarted;
         };
     runs = λ s r.
         let a : Ran x s d = k .runs s (l .runs s r) in
-        record { taken = a .taken ∙ ap Tick (sym (l .release)); executed = a .executed; count = l .like .count ∙ a .count; started = a .started };
+        record { release = a .release ∙ ap Tick (sym (l .release)); executed = a .executed; count = l .like .count ∙ a .count; started = a .started };
   }
 
   -- d
@@ -127,7 +135,8 @@ module _ (pr : List ℕ) (n : ℕ) (small : n < 32) where
   }
 
   pub d-knows : (new : ℕ) (d : State) (x : Tally) → Knows x d → Knows x (step-d d new (d .phase))
-  d-knows new d x k = alike-knows d (step-d d new (d .phase)) x (d-alike new d) k
+  d-knows new d x k =
+      alike-knows d (step-d d new (d .phase)) x (x .held) (d-alike new d) (subst (Holds (x .held)) (sym (ap (λ (y : Frame). y .waiting) (d-frame d new))) (k .holds)) k
 
   -- e
   choose-same : (d : State) (t : ℕ) (i : Interval) (q : MaybeTask) → (choose d t i q .jobs .release ≡ d .jobs .release) × (choose d t i q .jobs .blocked ≡ d .jobs .blocked)
@@ -155,7 +164,8 @@ module _ (pr : List ℕ) (n : ℕ) (small : n < 32) where
       same-release = e-cases (λ x. x .jobs .release ≡ d .jobs .release) d t refl (λ i e s u. choose-same d t i (highest-of d (d .jobs .ready)) .0)
 
   pub e-knows : (t : ℕ) (d : State) (x : Tally) → Knows x d → Knows x (step-e d t (d .phase))
-  e-knows t d x k = alike-knows d (step-e d t (d .phase)) x (e-alike t d) k
+  e-knows t d x k =
+      alike-knows d (step-e d t (d .phase)) x (x .held) (e-alike t d) (subst (Holds (x .held)) (sym (ap (λ (y : Frame). y .waiting) (e-frame d t))) (k .holds)) k
 
   -- ---- a
 
@@ -227,10 +237,11 @@ module _ (pr : List ℕ) (n : ℕ) (small : n < 32) where
     at = k .at ∙ ap situation-of e ∙ ap Open (sym (processor-task-same (d .table) t (i .processor)));
     releases = k .releases;
     counts = k .counts;
+    holds = k .holds;
     awaits = λ w.
         let a : Awaiting x d = k .awaits (l .awaits w) in
         record {
-          taken = a .taken;
+          release = a .release;
           unexecuted = a .unexecuted;
           count = omega (arith, a .count, ap low (l .place));
           unstarted =
@@ -242,13 +253,13 @@ module _ (pr : List ℕ) (n : ℕ) (small : n < 32) where
         let z : ((s′ : Due) × InProcessor s′ (i .processor)) × (started-after n t (i .processor) (x .started) ≡ s) =
         a-processor (d .table) t (i .processor) x s (λ s′ r′. ran s′ (inl r′) .started) y in
         let a : Ran x (z .0 .0) d = ran (z .0 .0) (inl (z .0 .1)) in
-        record { taken = a .taken; executed = a .executed; count = a .count; started = z .1 })
+        record { release = a .release; executed = a .executed; count = a .count; started = z .1 })
         (λ y.
         let y′ : InCopyOut s (i .copyout) = a-copyout t s (i .copyout) y in
         let a : Ran x s d = ran s (inr y′) in
         let z : (b : ℕ) × (s ≡ Tick b) = in-copyout-tick s (i .copyout) y′ in
         record {
-          taken = a .taken;
+          release = a .release;
           executed = a .executed;
           count = a .count;
           started = ap (started-after n t (i .processor)) (a .started ∙ z .1) ∙ start-stays t (i .processor) (z .0) ∙ sym (z .1);
@@ -337,7 +348,7 @@ module _ (pr : List ℕ) (n : ℕ) (small : n < 32) where
         blocks-is d i (k .table) ∙ ap (λ (y : Bool). y && is-lower pr n (processor-task (i .processor))) (awaits-in (d .jobs .ready) (i .copyin) (settles i o) w′) in
         let c : getD (close d i .jobs .blocked) n 0 ≡ lower-in pr n (x .waits) =
         omega (arith, close-count d i (k .counts) (b .most), ap {B = ℕ} (λ (y : Bool). cond y 1 0) l, a .count, ap (λ (p : Phase). low (place p)) e) in
-        record { taken = a .taken; unexecuted = a .unexecuted; count = add-zero (getD (close d i .jobs .blocked) n 0) ∙ c; unstarted = a .unstarted }
+        record { release = a .release; unexecuted = a .unexecuted; count = add-zero (getD (close d i .jobs .blocked) n 0) ∙ c; unstarted = a .unstarted }
 
     close-ran : (s : Due) → RunsAt s (close d i .phase) → Ran (tally-by n x (Ends t)) s (close d i)
     unfolding close
@@ -349,7 +360,7 @@ module _ (pr : List ℕ) (n : ℕ) (small : n < 32) where
         ∙ and-false (member n (awaiting-execution (i .copyin) (d .jobs .ready))) in
         let c : getD (close d i .jobs .blocked) n 0 ≡ lower-in pr n (x .waits) =
         omega (arith, close-count d i (k .counts) (b .most), ap {B = ℕ} (λ (y : Bool). cond y 1 0) l, a .count) in
-        record { taken = a .taken; executed = a .executed; count = c; started = a .started }
+        record { release = a .release; executed = a .executed; count = c; started = a .started }
 
     close-knows : Knows (tally-by n x (Ends t)) (close d i)
     unfolding close
@@ -358,6 +369,7 @@ module _ (pr : List ℕ) (n : ℕ) (small : n < 32) where
       at = refl;
       releases = k .releases;
       counts = omega (arith, k .counts, counted-length (blocks d i) 0 (d .jobs .blocked));
+      holds = k .holds;
       awaits = λ w. close-awaiting w;
       runs = λ s r. close-ran s r;
     }
@@ -406,29 +418,65 @@ module _ (pr : List ℕ) (n : ℕ) (small : n < 32) where
   first-low (Within i) = omega arith
 
   abbrev fresh : ℕ → Tally → Tally
-  fresh t x = record { at = x .at; taken = Tick t; waits = first-of (x .at); executed = false; started = Never }
+  fresh t x = record { at = x .at; held = Never; release = Tick (original (x .held) t); waits = first-of (x .at); executed = false; started = Never }
 
   is-fresh : (t : ℕ) (m : Bool) (x : Tally) → tally-by n x (Takes n t m) ≡ fresh t x
   is-fresh t m x = rw (same-task n)
 
-  module _ (d : State) (t new : ℕ) (x : Tally) (k : Knows x d) where
-    stamp : (v : ℕ) (xs : List ℕ) → n < length xs → getD (stamped new v 0 xs) n 0 ≡ cond (member n new) v (getD xs n 0)
-    stamp v xs l = stamped-exact new v 0 xs n l ∙ ap (λ (j : ℕ). cond (member j new) v (getD xs n 0)) (zero-add n)
+  -- by the task's release that waits: its original tick, where it is taken
+  original-is : (w : Bool) (a t : ℕ) (h : Due) → h ≡ cond w (Tick a) Never → original h t ≡ cond w a t
+  original-is true a t h e = ap (λ (y : Due). original y t) e
+  original-is false a t h e = ap (λ (y : Due). original y t) e
 
-    c-taken : member n new ≡ true → ((s : Due) → RunsAt s (d .phase) → ⊥) → Knows (fresh t x) (step-c d t new)
+  -- and what waits after step c, where it is taken (b) or not, and another waits from now on (c) or not
+  held-is : (b c w : Bool) (a t : ℕ) (h : Due) → h ≡ cond w (Tick a) Never → cond c (Tick t) (cond b Never h) ≡ cond ((w && not b) || c) (Tick (cond c t a)) Never
+  held-is true true true a t h e = refl
+  held-is true true false a t h e = refl
+  held-is true false true a t h e = refl
+  held-is true false false a t h e = refl
+  held-is false true true a t h e = refl
+  held-is false true false a t h e = refl
+  held-is false false true a t h e = e
+  held-is false false false a t h e = e
+
+  stamp : (s : ℕ) (f : ℕ → ℕ) (xs : List ℕ) → n < length xs → getD (stamped s f 0 xs) n 0 ≡ cond (member n s) (f n) (getD xs n 0)
+  stamp s f xs l = stamped-exact s f 0 xs n l ∙ ap (λ (j : ℕ). cond (member j s) (f j) (getD xs n 0)) (zero-add n)
+
+  module _ (d : State) (t new late : ℕ) (x : Tally) (k : Knows x d) where
+    -- the tick of the release that waits then
+    abbrev held-c : Due
+    held-c = cond (member n late) (Tick t) (cond (member n new) Never (x .held))
+
+    c-holds : Holds held-c (step-c d t new late .waiting)
+    unfolding step-c
+    c-holds = record {
+      times = omega (arith, k .holds .times, stamped-length late (λ j. t) 0 (d .waiting .times));
+      is =
+          rw (
+            united (difference (d .waiting .tasks) new) late n small,
+            difference-member (d .waiting .tasks) new n small,
+            stamp late (λ j. t) (d .waiting .times) (k .holds .times),
+          )
+          (held-is (member n new) (member n late) (member n (d .waiting .tasks)) (getD (d .waiting .times) n 0) t (x .held) (k .holds .is));
+    }
+
+    c-taken : member n new ≡ true → ((s : Due) → RunsAt s (d .phase) → ⊥) → Knows (with-held n (fresh t x) held-c) (step-c d t new late)
     unfolding step-c
     c-taken m f = record {
       table = k .table;
       at = k .at ∙ sym (c-situation d new (d .phase));
-      releases = omega (arith, k .releases, stamped-length new t 0 (d .jobs .release));
-      counts = omega (arith, k .counts, stamped-length new 0 0 (d .jobs .blocked));
+      releases = omega (arith, k .releases, stamped-length new (stamps (d .waiting) t) 0 (d .jobs .release));
+      counts = omega (arith, k .counts, stamped-length new (λ j. 0) 0 (d .jobs .blocked));
+      holds = c-holds;
       awaits = λ w. record {
-        taken = sym (ap Tick (stamp t (d .jobs .release) (k .releases) ∙ ap (λ (b : Bool). cond b t (getD (d .jobs .release) n 0)) m));
+        release =
+            ap Tick (original-is (member n (d .waiting .tasks)) (getD (d .waiting .times) n 0) t (x .held) (k .holds .is)
+            ∙ sym (stamp new (stamps (d .waiting) t) (d .jobs .release) (k .releases) ∙ ap (λ (b : Bool). cond b (stamps (d .waiting) t n) (getD (d .jobs .release) n 0)) m));
         unexecuted = refl;
         count =
             omega (
               arith,
-              stamp 0 (d .jobs .blocked) (k .counts) ∙ ap (λ (b : Bool). cond b 0 (getD (d .jobs .blocked) n 0)) m,
+              stamp new (λ j. 0) (d .jobs .blocked) (k .counts) ∙ ap (λ (b : Bool). cond b 0 (getD (d .jobs .blocked) n 0)) m,
               ap low (c-place d new (d .phase)),
               first-low (d .phase),
               ap (λ (s : Situation). lower-in pr n (first-of s)) (k .at),
@@ -438,39 +486,44 @@ module _ (pr : List ℕ) (n : ℕ) (small : n < 32) where
       runs = λ s r. absurd (f s (c-runs d new s (d .phase) r));
     }
 
-    c-other : member n new ≡ false → Knows x (step-c d t new)
+    c-other : member n new ≡ false → Knows (with-held n x held-c) (step-c d t new late)
     unfolding step-c
     c-other m =
-        alike-knows d (step-c d t new) x
+        alike-knows d (step-c d t new late) x held-c
         (record {
           like = record {
             table = refl;
-            count = stamp 0 (d .jobs .blocked) (k .counts) ∙ ap (λ (b : Bool). cond b 0 (getD (d .jobs .blocked) n 0)) m;
+            count = stamp new (λ j. 0) (d .jobs .blocked) (k .counts) ∙ ap (λ (b : Bool). cond b 0 (getD (d .jobs .blocked) n 0)) m;
             place = sym (c-place d new (d .phase));
             awaits = λ w.
                 ⊎-elim (λ y. inl (⊎-elim (λ z. z) (λ z. clash (member n new) z m) (union-out (d .jobs .ready) new n y)))
                 (λ y. inr (ap (is-task n) (sym (c-up-next d new (d .phase))) ∙ y)) w;
           };
-          release = stamp t (d .jobs .release) (k .releases) ∙ ap (λ (b : Bool). cond b t (getD (d .jobs .release) n 0)) m;
-          releases = stamped-length new t 0 (d .jobs .release);
-          counts = stamped-length new 0 0 (d .jobs .blocked);
+          release = stamp new (stamps (d .waiting) t) (d .jobs .release) (k .releases) ∙ ap (λ (b : Bool). cond b (stamps (d .waiting) t n) (getD (d .jobs .release) n 0)) m;
+          releases = stamped-length new (stamps (d .waiting) t) 0 (d .jobs .release);
+          counts = stamped-length new (λ j. 0) 0 (d .jobs .blocked);
           at = c-situation d new (d .phase);
           runs = λ s r. c-runs d new s (d .phase) r;
         })
-        k
+        c-holds k
 
-  pub c-knows : (present : ℕ) (tasks : present < 2 ^ 32) (d : State) (t new marks : ℕ) (x : Tally) → Parted present tasks d (d .phase)
-      → ((k : ℕ) → member k new ≡ true → member k (d .jobs .pending) ≡ false) → Knows x d → Knows (tally n x (take-events 32 new marks t)) (step-c d t new)
-  c-knows present tasks d t new marks x h f k =
+  pub c-knows : (present : ℕ) (tasks : present < 2 ^ 32) (d : State) (t new late marks : ℕ) (x : Tally) → Parted present tasks d (d .phase)
+      → ((k : ℕ) → member k new ≡ true → member k (d .jobs .pending) ≡ false) → Knows x d
+      → Knows (tally n (tally n x (take-events 32 new marks t)) (defer-events 32 late t)) (step-c d t new late)
+  c-knows present tasks d t new late marks x h f k =
       by-test (member n new)
       (λ m.
-      subst (λ (y : Tally). Knows y (step-c d t new)) (sym (takes-this n 32 new marks t x small m ∙ is-fresh t (member n marks) x))
-      (c-taken d t new x k m
+      subst (λ (y : Tally). Knows y (step-c d t new late))
+      (sym (ap (λ (y : Tally). tally n y (defer-events 32 late t)) (takes-this n 32 new marks t x small m ∙ is-fresh t (member n marks) x)
+      ∙ defers-tally n small late t (fresh t x) ∙ ap (λ (b : Bool). with-held n (fresh t x) (cond (member n late) (Tick t) (cond b Never (x .held)))) (sym m)))
+      (c-taken d t new late x k m
       (λ s r. let z : bit (member n (d .jobs .pending)) ≡ 0 = rw (f n m) in omega (arith, h .parts n small, staged s (d .phase) r))))
       (λ m.
-      subst (λ (y : Tally). Knows y (step-c d t new))
-      (sym (takes-others n 32 new marks t x (λ j l y. ne-eqb n j (λ e. clash (member n new) (ap (λ (i : ℕ). member i new) e ∙ y) m))))
-      (c-other d t new x k m))
+      subst (λ (y : Tally). Knows y (step-c d t new late))
+      (sym (ap (λ (y : Tally). tally n y (defer-events 32 late t))
+      (takes-others n 32 new marks t x (λ j l y. ne-eqb n j (λ e. clash (member n new) (ap (λ (i : ℕ). member i new) e ∙ y) m)))
+      ∙ defers-tally n small late t x ∙ ap (λ (b : Bool). with-held n x (cond (member n late) (Tick t) (cond b Never (x .held)))) (sym m)))
+      (c-other d t new late x k m))
 
   -- ---- g
 
@@ -540,6 +593,7 @@ module _ (pr : List ℕ) (n : ℕ) (small : n < 32) where
     at = ap Open (sym (runs (f .table) t next));
     releases = k .releases;
     counts = k .counts;
+    holds = k .holds;
     awaits = λ w. ⊎-elim (λ m. awaiting m) (λ y. absurd (false≢true y)) w;
     runs = λ s r. ⊎-elim (λ y. ran s y) (λ y. copied s y) r;
   }
@@ -555,7 +609,7 @@ module _ (pr : List ℕ) (n : ℕ) (small : n < 32) where
           let a : Awaiting x f = k .awaits (inl m) in
           let c : is-task n (next-task next) ≡ false = next-staged next (omega (arith, h .parts n small, most-one (member n (f .jobs .pending)), ap bit m)) in
           unfold begin in record {
-            taken = a .taken;
+            release = a .release;
             unexecuted = neither (x .executed) (is-task n (next-task next)) (a .unexecuted) c;
             count =
                 omega (
@@ -572,7 +626,7 @@ module _ (pr : List ℕ) (n : ℕ) (small : n < 32) where
           let z : (is-task n (next-task next) ≡ true) × (x .started ≡ Never → started-next n t next (x .started) ≡ s) = begin-runs (f .table) t next x s y in
           let a : Awaiting x f = k .awaits (inr (ap (λ (p : Phase). is-task n (up-next p)) e ∙ z .0)) in
           unfold begin in record {
-            taken = a .taken;
+            release = a .release;
             executed = either (x .executed) (is-task n (next-task next)) (inr (z .0));
             count = count-between (lower-in pr n (x .waits)) (a .count) ∙ ap (lower-in pr n) (sym (grows-not (x .executed) (is-task n (next-task next)) (x .waits) (next-task next) (inr (z .0))));
             started = z .1 (a .unstarted);
@@ -583,7 +637,7 @@ module _ (pr : List ℕ) (n : ℕ) (small : n < 32) where
           let z : InOutgoing s outgoing × ((a : ℕ) × (s ≡ Tick a)) = begin-copies (f .table) t outgoing s y in
           let a : Ran x s f = k .runs s (subst (RunsAt s) (sym e) (z .0)) in
           unfold begin in record {
-            taken = a .taken;
+            release = a .release;
             executed = either (x .executed) (is-task n (next-task next)) (inl (a .executed));
             count = a .count ∙ ap (lower-in pr n) (sym (grows-not (x .executed) (is-task n (next-task next)) (x .waits) (next-task next) (inl (a .executed))));
             started = ap (started-next n t next) (a .started ∙ z .1 .1) ∙ next-stays t next (z .1 .0) ∙ sym (z .1 .1);

@@ -5,6 +5,7 @@ pub mod Frames
 pub mod Walk
 pub mod Steps
 pub mod Events
+pub mod Releases
 pub mod Totals
 pub mod Waiting
 pub mod Order
@@ -29,5 +30,7 @@ pub mod Knows
 pub mod Closings
 pub mod Told
 pub mod Counts
+pub mod Deferred
+pub mod Serving
 pub mod Demand3
 pub mod Arithmetic

@@ -9,8 +9,8 @@ use Rattle.sets.specs.Sets.{member, intersection, insert, union}
 use Rattle.sets.proofs.Laws.{by-test, clash, none, union-right, intersection-in, insert-other}
 use Rattle.guarantees.proofs.Highest.{Best}
 use Rattle.guarantees.proofs.Walk.{walk}
-use Rattle.guarantees.specs.History.{history, Event, Starts, Stops, Comes, Takes, GivesWay, Begins, Completes, Finishes, Ends, happens, finish-events-in, completion-events, end-events, take-events, giving-events-in, begin-events, start-events}
-use Rattle.rules.specs.Instant.{step-a, step-b, step-c, step-d, step-e, step-g, close, close-stage, over, with-candidates, cancel, cancel-by, choose, begin, begin-processor, wanted, taken, ended, processor-task, copyin-at, at-a, at-b, at-e, at-f, at-g, new-at, fresh-stage}
+use Rattle.guarantees.specs.History.{history, Event, Starts, Stops, Comes, Takes, Defers, GivesWay, Begins, Completes, Finishes, Ends, happens, finish-events-in, completion-events, end-events, take-events, defer-events, giving-events-in, begin-events, start-events}
+use Rattle.rules.specs.Instant.{step-a, step-b, step-c, step-d, step-e, step-g, close, close-stage, over, with-candidates, cancel, cancel-by, choose, begin, begin-processor, wanted, taken, ended, processor-task, copyin-at, at-a, at-b, at-e, at-f, at-g, new-at, late-at, fresh-stage}
 use Rattle.rules.specs.With.{at-clock}
 use Rattle.rules.specs.Order.{highest-of, outranks}
 use Rattle.guarantees.specs.Queries.{is-task, Situation, NoneOpen, Open, situation, after-event, intervals, begin-tick, after, each, first, upto, met}
@@ -18,7 +18,7 @@ use Rattle.guarantees.proofs.Frames.{table-b, marked-b, table-g}
 use Rattle.guarantees.proofs.Cases.{held-at, d-cases, e-cases}
 use Rattle.guarantees.proofs.Waiting.{NotLower, Waiting, Fate, Rule, Rival, Bound, Old, Ahead, Then, rule-old, rule-none, e-waiting, from-c, to-come, ahead, soon}
 use Rattle.guarantees.proofs.Steps.{processor-task-same, Opened, e-opens, NewIn, NewAt, c-new, best-of}
-use Rattle.guarantees.proofs.Events.{by-processor, by-finishes, by-gives, by-completes, by-takes, by-starts, tail-of, tail-intervals, front-of, happens-parts, front-parts, tail-parts}
+use Rattle.guarantees.proofs.Events.{by-processor, by-finishes, by-gives, by-completes, by-takes, by-defers, by-starts, tail-of, tail-intervals, front-of, happens-parts, front-parts, tail-parts}
 
 -- the situation in a phase
 abbrev pub situation-of : Phase → Situation
@@ -49,7 +49,8 @@ unfolding at-e step-c
 situation-e d t set =
     let b : State = at-b d t .state in
     let new : ℕ = new-at d t set in
-    let c : State = step-c b t new in
+    let late : ℕ = late-at d t set in
+    let c : State = step-c b t new late in
     let x : State = step-d c new (c .phase) in
     e-situation x t ∙ d-situation c new ∙ c-situation b new (b .phase)
 
@@ -69,6 +70,7 @@ module _ (pr : List ℕ) where
   Kept s (Comes t ∷ es) = Kept s es
   Kept s (Takes n t m ∷ es) = (Waits n m s (intervals es) × AtOnce t s (begin-tick es)) × Kept s es
   Kept s (Finishes n ∷ es) = Kept s es
+  Kept s (Defers n t ∷ es) = Kept s es
   Kept s (GivesWay n ∷ es) = Kept s es
   Kept s (Completes n t ∷ es) = Kept s es
   Kept s (Starts n t ∷ es) = Kept s es
@@ -83,6 +85,7 @@ module _ (pr : List ℕ) where
   split s (Comes t′ ∷ es) after n t m k = split s es after n t m k
   split s (Takes n′ t′ m′ ∷ es) after n t m k = split s es after n t m (k .1)
   split s (Finishes n′ ∷ es) after n t m k = split s es after n t m k
+  split s (Defers n′ t′ ∷ es) after n t m k = split s es after n t m k
   split s (GivesWay n′ ∷ es) after n t m k = split s es after n t m k
   split s (Completes n′ t′ ∷ es) after n t m k = split s es after n t m k
   split s (Starts n′ t′ ∷ es) after n t m k = split s es after n t m k
@@ -194,7 +197,7 @@ module _ (pr : List ℕ) where
 
       module _ (d : State) (t set : ℕ) (cs : List Call) (tab : d .table .priority ≡ pr) (taken : member n (new-at d t set) ≡ true) where
         c : State
-        c = step-c (at-b d t .state) t (new-at d t set)
+        c = step-c (at-b d t .state) t (new-at d t set) (late-at d t set)
 
         tab-c : c .table .priority ≡ pr
         unfolding c step-c
@@ -246,9 +249,10 @@ module _ (pr : List ℕ) where
         unfolding at-e c
         old-c m i e =
             let new : ℕ = new-at d t set in
+            let late : ℕ = late-at d t set in
             e-waiting pr n (Bound pr n) (NotLower pr n) (rule-old pr n small) small t (step-d c new (c .phase))
             (subst (λ (p : Phase). Old pr n (step-d c new p)) (sym e)
-            (unfold step-d in d-marked c new i (i .copyin) refl e tab-c (subst (NewAt c new) e (c-new (at-b d t .state) t new)) taken (marked-c m)))
+            (unfold step-d in d-marked c new i (i .copyin) refl e tab-c (subst (NewAt c new) e (c-new (at-b d t .state) t new late)) taken (marked-c m)))
 
         amid : (i : Interval) → c .phase ≡ Within i → (m : Bool) → member n (d .marked) ≡ m
             → Then pr n (Second m) (intervals (tail-of d t set ++ history (at-g d t set) cs))
@@ -301,6 +305,7 @@ module _ (pr : List ℕ) where
     begins-at-once d t set h m (Within i) e x = absurd (let z : _≡_ {A = ℕ} 0 1 = cc in omega arith)
     begins-at-once d t set h m (Between next outgoing) e x =
         ap begin-tick (tail-parts d t set h)
+        ∙ none-defers
         ∙ ap (λ (y : List Event). begin-tick (y ++ (end-events t (at-e d t set .phase) (f .phase) ++ (begin-events t (f .phase) (at-g d t set .phase) ++ rest)))) none-gives
         ∙ ap (λ (y : List Event). begin-tick (y ++ (begin-events t (f .phase) (at-g d t set .phase) ++ rest))) none-ends
         ∙ (unfold at-g in subst (λ (p : Phase). begin-tick (begin-events t p (step-g f t (held-at d t set) p .phase) ++ rest) ≡ Tick t) (sym shut-f)
@@ -312,8 +317,11 @@ module _ (pr : List ℕ) where
         new : ℕ
         new = new-at d t set
 
+        late : ℕ
+        late = late-at d t set
+
         c : State
-        c = step-c b t new
+        c = step-c b t new late
 
         f : State
         f = at-f d t set .state
@@ -332,6 +340,12 @@ module _ (pr : List ℕ) where
 
         ready-f : Ready f
         ready-f = ap (λ (x : State). member n (x .jobs .ready)) (left-so .0) ∙ (unfold step-c in union-right (b .jobs .ready) new n small m)
+
+        after-defers : List Event
+        after-defers = giving-events-in (b .phase) (at-e d t set .phase) ++ (end-events t (at-e d t set .phase) (f .phase) ++ (begin-events t (f .phase) (at-g d t set .phase) ++ rest))
+
+        none-defers : begin-tick (defer-events 32 late t ++ after-defers) ≡ begin-tick after-defers
+        none-defers = by-defers (λ zs. begin-tick zs ≡ begin-tick after-defers) 32 late t (λ n l m es k. unfold first in k) after-defers refl
 
         none-gives : giving-events-in (b .phase) (at-e d t set .phase) ≡ []
         none-gives = unfold giving-events-in in ap (λ (p : Phase). giving-events-in p (at-e d t set .phase)) e
@@ -413,10 +427,11 @@ module _ (pr : List ℕ) where
       let z : List Event = start-events t (f .phase) (at-g d t set .phase) ++ ys in
       let y : List Event = begin-events t (f .phase) (at-g d t set .phase) ++ z in
       rw (tail-parts d t set ys)
+      (by-defers (Kept (situation-of (e .phase))) 32 (late-at d t set) t (λ n l m es k. k) (giving-events-in (at-b d t .state .phase) (e .phase) ++ (end-events t (e .phase) (f .phase) ++ y))
       (by-gives (Kept (situation-of (e .phase))) (λ n es k. k) (at-b d t .state .phase) (e .phase) (end-events t (e .phase) (f .phase) ++ y)
       (kept-ends (fresh-stage e) t (e .phase) y refl
       (kept-begins f t (held-at d t set) (f .phase) z refl
-      (by-starts (Kept (situation-of (at-g d t set .phase))) t (λ n es k. k) (f .phase) (at-g d t set .phase) ys k))))
+      (by-starts (Kept (situation-of (at-g d t set .phase))) t (λ n es k. k) (f .phase) (at-g d t set .phase) ys k)))))
 
   kept-instant : (d : State) (t set : ℕ) (cs : List Call) → d .table .priority ≡ pr
       → Kept (situation-of (at-g d t set .phase)) (history (at-g d t set) cs) → Kept (situation-of (d .phase)) (happens d t set ++ history (at-g d t set) cs)

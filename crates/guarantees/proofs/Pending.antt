@@ -1,25 +1,24 @@
 -- The pending jobs, by the history: a job is pending from its release until its completion, and the state's set says the same.
-use Rattle.guarantees.specs.Types.{_≡_, refl, sym, ap, _∙_, subst, Bool, true, false, cond, not, _&&_, _||_, true≢false, List, [], _∷_, _++_, append-assoc, ℕ, zero, suc, _≤_, _<_, MaybeTask, NoTask, Task, Interval, Phase, Between, Within, State, Done, NoJob, Job, Stage, Tick, Call}
+use Rattle.guarantees.specs.Types.{_≡_, refl, sym, ap, _∙_, subst, Bool, true, false, cond, not, _&&_, _||_, true≢false, List, [], _∷_, _++_, append-assoc, ℕ, zero, suc, _≤_, _<_, State, Done, NoJob, Job, Tick, Call}
 use native.Mathlib.Omega.{arith}
 use native.Mathlib.Nat.{not-suc-le-zero}
 use borrow.Author.Tests.{eqb-true, eqb-false, eq-eqb, ne-eqb}
 use lib.Dec.{eqb}
 use Rattle.sets.specs.Sets.{member, union}
 use Rattle.sets.proofs.Laws.{by-test, united, removed}
-use Rattle.rules.specs.With.{at-clock}
-use Rattle.rules.specs.Order.{highest-of}
-use Rattle.rules.specs.Instant.{step-a, step-b, step-c, step-d, step-e, step-g, close, cancel, choose, begin, without-done, after-done, at-a, at-b, at-e, at-f, at-g, new-at, fresh-stage}
-use Rattle.guarantees.specs.History.{Event, Starts, Stops, Comes, Finishes, Completes, Ends, Takes, GivesWay, Begins, history, after-calls, happens, processor-events-in, finish-events-in, completion-events, end-events, take-events, begin-events, start-events}
+use Rattle.rules.specs.Instant.{after-done, at-a, at-b, at-e, at-f, at-g, new-at, late-at}
+use Rattle.guarantees.specs.History.{Event, Starts, Stops, Comes, Finishes, Completes, Ends, Takes, Defers, GivesWay, Begins, history, after-calls, happens, processor-events-in, finish-events-in, completion-events, end-events, take-events, giving-events-in, begin-events, start-events}
 use Rattle.guarantees.specs.Queries.{completion, first}
 use Rattle.guarantees.proofs.Walk.{walk-to}
-use Rattle.guarantees.proofs.Cases.{held-at, b-cases, d-cases, e-cases, g-cases}
-use Rattle.guarantees.proofs.Events.{by-processor, by-finishes, by-gives, by-ends, by-takes, by-begins, by-starts, tail-of, happens-parts, front-parts, tail-parts}
+use Rattle.guarantees.proofs.Frames.{pending-b, pending-g}
+use Rattle.guarantees.proofs.Events.{by-processor, by-finishes, by-gives, by-ends, by-takes, by-defers, by-begins, by-starts, tail-of, happens-parts, front-parts, tail-parts}
 
 -- ---- by the history
 
 abbrev pub pending-by : ℕ → Bool → Event → Bool
 pending-by n b (Comes t) = b
 pending-by n b (Finishes k) = b
+pending-by n b (Defers k t) = b
 pending-by n b (GivesWay k) = b
 pending-by n b (Starts k v) = b
 pending-by n b (Stops k v) = b
@@ -39,6 +38,7 @@ unfolding pending-in first
 has-completed n [] h = absurd (true≢false h)
 has-completed n (Comes t ∷ es) h = has-completed n es h
 has-completed n (Finishes k ∷ es) h = has-completed n es h
+has-completed n (Defers k t ∷ es) h = has-completed n es h
 has-completed n (GivesWay k ∷ es) h = has-completed n es h
 has-completed n (Starts k v ∷ es) h = has-completed n es h
 has-completed n (Stops k v ∷ es) h = has-completed n es h
@@ -66,11 +66,13 @@ module _ (n : ℕ) where
   tail-pending d t set b ys =
       let x : List Event = begin-events t (at-f d t set .state .phase) (at-g d t set .phase) in
       let y : List Event = start-events t (at-f d t set .state .phase) (at-g d t set .phase) ++ ys in
+      let z : List Event = end-events t (at-e d t set .phase) (at-f d t set .state .phase) ++ (x ++ y) in
       ap (pending-in n b) (tail-parts d t set ys)
-      ∙ by-gives (As b ys) (λ k es e. e) (at-b d t .state .phase) (at-e d t set .phase) (end-events t (at-e d t set .phase) (at-f d t set .state .phase) ++ (x ++ y))
+      ∙ by-defers (As b ys) 32 (late-at d t set) t (λ k l m es e. e) (giving-events-in (at-b d t .state .phase) (at-e d t set .phase) ++ z)
+      (by-gives (As b ys) (λ k es e. e) (at-b d t .state .phase) (at-e d t set .phase) z
       (by-ends (As b ys) t (λ es e. e) (at-e d t set .phase) (at-f d t set .state .phase) (x ++ y)
       (by-begins (As b ys) t (λ r l es e. e) (at-f d t set .state .phase) (at-g d t set .phase) y
-      (by-starts (As b ys) t (λ k es e. e) (at-f d t set .state .phase) (at-g d t set .phase) ys refl)))
+      (by-starts (As b ys) t (λ k es e. e) (at-f d t set .state .phase) (at-g d t set .phase) ys refl))))
 
   module _ (small : n < 32) where
     completes-pending : (s : ℕ) (o : Done) (ys : List Event) → pending-in n (member n s) (completion-events o ++ ys) ≡ pending-in n (member n (after-done s o)) ys
@@ -143,43 +145,8 @@ module _ (n : ℕ) where
 
 -- ---- the state's set
 
-b-pending : (s : Stage) (t : ℕ) → step-b s t (s .state .phase) .state .jobs .pending ≡ s .state .jobs .pending
-unfolding close
-b-pending s t = b-cases (λ x. x .jobs .pending ≡ s .state .jobs .pending) s t (λ i e o. refl) (λ next outgoing e. refl) (λ i e o. refl)
-
-d-pending : (d : State) (new : ℕ) → step-d d new (d .phase) .jobs .pending ≡ d .jobs .pending
-unfolding cancel
-d-pending d new = d-cases (λ x. x .jobs .pending ≡ d .jobs .pending) d new refl (λ i n u e s b. refl)
-
-choose-pending : (d : State) (t : ℕ) (i : Interval) (q : MaybeTask) → choose d t i q .jobs .pending ≡ d .jobs .pending
-unfolding choose
-choose-pending d t i NoTask = refl
-choose-pending d t i (Task q) = refl
-
-e-pending : (d : State) (t : ℕ) → step-e d t (d .phase) .jobs .pending ≡ d .jobs .pending
-e-pending d t = e-cases (λ x. x .jobs .pending ≡ d .jobs .pending) d t refl (λ i e s u. choose-pending d t i (highest-of d (d .jobs .ready)))
-
-g-pending : (d : State) (t new : ℕ) → step-g d t new (d .phase) .jobs .pending ≡ d .jobs .pending
-unfolding begin
-g-pending d t new =
-    g-cases (λ x. x .jobs .pending ≡ d .jobs .pending) d t new (λ i e. refl) (λ next outgoing e w. refl) (λ next outgoing e w. e-pending (begin d t new next outgoing) t)
-
-a-pending : (d : State) (t : ℕ) (p : Phase) → step-a d t p .state .jobs .pending ≡ after-done (d .jobs .pending) (step-a d t p .done)
-unfolding step-a without-done
-a-pending d t (Between next outgoing) = refl
-a-pending d t (Within i) = refl
-
-pending-g : (d : State) (t set : ℕ) → at-g d t set .jobs .pending ≡ union (after-done (d .jobs .pending) (at-a d t .done)) (new-at d t set)
-unfolding at-g at-f at-e at-b at-a step-c
-pending-g d t set =
-    let b : State = at-b d t .state in
-    let new : ℕ = new-at d t set in
-    let c : State = step-c b t new in
-    let x : State = step-d c new (c .phase) in
-    g-pending (at-f d t set .state) t (held-at d t set)
-    ∙ b-pending (fresh-stage (at-e d t set)) t
-    ∙ e-pending x t ∙ d-pending c new
-    ∙ ap (λ (s : ℕ). union s new) (b-pending (at-a d t) t ∙ a-pending (at-clock d t) t (d .phase))
+pending-after : (d : State) (t set : ℕ) → at-g d t set .jobs .pending ≡ union (after-done (d .jobs .pending) (at-a d t .done)) (new-at d t set)
+pending-after d t set = pending-g d t set ∙ ap (λ (s : ℕ). union s (new-at d t set)) (pending-b d t)
 
 -- ---- along the calls
 
@@ -190,6 +157,6 @@ pending-same n small d cs =
     (λ d. unfold pending-in in refl)
     (λ d t set cs e k.
     happens-pending n small d t set (history (at-g d t set) cs)
-    ∙ ap (λ (s : ℕ). pending-in n (member n s) (history (at-g d t set) cs)) (sym (pending-g d t set)) ∙ k)
+    ∙ ap (λ (s : ℕ). pending-in n (member n s) (history (at-g d t set) cs)) (sym (pending-after d t set)) ∙ k)
     (λ d m e h g k. k)
     cs d

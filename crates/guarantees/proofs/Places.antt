@@ -4,15 +4,16 @@ use Rattle.guarantees.specs.Types.{_≡_, refl, sym, ap, _∙_, subst, B
 use native.Mathlib.Omega.{arith}
 use borrow.Author.Tests.{eqb-true, not-true}
 use lib.Dec.{eqb}
-use Rattle.sets.specs.Sets.{member, intersection, remove, bit, size}
-use Rattle.sets.proofs.Laws.{left, united, inserted, removed, same-task, member-task, difference-right, size-union-apart, remove-out, union-out, insert-out, by-test, right, intersection-right, difference-left, size-remove, union-small, remove-small}
+use Rattle.sets.specs.Sets.{member, intersection, difference, remove, bit, size}
+use Rattle.sets.proofs.Laws.{left, united, inserted, removed, same-task, member-task, size-union-apart, remove-out, union-out, insert-out, by-test, right, intersection-right, difference-left, size-remove, union-small, remove-small}
 use Rattle.guarantees.proofs.Highest.{Best}
 use Rattle.guarantees.specs.Queries.{total, is-completion}
-use Rattle.rules.specs.Instant.{step-a, step-b, step-c, step-d, step-e, step-g, promoted, next-of, without-promoted, close, close-stage, over, with-candidates, cancel, choose, begin, begin-processor, begin-copyout, copying-out, wanted, taken, completed, without-done, ended, copyin-at, copyout-at, processor-at, awaiting-copyout, resting, after-done, settled, at-a, at-b, at-e, at-f, at-g, new-at, fresh-stage}
+use Rattle.rules.specs.Instant.{step-a, step-b, step-c, step-d, step-e, step-g, promoted, next-of, without-promoted, close, close-stage, over, with-candidates, cancel, choose, begin, begin-processor, begin-copyout, copying-out, wanted, taken, deferred, completed, without-done, ended, copyin-at, copyout-at, processor-at, awaiting-copyout, resting, after-done, settled, at-a, at-b, at-e, at-f, at-g, new-at, late-at, fresh-stage}
 use Rattle.rules.specs.With.{at-clock}
 use Rattle.rules.specs.Order.{highest-of}
 use Rattle.guarantees.specs.History.{completion-events}
 use Rattle.guarantees.proofs.Steps.{Sub, best-of, settles}
+use Rattle.guarantees.proofs.Releases.{taken-from, deferred-from, taken-not-pending}
 use Rattle.guarantees.proofs.Cases.{held-at, Held, d-cases, e-cases, copyin-cases, processor-cases}
 use Rattle.guarantees.specs.States.{Known, copyin-known, processor-known, copyout-known, next-known, outgoing-known, phase-known}
 
@@ -64,6 +65,7 @@ module _ (present : ℕ) (tasks : present < 2 ^ 32) where
     pub marks : Sub (d .marked) present
     pub pending : Sub (d .jobs .pending) present
     pub ready : Sub (d .jobs .ready) present
+    pub waits : Sub (d .waiting .tasks) present
     pub known : phase-known present p
     pub parts : (k : ℕ) → k < 32 → bit (member k (d .jobs .pending)) ≡ bit (member k (d .jobs .ready)) + stage k p
 
@@ -142,6 +144,7 @@ module _ (present : ℕ) (tasks : present < 2 ^ 32) where
           marks = h .marks;
           pending = λ k m x. h .pending k m (l .pending k m x);
           ready = h .ready;
+          waits = h .waits;
           known = (a-copyin-known t (i .copyin) (h .known .0), a-processor-known (d .table) t (i .processor) (h .known .1), l .known, h .known .3);
           parts = λ k m.
               omega (
@@ -233,6 +236,7 @@ module _ (present : ℕ) (tasks : present < 2 ^ 32) where
               marks = h .marks;
               pending = h .pending;
               ready = y .ready-known;
+              waits = h .waits;
               known = (y .known, b-outgoing-known (i .processor) (h .known .1));
               parts = λ k l.
                   omega (arith, h .parts k l, y .parts k l, b-outgoing-bit k (i .processor) (rests i o), b-copyout-bit k (i .copyout) (no-copyout i o));
@@ -259,15 +263,16 @@ module _ (present : ℕ) (tasks : present < 2 ^ 32) where
   release-bit false true n s h f = absurd (omega arith)
   release-bit false false n s h f = omega arith
 
-  pub c-moves : (d : State) (t new : ℕ) → Parted d (d .phase) → Sub new present → ((k : ℕ) → member k new ≡ true → member k (d .jobs .pending) ≡ false)
-      → Moves d (d .phase) (step-c d t new) (step-c d t new .phase) 0 (size new)
+  c-moves : (d : State) (t new late : ℕ) → Parted d (d .phase) → Sub new present → Sub late present → ((k : ℕ) → member k new ≡ true → member k (d .jobs .pending) ≡ false)
+      → Moves d (d .phase) (step-c d t new late) (step-c d t new late .phase) 0 (size new)
   unfolding step-c
-  c-moves d t new h n f = record {
+  c-moves d t new late h n u f = record {
     parted = record {
       few = union-small (d .jobs .pending) new;
       marks = h .marks;
       pending = λ k l m. ⊎-elim (λ x. h .pending k l x) (λ x. n k l x) (union-out (d .jobs .pending) new k m);
       ready = λ k l m. ⊎-elim (λ x. h .ready k l x) (λ x. n k l x) (union-out (d .jobs .ready) new k m);
+      waits = λ k l m. ⊎-elim (λ x. h .waits k l (difference-left (d .waiting .tasks) new k x)) (λ x. u k l x) (union-out (difference (d .waiting .tasks) new) late k m);
       known = c-known d new (d .phase) (h .marks) (h .known);
       parts = λ k l.
           rw (united (d .jobs .pending) new k l, united (d .jobs .ready) new k l, c-stage d new k (d .phase))
@@ -275,6 +280,15 @@ module _ (present : ℕ) (tasks : present < 2 ^ 32) where
     };
     sizes = omega (arith, size-union-apart (d .jobs .pending) new f);
   }
+
+  -- with the sets that step c is handed
+  pub c-takes : (d : State) (t set : ℕ) → Sub set present → Parted d (d .phase)
+      → let c : State = step-c d t (taken d set) (deferred d set) in Moves d (d .phase) c (c .phase) 0 (size (taken d set))
+  c-takes d t set f h =
+      c-moves d t (taken d set) (deferred d set) h
+      (λ k l m. ⊎-elim (λ x. h .waits k l x) (λ x. f k l x) (taken-from d set k m))
+      (λ k l m. f k l (deferred-from d set k m))
+      (λ k m. taken-not-pending d set k m)
 
   -- d
   cancel-bit : (x p r : Bool) (s : ℕ) → bit p ≡ bit r + (bit x + s) → bit p ≡ bit (x || r) + s
@@ -302,6 +316,7 @@ module _ (present : ℕ) (tasks : present < 2 ^ 32) where
           marks = h .marks;
           pending = h .pending;
           ready = λ k l m. ⊎-elim (λ x. ap (λ (y : ℕ). member y present) (eqb-true k c x) ∙ n) (λ x. h .ready k l x) (insert-out c (d .jobs .ready) k m);
+          waits = h .waits;
           known = (n, h .known .1, h .known .2, h .known .3);
           parts = λ k l.
               let z : bit (member k (d .jobs .pending)) ≡ bit (member k (d .jobs .ready)) + (bit (eqb k c) + processor-bit k (i .processor) + copyout-bit k (i .copyout)) =
@@ -327,6 +342,7 @@ module _ (present : ℕ) (tasks : present < 2 ^ 32) where
       marks = h .marks;
       pending = h .pending;
       ready = h .ready;
+      waits = h .waits;
       known = (tt, h .known .1, h .known .2, h .known .3);
       parts = λ k l. subst (λ (y : CopyIn). bit (member k (d .jobs .pending)) ≡ bit (member k (d .jobs .ready)) + (copyin-bit k y + processor-bit k (i .processor) + copyout-bit k (i .copyout))) s (h .parts k l);
     };
@@ -338,6 +354,7 @@ module _ (present : ℕ) (tasks : present < 2 ^ 32) where
       marks = h .marks;
       pending = h .pending;
       ready = λ k l m. h .ready k l (remove-out q (d .jobs .ready) k m);
+      waits = h .waits;
       known = (h .ready q (b .0) (b .1), h .known .1, h .known .2, h .known .3);
       parts = λ k l.
           let z : bit (member k (d .jobs .pending)) ≡ bit (member k (d .jobs .ready)) + (0 + processor-bit k (i .processor) + copyout-bit k (i .copyout)) =
@@ -387,6 +404,7 @@ module _ (present : ℕ) (tasks : present < 2 ^ 32) where
             marks = h .marks;
             pending = h .pending;
             ready = h .ready;
+            waits = h .waits;
             known =
                 (tt, g-processor-known (f .table) t next (h .known .0), g-copyout-known (f .table) t outgoing (h .known .1), λ k l m. h .marks k l (intersection-right new (f .marked) k m));
             parts = λ k l. omega (arith, h .parts k l, g-processor k (f .table) t next, g-copyout k (f .table) t outgoing);
@@ -404,21 +422,21 @@ module _ (present : ℕ) (tasks : present < 2 ^ 32) where
   to-b d t h =
       let a : Stage = at-a d t in
       let x : Moves (at-clock d t) (d .phase) (a .state) (a .state .phase) (total is-completion (completion-events (a .done))) 0 =
-      a-moves (at-clock d t) t (d .phase) refl (record { few = h .few; marks = h .marks; pending = h .pending; ready = h .ready; known = h .known; parts = h .parts }) in
+      a-moves (at-clock d t) t (d .phase) refl (record { few = h .few; marks = h .marks; pending = h .pending; ready = h .ready; waits = h .waits; known = h .known; parts = h .parts }) in
       let y : Moves (a .state) (a .state .phase) (at-b d t .state) (at-b d t .state .phase) 0 0 = b-moves a t (a .state .phase) refl (x .parted) in
       record { parted = y .parted; sizes = omega (arith, x .sizes, y .sizes) }
 
   pub to-e : (d : State) (t set : ℕ) → Sub set present → Parted (at-b d t .state) (at-b d t .state .phase)
       → Moves (at-b d t .state) (at-b d t .state .phase) (at-e d t set) (at-e d t set .phase) 0 (size (new-at d t set))
-  unfolding at-e new-at taken
+  unfolding at-e new-at late-at
   to-e d t set f h =
       let b : State = at-b d t .state in
       let new : ℕ = new-at d t set in
-      let c : State = step-c b t new in
+      let late : ℕ = late-at d t set in
+      let c : State = step-c b t new late in
       let x : State = step-d c new (c .phase) in
       let e : State = step-e x t (x .phase) in
-      let l1 : Moves b (b .phase) c (c .phase) 0 (size new) =
-      c-moves b t new h (λ k l m. f k l (difference-left set (b .jobs .pending) k m)) (λ k m. difference-right set (b .jobs .pending) k m) in
+      let l1 : Moves b (b .phase) c (c .phase) 0 (size new) = c-takes b t set f h in
       let l2 : Moves c (c .phase) x (x .phase) 0 0 = d-moves c new (l1 .parted) in
       let l3 : Moves x (x .phase) e (e .phase) 0 0 = e-moves x t (l2 .parted) in
       record { parted = l3 .parted; sizes = omega (arith, l1 .sizes, l2 .sizes, l3 .sizes) }

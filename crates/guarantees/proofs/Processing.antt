@@ -6,7 +6,7 @@ use native.Mathlib.Omega.{arith}
 use native.Mathlib.Nat.{add-zero}
 use borrow.Author.Tests.{eq-eqb, le-leb, lt-leb}
 use lib.Dec.{eqb}
-use Rattle.guarantees.specs.History.{Event, Comes, Starts, Stops, Finishes, Completes, Ends, Takes, GivesWay, Begins}
+use Rattle.guarantees.specs.History.{Event, Comes, Starts, Stops, Finishes, Completes, Ends, Takes, Defers, GivesWay, Begins}
 use Rattle.guarantees.specs.Queries.{is-task, start, stop, last-instant, Latest, none-yet, latest-by, latest, loaded, Execution, not-yet, execution-by, execution, after, first}
 use Rattle.guarantees.specs.Claim.{if-reached, Executed}
 
@@ -78,6 +78,7 @@ module _ (columns : List ℕ) where
   Working now s l (Finishes n ∷ es) = Working now s (Task n) es
   Working now s l (GivesWay n ∷ es) = Working now s NoTask es
   Working now s l (Completes n t ∷ es) = Working now s l es
+  Working now s l (Defers n t ∷ es) = Working now s l es
   Working now s l (Ends t ∷ es) = may-shut s × Working now Shut l es
   Working now s l (Takes n t m ∷ es) = Working now s l es
   Working now s l (Begins t r o ∷ es) = may-open now s t × Working now (opened-to t l r) NoTask es
@@ -94,6 +95,7 @@ module _ (columns : List ℕ) where
   onward (Finishes n ∷ es) now s l h = onward es now s (Task n) h
   onward (GivesWay n ∷ es) now s l h = onward es now s NoTask h
   onward (Completes n t ∷ es) now s l h = onward es now s l h
+  onward (Defers n t ∷ es) now s l h = onward es now s l h
   onward (Ends t ∷ es) now s l h = onward es now Shut l (h .1)
   onward (Takes n t m ∷ es) now s l h = onward es now s l h
   onward (Begins t r o ∷ es) now s l h = onward es now (opened-to columns t l r) NoTask (h .1)
@@ -111,6 +113,7 @@ module _ (columns : List ℕ) where
     running (Finishes k ∷ es) now u l h = running es now u (Task k) h
     running (GivesWay k ∷ es) now u l h = running es now u NoTask h
     running (Completes k t ∷ es) now u l h = running es now u l h
+    running (Defers k t ∷ es) now u l h = running es now u l h
     running (Ends t ∷ es) now u l h = absurd (h .0)
     running (Takes k t m ∷ es) now u l h = running es now u l h
     running (Begins t r o ∷ es) now u l h = absurd (h .0)
@@ -138,6 +141,7 @@ module _ (columns : List ℕ) where
     starting (Finishes k ∷ es) now u l h = let x : Starting u now es = starting es now u (Task k) h in record { starts = x .starts; stops = x .stops }
     starting (GivesWay k ∷ es) now u l h = let x : Starting u now es = starting es now u NoTask h in record { starts = x .starts; stops = x .stops }
     starting (Completes k t ∷ es) now u l h = let x : Starting u now es = starting es now u l h in record { starts = x .starts; stops = x .stops }
+    starting (Defers k t ∷ es) now u l h = let x : Starting u now es = starting es now u l h in record { starts = x .starts; stops = x .stops }
     starting (Ends t ∷ es) now u l h = absurd (h .0)
     starting (Takes k t m ∷ es) now u l h = let x : Starting u now es = starting es now u l h in record { starts = x .starts; stops = x .stops }
     starting (Begins t r o ∷ es) now u l h = absurd (h .0)
@@ -170,6 +174,7 @@ module _ (columns : List ℕ) where
     split (Finishes k ∷ es) after t now o s l h = split es after t now o s (Task k) h
     split (GivesWay k ∷ es) after t now o s l h = split es after t now o s NoTask h
     split (Completes k u ∷ es) after t now o s l h = split es after t now o s l h
+    split (Defers k u ∷ es) after t now o s l h = split es after t now o s l h
     split (Ends u ∷ es) after t now o s l h = split es after t now o Shut l (h .1)
     split (Takes k u m ∷ es) after t now o s l h = split es after t now o s l h
     split (Begins u r q ∷ es) after t now o s l h = split es after t now o (opened-to columns u l r) NoTask (h .1)
@@ -225,6 +230,7 @@ module _ (columns : List ℕ) where
   meets (Finishes k ∷ es) e after now s l x y h a = meets es e after now s (Task k) x y h a
   meets (GivesWay k ∷ es) e after now s l x y h a = meets es e after now s NoTask x y h a
   meets (Completes k t ∷ es) e after now s l x y h a = meets es e after now s l x y h a
+  meets (Defers k t ∷ es) e after now s l x y h a = meets es e after now s l x y h a
   meets (Ends t ∷ es) e after now s l x y h a = meets es e after now Shut l (latest-by x (Ends t)) y (h .1) tt
   meets (Takes k t m ∷ es) e after now s l x y h a = meets es e after now s l x y h a
   meets (Begins t r o ∷ es) e after now s l x y h a =

@@ -5,17 +5,18 @@ use native.Mathlib.Nat.{not-suc-le-zero}
 use borrow.Author.Tests.{eqb-true, eqb-false, ne-eqb}
 use lib.Dec.{eqb}
 use Rattle.sets.specs.Sets.{member, intersection, union, bit}
-use Rattle.sets.proofs.Laws.{by-test, clash, none, same-task, union-left, union-right, union-out, intersection-left, intersection-right, insert-same, insert-other, remove-in, difference-right}
+use Rattle.sets.proofs.Laws.{by-test, clash, none, same-task, union-left, union-right, union-out, intersection-left, intersection-right, insert-same, insert-other, remove-in}
 use Rattle.rules.specs.With.{at-clock}
 use Rattle.rules.specs.Order.{highest-of}
 use Rattle.rules.specs.Calls.{opened}
-use Rattle.rules.specs.Instant.{step-a, step-b, step-c, step-d, step-e, step-g, close, close-stage, over, promoted, next-of, held-over, with-candidates, cancel, choose, begin, begin-processor, wanted, taken, ended, without-done, copyin-at, processor-task, copyout-task, at-a, at-b, at-e, at-f, at-g, new-at, fresh-stage}
-use Rattle.guarantees.specs.History.{Event, Comes, Starts, Stops, Finishes, Completes, Ends, Takes, GivesWay, Begins, history, happens, finish-events, finish-events-in, completion-events, end-events, take-events, giving-events-in, begin-events, start-events}
+use Rattle.rules.specs.Instant.{step-a, step-b, step-c, step-d, step-e, step-g, close, close-stage, over, promoted, next-of, held-over, with-candidates, cancel, choose, begin, begin-processor, wanted, ended, without-done, copyin-at, processor-task, copyout-task, at-a, at-b, at-e, at-f, at-g, new-at, late-at, fresh-stage}
+use Rattle.guarantees.specs.History.{Event, Comes, Starts, Stops, Finishes, Completes, Ends, Takes, Defers, GivesWay, Begins, history, happens, finish-events, finish-events-in, completion-events, end-events, take-events, giving-events-in, begin-events, start-events}
 use Rattle.guarantees.specs.Queries.{is-task, loaded, last-mark, after}
 use Rattle.guarantees.proofs.Proper.{Fair}
 use Rattle.guarantees.proofs.Highest.{Best}
 use Rattle.guarantees.proofs.Walk.{walk}
 use Rattle.guarantees.proofs.Frames.{marked-b}
+use Rattle.guarantees.proofs.Releases.{taken-not-pending}
 use Rattle.guarantees.proofs.Cases.{held-at, d-cases, e-cases}
 use Rattle.guarantees.proofs.Steps.{Opened, e-opens, settles, best-of}
 use Rattle.guarantees.proofs.Waiting.{held-task, held-is, next-task, runs}
@@ -24,7 +25,7 @@ use Rattle.guarantees.proofs.Blocking.{a-held}
 use Rattle.guarantees.proofs.Places.{Parted, copyin-bit, stage, next-bit, to-b}
 use Rattle.guarantees.proofs.Served.{served-at}
 use Rattle.guarantees.proofs.Invariant.{Good, good-opened, good-next, good-quiet}
-use Rattle.guarantees.proofs.Events.{by-processor, by-completes, by-takes, by-starts, tail-of, front-of, happens-parts, front-parts, tail-parts}
+use Rattle.guarantees.proofs.Events.{by-processor, by-completes, by-takes, by-defers, by-starts, tail-of, front-of, happens-parts, front-parts, tail-parts}
 use Rattle.guarantees.proofs.Executions.{finished-of, loaded-next, View, view-of, Given, given-e, e-view, stays-loaded}
 
 -- ---- along a history
@@ -39,6 +40,7 @@ module _ (n : ℕ) where
   Promoting b l (Finishes k ∷ es) = Promoting b (Task k) es
   Promoting b l (GivesWay k ∷ es) = Promoting b NoTask es
   Promoting b l (Completes k t ∷ es) = Promoting b l es
+  Promoting b l (Defers k t ∷ es) = Promoting b l es
   Promoting b l (Ends t ∷ es) = Promoting b l es
   Promoting b l (Takes k t m ∷ es) = Promoting (cond (eqb n k) m b) l es
   Promoting b l (Begins t r o ∷ es) = (is-task n r ≡ true → is-task n l ≡ false → b ≡ true) × Promoting b NoTask es
@@ -53,6 +55,7 @@ module _ (n : ℕ) where
   split (Finishes k ∷ es) after t o b l h e = split es after t o b (Task k) h e
   split (GivesWay k ∷ es) after t o b l h e = split es after t o b NoTask h e
   split (Completes k u ∷ es) after t o b l h e = split es after t o b l h e
+  split (Defers k u ∷ es) after t o b l h e = split es after t o b l h e
   split (Ends u ∷ es) after t o b l h e = split es after t o b l h e
   split (Takes k u m ∷ es) after t o b l h e = split es after t o (cond (eqb n k) m b) l h e
   split (Begins u r q ∷ es) after t o b l h e = split es after t o b NoTask (h .1) e
@@ -179,10 +182,10 @@ module _ (n : ℕ) (small : n < 32) where
   promoted-bit (LoadedNext m) e = absurd (false≢true e)
   promoted-bit (PromotedNext m) e = rw e
 
-  c-fine : (present : ℕ) (tasks : present < 2 ^ 32) (b : Bool) (d : State) (t new : ℕ) (p : Phase) → d .phase ≡ p → Parted present tasks d p
-      → ((k : ℕ) → member k new ≡ true → member k (d .jobs .pending) ≡ false) → Fine b (d .jobs .ready) p → FineAt (mark-after n new (d .marked) b) (step-c d t new)
+  c-fine : (present : ℕ) (tasks : present < 2 ^ 32) (b : Bool) (d : State) (t new late : ℕ) (p : Phase) → d .phase ≡ p → Parted present tasks d p
+      → ((k : ℕ) → member k new ≡ true → member k (d .jobs .pending) ≡ false) → Fine b (d .jobs .ready) p → FineAt (mark-after n new (d .marked) b) (step-c d t new late)
   unfolding step-c
-  c-fine present tasks b d t new p e h f x = subst (λ (q : Phase). Fine (mark-after n new (d .marked) b) (union (d .jobs .ready) new) (with-candidates d new q)) (sym e) (go p h x)
+  c-fine present tasks b d t new late p e h f x = subst (λ (q : Phase). Fine (mark-after n new (d .marked) b) (union (d .jobs .ready) new) (with-candidates d new q)) (sym e) (go p h x)
     where
       -- a job that is pending is not taken
       kept : bit (member n (d .jobs .pending)) ≡ 1 → b ≡ true → mark-after n new (d .marked) b ≡ true
@@ -352,13 +355,13 @@ module _ (table : Table) (marks : ℕ) (fair : Fair table marks) (n : ℕ) (smal
     fine-e : FineAt n small b′ (at-e d t set)
     unfolding at-e
     fine-e =
-        let c : State = step-c (at-b d t .state) t (new-at d t set) in
+        let c : State = step-c (at-b d t .state) t (new-at d t set) (late-at d t set) in
         e-fine n small b′ (step-d c (new-at d t set) (c .phase)) t
         (d-fine n small b′ c (new-at d t set)
         (subst (λ (m : ℕ). FineAt n small (mark-after n (new-at d t set) m b) c) (marked-b d t)
-        (c-fine n small (table .present) (fair .present) b (at-b d t .state) t (new-at d t set) (at-b d t .state .phase) refl
+        (c-fine n small (table .present) (fair .present) b (at-b d t .state) t (new-at d t set) (late-at d t set) (at-b d t .state .phase) refl
         (to-b (table .present) (fair .present) d t (g .parted) .parted)
-        (λ k m. unfold new-at taken in difference-right set (at-b d t .state .jobs .pending) k m) fine-b)))
+        (λ k m. unfold new-at in taken-not-pending (at-b d t .state) set k m) fine-b)))
 
     fine-f : FineAt n small b′ (at-f d t set .state)
     unfolding at-f
@@ -372,7 +375,7 @@ module _ (table : Table) (marks : ℕ) (fair : Fair table marks) (n : ℕ) (smal
         (ap (λ (c : Bool). cond c (member n (d .marked)) b) m ∙ ap (member n) (sym marks-c) ∙ x, ap (λ (s : State). member n (s .jobs .ready)) same ∙ ready-c)
       where
         c : State
-        c = step-c (at-b d t .state) t (new-at d t set)
+        c = step-c (at-b d t .state) t (new-at d t set) (late-at d t set)
 
         shut-c : c .phase ≡ Between next outgoing
         shut-c = unfold step-c with-candidates in ap (with-candidates (at-b d t .state) (new-at d t set)) e
@@ -412,8 +415,9 @@ module _ (table : Table) (marks : ℕ) (fair : Fair table marks) (n : ℕ) (smal
             let f : State = at-f d t set .state in
             let z : List Event = begin-events t (f .phase) (at-g d t set .phase) ++ (start-events t (f .phase) (at-g d t set .phase) ++ ys) in
             rw (tail-parts d t set ys)
+            (by-defers (Goes n small b′ (at-b d t .state .phase)) 32 (late-at d t set) t (λ m l x es k. unfold Promoting in k) (giving-events-in (at-b d t .state .phase) (e .phase) ++ (end-events t (e .phase) (f .phase) ++ z))
             (gives (at-b d t .state .phase) (e .phase) (end-events t (e .phase) (f .phase) ++ z) (given-e d t set)
-            (b-goes b′ (fresh-stage e) t (e .phase) z refl (g-goes n small b′ f t (held-at d t set) (f .phase) ys refl fine-f h)))
+            (b-goes b′ (fresh-stage e) t (e .phase) z refl (g-goes n small b′ f t (held-at d t set) (f .phase) ys refl fine-f h))))
 
         goes-front : (zs : List Event) → Goes n small b (at-b d t .state .phase) zs → Goes n small b (d .phase) (front-of d t ++ zs)
         goes-front zs k =

@@ -6,7 +6,7 @@ use lib.Dec.{eqb}
 use Rattle.sets.specs.Sets.{intersection}
 use Rattle.sets.proofs.Laws.{by-test, empty}
 use Rattle.guarantees.proofs.Highest.{Best}
-use Rattle.rules.specs.Instant.{step-b, step-c, step-d, step-e, step-g, close, over, choose, choose-if, begin, begin-processor, copying-out, wanted, resting, at-b, at-e, at-f, at-g, new-at, fresh-stage}
+use Rattle.rules.specs.Instant.{step-b, step-c, step-d, step-e, step-g, close, over, choose, choose-if, begin, begin-processor, copying-out, wanted, resting, at-b, at-e, at-f, at-g, new-at, late-at, fresh-stage}
 use Rattle.rules.specs.Order.{highest-of}
 use Rattle.guarantees.proofs.Cases.{held-at, b-cases, g-cases}
 use Rattle.guarantees.proofs.Steps.{Opened, e-opens, best-of}
@@ -130,7 +130,8 @@ unfolding at-g at-f at-e
 settled-after d t set h =
     let b : Stage = at-b d t in
     let new : ℕ = new-at d t set in
-    let c : State = step-c (b .state) t new in
+    let late : ℕ = late-at d t set in
+    let c : State = step-c (b .state) t new late in
     let x : State = step-d c new (c .phase) in
     let e : State = at-e d t set in
     let s : Stage = fresh-stage e in

@@ -43,11 +43,11 @@ abbrev pub NewAt : State → ℕ → Phase → Type 0
 NewAt d new (Between next outgoing) = Unit {0}
 NewAt d new (Within i) = NewIn d new i
 
-pub c-new : (d : State) (t new : ℕ) → NewAt (step-c d t new) new (step-c d t new .phase)
+pub c-new : (d : State) (t new late : ℕ) → NewAt (step-c d t new late) new (step-c d t new late .phase)
 unfolding step-c
-c-new d t new = go (d .phase)
+c-new d t new late = go (d .phase)
   where
-    go : (p : Phase) → NewAt (step-c d t new) new (with-candidates d new p)
+    go : (p : Phase) → NewAt (step-c d t new late) new (with-candidates d new p)
     go (Between next outgoing) = unfold with-candidates in tt
     go (Within i) = unfold with-candidates in record {
       ready = λ k l h. union-right (d .jobs .ready) new k l h;

@@ -1,14 +1,14 @@
 -- The walk of Tally over the events of each step, and the arrays by task number.
-use Rattle.guarantees.specs.Types.{_≡_, refl, sym, ap, _∙_, subst, Bool, true, false, cond, _||_, List, [], _∷_, _++_, ℕ, zero, suc, _+_, _<_, min, Table, MaybeTask, NoTask, Task, Processor, Idle, CopyingIn, Executing, Finished, CopyIn, Unchosen, NoneChosen, Copying, Loaded, Cancelled, Next, NoneNext, LoadedNext, PromotedNext, Outgoing, Phase, Between, Within, Done, NoJob, Job, Due, Tick}
+use Rattle.guarantees.specs.Types.{_≡_, refl, sym, ap, _∙_, subst, Bool, true, false, cond, _&&_, _||_, List, [], _∷_, _++_, ℕ, zero, suc, _+_, _<_, min, Table, MaybeTask, NoTask, Task, Processor, Idle, CopyingIn, Executing, Finished, CopyIn, Unchosen, NoneChosen, Copying, Loaded, Cancelled, Next, NoneNext, LoadedNext, PromotedNext, Outgoing, Phase, Between, Within, Done, NoJob, Job, Due, Tick}
 use native.Mathlib.Omega.{arith}
 use native.Mathlib.Nat.{add-zero, not-suc-le-zero, le-of-suc-le-suc}
-use borrow.Author.Tests.{eqb-true, eqb-false, ne-eqb}
-use lib.Dec.{eqb}
+use borrow.Author.Tests.{eqb-true, eqb-false, ne-eqb, lt-ltb, le-ltb, ltb-true, ltb-false}
+use lib.Dec.{eqb, ltb}
 use lib.ListN.{getD, length}
 use Rattle.sets.specs.Sets.{member}
 use Rattle.sets.proofs.Laws.{by-test}
-use Rattle.rules.specs.Instant.{counted, stamped, begin-processor, processor-task, copyout-task, taken}
-use Rattle.guarantees.specs.History.{Starts, Stops, Finishes, Takes, Begins, processor-events, finish-events, completion-events, take-events, given-way, giving-events, giving-events-in, begin-events, start-events, execution-events}
+use Rattle.rules.specs.Instant.{counted, stamped, begin-processor, processor-task, copyout-task}
+use Rattle.guarantees.specs.History.{Starts, Stops, Finishes, Takes, Defers, Begins, processor-events, finish-events, completion-events, take-events, defer-events, given-way, giving-events, giving-events-in, begin-events, start-events, execution-events}
 use Rattle.guarantees.specs.Queries.{is-task, Open}
 use Rattle.guarantees.proofs.Steps.{Opened}
 use Rattle.guarantees.proofs.Waiting.{next-task}
@@ -29,22 +29,25 @@ counted-exact s k (x ∷ xs) zero l = rw (add-zero k)
 counted-exact s k (x ∷ xs) (suc n) l =
     counted-exact s (suc k) xs n (le-of-suc-le-suc l) ∙ ap (λ (j : ℕ). cond (member j s) (min (getD xs n 0 + 1) 255) (getD xs n 0)) (shift k n)
 
-pub stamped-length : (s v k : ℕ) (xs : List ℕ) → length (stamped s v k xs) ≡ length xs
+pub stamped-length : (s : ℕ) (f : ℕ → ℕ) (k : ℕ) (xs : List ℕ) → length (stamped s f k xs) ≡ length xs
 unfolding stamped
-stamped-length s v k [] = refl
-stamped-length s v k (x ∷ xs) = ap suc (stamped-length s v (suc k) xs)
+stamped-length s f k [] = refl
+stamped-length s f k (x ∷ xs) = ap suc (stamped-length s f (suc k) xs)
 
-pub stamped-exact : (s v k : ℕ) (xs : List ℕ) (n : ℕ) → n < length xs → getD (stamped s v k xs) n 0 ≡ cond (member (k + n) s) v (getD xs n 0)
+pub stamped-exact : (s : ℕ) (f : ℕ → ℕ) (k : ℕ) (xs : List ℕ) (n : ℕ) → n < length xs → getD (stamped s f k xs) n 0 ≡ cond (member (k + n) s) (f (k + n)) (getD xs n 0)
 unfolding stamped
-stamped-exact s v k [] n l = absurd (not-suc-le-zero l)
-stamped-exact s v k (x ∷ xs) zero l = rw (add-zero k)
-stamped-exact s v k (x ∷ xs) (suc n) l = stamped-exact s v (suc k) xs n (le-of-suc-le-suc l) ∙ ap (λ (j : ℕ). cond (member j s) v (getD xs n 0)) (shift k n)
+stamped-exact s f k [] n l = absurd (not-suc-le-zero l)
+stamped-exact s f k (x ∷ xs) zero l = rw (add-zero k)
+stamped-exact s f k (x ∷ xs) (suc n) l = stamped-exact s f (suc k) xs n (le-of-suc-le-suc l) ∙ ap (λ (j : ℕ). cond (member j s) (f j) (getD xs n 0)) (shift k n)
 
 -- ---- the walk of Tally over the events of each step
 
 module _ (n : ℕ) where
   abbrev pub with-started : Tally → Due → Tally
-  with-started x s = record { at = x .at; taken = x .taken; waits = x .waits; executed = x .executed; started = s }
+  with-started x s = record { at = x .at; held = x .held; release = x .release; waits = x .waits; executed = x .executed; started = s }
+
+  abbrev pub with-held : Tally → Due → Tally
+  with-held x h = record { at = x .at; held = h; release = x .release; waits = x .waits; executed = x .executed; started = x .started }
 
   -- a
   abbrev pub started-after : ℕ → Processor → Due → Due
@@ -118,6 +121,45 @@ module _ (n : ℕ) where
       ap (λ (y : Tally). tally n y (cond (member k new) (Takes k t (member k marks) ∷ []) [])) (takes-this k new marks t x (omega (arith, eqb-false n k e)) m)
       ∙ take-other k t (member k marks) (member k new) (tally-by n x (Takes n t (member n marks))) e)
 
+  one-defers : (k t : ℕ) (b : Bool) (x : Tally) → tally n x (cond b (Defers k t ∷ []) []) ≡ with-held x (cond b (cond (eqb n k) (Tick t) (x .held)) (x .held))
+  unfolding tally
+  one-defers k t true x = refl
+  one-defers k t false x = refl
+
+  -- the release of the task waits from now on, if it is among them
+  abbrev held-below : ℕ → ℕ → ℕ → Due → Due
+  held-below k late t h = cond (ltb n k && member n late) (Tick t) h
+
+  held-step : (k late t : ℕ) (h : Due) → cond (member k late) (cond (eqb n k) (Tick t) (held-below k late t h)) (held-below k late t h) ≡ held-below (suc k) late t h
+  held-step k late t h =
+      by-test (eqb n k)
+      (λ e.
+      let z : n ≡ k = eqb-true n k e in
+      rw (e, le-ltb n k (omega arith), lt-ltb n (suc k) (omega arith)) (subst (λ (j : ℕ). cond (member j late) (Tick t) h ≡ cond (member n late) (Tick t) h) z refl))
+      (λ e. rw (e, same-below (eqb-false n k e)) (go (member k late) (held-below (suc k) late t h)))
+    where
+      go : (b : Bool) (w : Due) → cond b w w ≡ w
+      go true w = refl
+      go false w = refl
+
+      same-below : (n ≡ k → ⊥) → ltb n k ≡ ltb n (suc k)
+      same-below f =
+          by-test (ltb n k)
+          (λ e. e ∙ sym (lt-ltb n (suc k) (omega (arith, ltb-true n k e))))
+          (λ e. e ∙ sym (le-ltb n (suc k) (omega (arith, ltb-false n k e))))
+
+  defers-below : (k late t : ℕ) (x : Tally) → tally n x (defer-events k late t) ≡ with-held x (held-below k late t (x .held))
+  unfolding defer-events
+  defers-below zero late t x = unfold tally in ap (λ (b : Bool). with-held x (cond (b && member n late) (Tick t) (x .held))) (sym (le-ltb n 0 (omega arith)))
+  defers-below (suc k) late t x =
+      tally-append n (defer-events k late t) (cond (member k late) (Defers k t ∷ []) []) x
+      ∙ ap (λ (y : Tally). tally n y (cond (member k late) (Defers k t ∷ []) [])) (defers-below k late t x)
+      ∙ one-defers k t (member k late) (with-held x (held-below k late t (x .held)))
+      ∙ ap (with-held x) (held-step k late t (x .held))
+
+  pub defers-tally : n < 32 → (late t : ℕ) (x : Tally) → tally n x (defer-events 32 late t) ≡ with-held x (cond (member n late) (Tick t) (x .held))
+  defers-tally small late t x = defers-below 32 late t x ∙ ap (λ (b : Bool). with-held x (cond (b && member n late) (Tick t) (x .held))) (lt-ltb n 32 small)
+
   -- d
   pub gives-tally : (p q : Phase) (x : Tally) → tally n x (giving-events-in p q) ≡ x
   unfolding tally giving-events-in giving-events
@@ -139,7 +181,8 @@ module _ (n : ℕ) where
   abbrev pub begun : ℕ → Next → Tally → Tally
   begun t next x = record {
     at = Open (next-task next);
-    taken = x .taken;
+    held = x .held;
+    release = x .release;
     waits = grown (x .executed) (is-task n (next-task next)) (x .waits) (next-task next);
     executed = x .executed || is-task n (next-task next);
     started = started-next t next (x .started);

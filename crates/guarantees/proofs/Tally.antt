@@ -5,22 +5,23 @@ use native.Mathlib.Omega.{arith}
 use borrow.Author.Tests.{eqb-true}
 use lib.Dec.{eqb}
 use Rattle.sets.proofs.Laws.{by-test, same-task}
-use Rattle.guarantees.specs.History.{Event, Comes, Starts, Stops, Finishes, Completes, Ends, Takes, GivesWay, Begins}
-use Rattle.guarantees.specs.Queries.{is-task, Situation, NoneOpen, Open, situation, after-event, intervals, taking, start, until, waited, after, each, first}
+use Rattle.guarantees.specs.History.{Event, Comes, Starts, Stops, Finishes, Completes, Ends, Takes, Defers, GivesWay, Begins}
+use Rattle.guarantees.specs.Queries.{is-task, Situation, NoneOpen, Open, situation, after-event, waiting, original, intervals, taking, start, until, waited, after, each, first}
 
 -- ---- the walk
 
--- what is open; and of the last job of a task: the tick on which it was taken, its intervals so far before the one that executes it, whether that
--- one has begun, and the tick on which its execution has started
+-- what is open; of a task the tick of the release that waits; and of its last job: the original tick of its release, its intervals so far before the
+-- one that executes it, whether that one has begun, and the tick on which its execution has started
 pub record Tally : Type 0 where
   pub at : Situation
-  pub taken : Due
+  pub held : Due
+  pub release : Due
   pub waits : List MaybeTask
   pub executed : Bool
   pub started : Due
 
 abbrev pub nothing : Tally
-nothing = record { at = NoneOpen; taken = Never; waits = []; executed = false; started = Never }
+nothing = record { at = NoneOpen; held = Never; release = Never; waits = []; executed = false; started = Never }
 
 abbrev pub first-of : Situation → List MaybeTask
 first-of NoneOpen = []
@@ -40,22 +41,26 @@ module _ (n : ℕ) where
   abbrev pub tally-by : Tally → Event → Tally
   tally-by x (Comes t) = x
   tally-by x (Starts k t) =
-      record { at = x .at; taken = x .taken; waits = x .waits; executed = x .executed; started = cond (eqb n k) (or-else (x .started) (Tick t)) (x .started) }
+      record { at = x .at; held = x .held; release = x .release; waits = x .waits; executed = x .executed; started = cond (eqb n k) (or-else (x .started) (Tick t)) (x .started) }
   tally-by x (Stops k t) = x
   tally-by x (Finishes k) = x
+  tally-by x (Defers k t) =
+      record { at = x .at; held = cond (eqb n k) (Tick t) (x .held); release = x .release; waits = x .waits; executed = x .executed; started = x .started }
   tally-by x (GivesWay k) = x
   tally-by x (Completes k t) = x
-  tally-by x (Ends t) = record { at = NoneOpen; taken = x .taken; waits = x .waits; executed = x .executed; started = x .started }
+  tally-by x (Ends t) = record { at = NoneOpen; held = x .held; release = x .release; waits = x .waits; executed = x .executed; started = x .started }
   tally-by x (Takes k t m) = record {
     at = x .at;
-    taken = cond (eqb n k) (Tick t) (x .taken);
+    held = cond (eqb n k) Never (x .held);
+    release = cond (eqb n k) (Tick (original (x .held) t)) (x .release);
     waits = cond (eqb n k) (first-of (x .at)) (x .waits);
     executed = cond (eqb n k) false (x .executed);
     started = cond (eqb n k) Never (x .started);
   }
   tally-by x (Begins t r l) = record {
     at = Open r;
-    taken = x .taken;
+    held = x .held;
+    release = x .release;
     waits = grown (x .executed) (is-task n r) (x .waits) r;
     executed = x .executed || is-task n r;
     started = x .started;
@@ -75,16 +80,35 @@ module _ (n : ℕ) where
   tally-at x (Starts k t) = refl
   tally-at x (Stops k t) = refl
   tally-at x (Finishes k) = refl
+  tally-at x (Defers k t) = refl
   tally-at x (GivesWay k) = refl
   tally-at x (Completes k t) = refl
   tally-at x (Ends t) = refl
   tally-at x (Takes k t m) = refl
   tally-at x (Begins t r l) = refl
 
+  either-way : (b : Bool) (w : Due) → cond b w w ≡ w
+  either-way true w = refl
+  either-way false w = refl
+
+  -- what waits, before an event and behind it
+  tally-held : (x : Tally) (e : Event) (es : List Event) → waiting n (x .held) (e ∷ es) ≡ waiting n (tally-by x e .held) es
+  unfolding after
+  tally-held x (Comes t) es = refl
+  tally-held x (Starts k t) es = ap (λ (w : Due). waiting n w es) (either-way (eqb n k) (x .held))
+  tally-held x (Stops k t) es = ap (λ (w : Due). waiting n w es) (either-way (eqb n k) (x .held))
+  tally-held x (Finishes k) es = ap (λ (w : Due). waiting n w es) (either-way (eqb n k) (x .held))
+  tally-held x (Defers k t) es = refl
+  tally-held x (GivesWay k) es = ap (λ (w : Due). waiting n w es) (either-way (eqb n k) (x .held))
+  tally-held x (Completes k t) es = ap (λ (w : Due). waiting n w es) (either-way (eqb n k) (x .held))
+  tally-held x (Ends t) es = refl
+  tally-held x (Takes k t m) es = refl
+  tally-held x (Begins t r l) es = ap (λ (w : Due). waiting n w es) (either-way (is-task n r) (x .held))
+
   -- ---- events among which none is a taking of the task
 
   record Since (x : Tally) (es : List Event) (y : Tally) : Type 0 where
-    taken : y .taken ≡ x .taken
+    release : y .release ≡ x .release
     waits : y .waits ≡ cond (x .executed) (x .waits) (x .waits ++ until n (intervals es))
     started : y .started ≡ or-else (x .started) (start n es)
 
@@ -112,19 +136,22 @@ module _ (n : ℕ) where
 
   since : (es : List Event) (x : Tally) → taking n es ≡ Never → Since x es (tally x es)
   unfolding tally each first until
-  since [] x h = record { taken = refl; waits = no-more (x .executed) (x .waits); started = no-start (x .started) }
-  since (Comes t ∷ es) x h = let i : Since x es (tally x es) = since es x h in record { taken = i .taken; waits = i .waits; started = i .started }
-  since (Stops k t ∷ es) x h = let i : Since x es (tally x es) = since es x h in record { taken = i .taken; waits = i .waits; started = i .started }
-  since (Completes k t ∷ es) x h = let i : Since x es (tally x es) = since es x h in record { taken = i .taken; waits = i .waits; started = i .started }
+  since [] x h = record { release = refl; waits = no-more (x .executed) (x .waits); started = no-start (x .started) }
+  since (Comes t ∷ es) x h = let i : Since x es (tally x es) = since es x h in record { release = i .release; waits = i .waits; started = i .started }
+  since (Stops k t ∷ es) x h = let i : Since x es (tally x es) = since es x h in record { release = i .release; waits = i .waits; started = i .started }
+  since (Completes k t ∷ es) x h = let i : Since x es (tally x es) = since es x h in record { release = i .release; waits = i .waits; started = i .started }
   since (Starts k t ∷ es) x h =
       let y : Tally = tally-by x (Starts k t) in
       let i : Since y es (tally y es) = since es y h in
-      record { taken = i .taken; waits = i .waits; started = i .started ∙ starts-once (eqb n k) (x .started) (start n es) t }
-  since (Finishes k ∷ es) x h = let i : Since x es (tally x es) = since es x h in record { taken = i .taken; waits = i .waits; started = i .started }
-  since (GivesWay k ∷ es) x h = let i : Since x es (tally x es) = since es x h in record { taken = i .taken; waits = i .waits; started = i .started }
+      record { release = i .release; waits = i .waits; started = i .started ∙ starts-once (eqb n k) (x .started) (start n es) t }
+  since (Finishes k ∷ es) x h = let i : Since x es (tally x es) = since es x h in record { release = i .release; waits = i .waits; started = i .started }
+  since (Defers k t ∷ es) x h =
+      let y : Tally = tally-by x (Defers k t) in
+      let i : Since y es (tally y es) = since es y h in record { release = i .release; waits = i .waits; started = i .started }
+  since (GivesWay k ∷ es) x h = let i : Since x es (tally x es) = since es x h in record { release = i .release; waits = i .waits; started = i .started }
   since (Ends t ∷ es) x h =
       let y : Tally = tally-by x (Ends t) in
-      let i : Since y es (tally y es) = since es y h in record { taken = i .taken; waits = i .waits; started = i .started }
+      let i : Since y es (tally y es) = since es y h in record { release = i .release; waits = i .waits; started = i .started }
   since (Takes k t m ∷ es) x h =
       by-test (eqb n k)
       (λ e. never-tick t (rw e at h))
@@ -132,7 +159,7 @@ module _ (n : ℕ) where
       let y : Tally = tally-by x (Takes k t m) in
       let i : Since y es (tally y es) = since es y (rw e at h) in
       record {
-        taken = i .taken ∙ ap (λ (b : Bool). cond b (Tick t) (x .taken)) e;
+        release = i .release ∙ ap (λ (b : Bool). cond b (Tick (original (x .held) t)) (x .release)) e;
         waits =
             i .waits
             ∙ ap (λ (b : Bool). cond (cond b false (x .executed)) (cond b (first-of (x .at)) (x .waits)) (cond b (first-of (x .at)) (x .waits) ++ until n (intervals es))) e;
@@ -141,7 +168,7 @@ module _ (n : ℕ) where
   since (Begins t r l ∷ es) x h =
       let y : Tally = tally-by x (Begins t r l) in
       let i : Since y es (tally y es) = since es y h in
-      record { taken = i .taken; waits = i .waits ∙ one-more (x .executed) (is-task n r) (x .waits) r (until n (intervals es)); started = i .started }
+      record { release = i .release; waits = i .waits ∙ one-more (x .executed) (is-task n r) (x .waits) r (until n (intervals es)); started = i .started }
 
   -- ---- the last taking
 
@@ -152,7 +179,7 @@ module _ (n : ℕ) where
     pub marked : Bool
     pub is : es ≡ before ++ (Takes n tick marked ∷ after)
     pub last : taking n after ≡ Never
-    pub taken : y .taken ≡ Tick tick
+    pub release : y .release ≡ Tick (original (waiting n (x .held) before) tick)
     pub waits : y .waits ≡ waited n (situation (x .at) before) (intervals after)
     pub started : y .started ≡ start n after
 
@@ -160,19 +187,20 @@ module _ (n : ℕ) where
   first-waited NoneOpen rs = refl
   first-waited (Open r) rs = refl
 
-  -- what the walk finds behind a taking, up to the next
+  -- what the walk finds behind a taking, up to the next, where t is the original tick of its release
   pub record Found (t : ℕ) (at : Situation) (es : List Event) (y : Tally) : Type 0 where
-    pub taken : y .taken ≡ Tick t
+    pub release : y .release ≡ Tick t
     pub waits : y .waits ≡ waited n at (intervals es)
     pub started : y .started ≡ start n es
 
-  found-after : (k t : ℕ) (m : Bool) (es : List Event) (x : Tally) → eqb n k ≡ true → taking n es ≡ Never → Found t (x .at) es (tally x (Takes k t m ∷ es))
+  found-after : (k t : ℕ) (m : Bool) (es : List Event) (x : Tally) → eqb n k ≡ true → taking n es ≡ Never
+      → Found (original (x .held) t) (x .at) es (tally x (Takes k t m ∷ es))
   unfolding tally
   found-after k t m es x e h =
       let y : Tally = tally-by x (Takes k t m) in
       let i : Since y es (tally y es) = since es y h in
       record {
-        taken = i .taken ∙ ap (λ (b : Bool). cond b (Tick t) (x .taken)) e;
+        release = i .release ∙ ap (λ (b : Bool). cond b (Tick (original (x .held) t)) (x .release)) e;
         waits =
             i .waits
             ∙ ap (λ (b : Bool). cond (cond b false (x .executed)) (cond b (first-of (x .at)) (x .waits)) (cond b (first-of (x .at)) (x .waits) ++ until n (intervals es))) e
@@ -183,7 +211,7 @@ module _ (n : ℕ) where
   taken-now : (k t : ℕ) (m : Bool) (es : List Event) (x : Tally) → eqb n k ≡ true → taking n es ≡ Never → Split x (Takes k t m ∷ es) (tally x (Takes k t m ∷ es))
   unfolding after
   taken-now k t m es x e h =
-      let f : Found t (x .at) es (tally x (Takes k t m ∷ es)) = found-after k t m es x e h in
+      let f : Found (original (x .held) t) (x .at) es (tally x (Takes k t m ∷ es)) = found-after k t m es x e h in
       record {
         before = [];
         after = es;
@@ -191,7 +219,7 @@ module _ (n : ℕ) where
         marked = m;
         is = ap (λ (j : ℕ). Takes j t m ∷ es) (sym (eqb-true n k e));
         last = h;
-        taken = f .taken;
+        release = f .release;
         waits = f .waits;
         started = f .started;
       }
@@ -202,6 +230,7 @@ module _ (n : ℕ) where
   split-first (Starts k t) es x h = inl h
   split-first (Stops k t) es x h = inl h
   split-first (Finishes k) es x h = inl h
+  split-first (Defers k t) es x h = inl h
   split-first (GivesWay k) es x h = inl h
   split-first (Completes k t) es x h = inl h
   split-first (Ends t) es x h = inl h
@@ -220,25 +249,32 @@ module _ (n : ℕ) where
         marked = s .marked;
         is = ap (λ (l : List Event). e ∷ l) (s .is);
         last = s .last;
-        taken = s .taken;
+        release = s .release ∙ ap (λ (w : Due). Tick (original w (s .tick))) (sym (tally-held x e (s .before)));
         waits = s .waits ∙ ap (λ (p : Situation). waited n (situation p (s .before)) (intervals (s .after))) (tally-at x e);
         started = s .started;
       }))
       (split-of es (tally-by x e))
 
   -- where the walk has found a taking
-  pub last-job : (es : List Event) (r : ℕ) → tally nothing es .taken ≡ Tick r → Split nothing es (tally nothing es)
-  last-job es r h = ⊎-elim (λ z. never-tick r (sym h ∙ since es nothing z .taken)) (λ s. s) (split-of es nothing)
+  pub last-job : (es : List Event) (r : ℕ) → tally nothing es .release ≡ Tick r → Split nothing es (tally nothing es)
+  last-job es r h = ⊎-elim (λ z. never-tick r (sym h ∙ since es nothing z .release)) (λ s. s) (split-of es nothing)
 
   tally-situation : (es : List Event) (x : Tally) → tally x es .at ≡ situation (x .at) es
   unfolding tally after
   tally-situation [] x = refl
   tally-situation (e ∷ es) x = tally-situation es (tally-by x e) ∙ ap (λ (s : Situation). situation s es) (tally-at x e)
 
+  tally-waiting : (es : List Event) (x : Tally) → tally x es .held ≡ waiting n (x .held) es
+  unfolding tally after
+  tally-waiting [] x = refl
+  tally-waiting (e ∷ es) x = tally-waiting es (tally-by x e) ∙ sym (tally-held x e es)
+
   -- a history has one last taking, so that there is one entry that tells the truth of it
   pub found : (before after : List Event) (t : ℕ) (m : Bool) → taking n after ≡ Never
-      → Found t (situation NoneOpen before) after (tally nothing (before ++ (Takes n t m ∷ after)))
+      → Found (original (waiting n Never before) t) (situation NoneOpen before) after (tally nothing (before ++ (Takes n t m ∷ after)))
   found before after t m h =
-      subst (λ (s : Situation). Found t s after (tally nothing (before ++ (Takes n t m ∷ after)))) (tally-situation before nothing)
-      (subst (Found t (tally nothing before .at) after) (sym (tally-append before (Takes n t m ∷ after) nothing))
-      (found-after n t m after (tally nothing before) (same-task n) h))
+      let y : Tally = tally nothing (before ++ (Takes n t m ∷ after)) in
+      subst (λ (w : Due). Found (original w t) (situation NoneOpen before) after y) (tally-waiting before nothing)
+      (subst (λ (s : Situation). Found (original (tally nothing before .held) t) s after y) (tally-situation before nothing)
+      (subst (Found (original (tally nothing before .held) t) (tally nothing before .at) after) (sym (tally-append before (Takes n t m ∷ after) nothing))
+      (found-after n t m after (tally nothing before) (same-task n) h)))

@@ -1,18 +1,18 @@
 -- When the phases under way end: a property of their end times, for any property, that each step keeps if what starts has it. And an instant
--- at which nothing ends and nothing is released leaves them.
-use Rattle.guarantees.specs.Types.{_≡_, refl, sym, ap, _∙_, subst, Bool, true, false, ℕ, _+_, _^_, _<_, Table, MaybeTask, NoTask, Task, Processor, Idle, CopyingIn, Executing, Finished, CopyOut, NoCopyOut, CopyingOut, CopiedOut, CopyIn, Unchosen, NoneChosen, Copying, Loaded, Cancelled, Interval, Next, NoneNext, LoadedNext, PromotedNext, Outgoing, NoneOutgoing, AwaitsCopyOut, Phase, Between, Within, State, Stage}
+-- at which nothing ends and nothing is taken leaves them.
+use Rattle.guarantees.specs.Types.{_≡_, refl, sym, ap, _∙_, subst, Bool, true, false, ℕ, _+_, _^_, _<_, Table, Jobs, MaybeTask, NoTask, Task, Processor, Idle, CopyingIn, Executing, Finished, CopyOut, NoCopyOut, CopyingOut, CopiedOut, CopyIn, Unchosen, NoneChosen, Copying, Loaded, Cancelled, Interval, Next, NoneNext, LoadedNext, PromotedNext, Outgoing, NoneOutgoing, AwaitsCopyOut, Phase, Between, Within, State, NoJob, Stage}
 use native.Mathlib.Omega.{arith}
 use borrow.Author.Tests.{eqb-false}
 use lib.Dec.{eqb}
 use lib.ListN.{getD}
 use Rattle.table.specs.Table.{copyin-length, execution-length, copyout-length}
 use Rattle.sets.specs.Sets.{member, union, intersection, bit}
-use Rattle.sets.proofs.Laws.{united, difference-right, none, by-test, clash, intersection-left, difference-left, empty, union-small}
+use Rattle.sets.proofs.Laws.{united, none, by-test, clash, intersection-left, empty, union-small}
 use Rattle.guarantees.proofs.Highest.{Best}
-use Rattle.rules.specs.Instant.{step-a, step-b, step-c, step-d, step-e, step-g, close, over, with-candidates, cancel, choose, begin, begin-processor, begin-copyout, copying-out, wanted, taken, without-done, ended, copyin-at, copyout-at, processor-at, at-a, at-b, at-e, at-f, at-g, new-at, fresh-stage}
+use Rattle.rules.specs.Instant.{step-a, step-b, step-c, step-d, step-e, step-g, close, over, with-candidates, cancel, choose, begin, begin-processor, begin-copyout, copying-out, wanted, taken, deferred, completed, after-done, without-done, ended, copyin-at, copyout-at, processor-at, at-a, at-b, at-e, at-f, at-g, new-at, late-at, fresh-stage}
 use Rattle.rules.specs.With.{at-clock, later}
 use Rattle.rules.specs.Order.{highest-of, outranks}
-use Rattle.guarantees.proofs.Frames.{Frame, b-frame, c-frame, d-frame, table-b, table-e}
+use Rattle.guarantees.proofs.Frames.{Frame, b-frame, c-table, d-frame, table-b, table-e, pending-b}
 use Rattle.guarantees.proofs.Settled.{Decided, DecidedAt, OpenAt, RestAt}
 use Rattle.guarantees.proofs.Places.{Parted}
 use Rattle.guarantees.proofs.Steps.{Sub, best-of}
@@ -162,19 +162,20 @@ module _ (table : Table) (tasks : table .present < 2 ^ 32) (t : ℕ) (P : ℕ �
     -- the steps together
     pub instant-times : (d : State) (set : ℕ) → d .table ≡ table → Sub set (table .present) → Parted (table .present) tasks d (d .phase) → Times Later (d .phase)
         → Times P (at-g d t set .phase)
-    unfolding at-g at-f at-e at-b at-a new-at taken
+    unfolding at-g at-f at-e at-b at-a new-at late-at
     instant-times d set x f k h =
         let pr : ℕ = table .present in
         let d0 : State = at-clock d t in
         let a : Stage = at-a d t in
         let b : State = at-b d t .state in
         let new : ℕ = new-at d t set in
-        let c : State = step-c b t new in
+        let late : ℕ = late-at d t set in
+        let c : State = step-c b t new late in
         let y : State = step-d c new (c .phase) in
         let e : State = at-e d t set in
         let z : Stage = fresh-stage e in
         let ff : State = at-f d t set .state in
-        let k0 : Parted pr tasks d0 (d .phase) = record { few = k .few; marks = k .marks; pending = k .pending; ready = k .ready; known = k .known; parts = k .parts } in
+        let k0 : Parted pr tasks d0 (d .phase) = record { few = k .few; marks = k .marks; pending = k .pending; ready = k .ready; waits = k .waits; known = k .known; parts = k .parts } in
         let kb : Parted pr tasks b (b .phase) = Places.to-b pr tasks d t k .parted in
         let ky : Parted pr tasks y (y .phase) = to-y b set f kb in
         let ke : Parted pr tasks e (e .phase) = Places.to-e pr tasks d t set f kb .parted in
@@ -183,26 +184,25 @@ module _ (table : Table) (tasks : table .present < 2 ^ 32) (t : ℕ) (P : ℕ �
         let he : Times P (e .phase) = e-times y (to-table b set (table-b d t ∙ x)) (ky .ready) (d-times c new (to-c b set hb)) in
         g-times ff (held-at d t set) (ap (λ (y : Frame). y .table) (b-frame z t) ∙ table-e d t set ∙ x) kf (b-times z he)
       where
-        to-c : (b : State) (set : ℕ) → Times P (b .phase) → Times P (step-c b t (taken b set) .phase)
+        to-c : (b : State) (set : ℕ) → Times P (b .phase) → Times P (step-c b t (taken b set) (deferred b set) .phase)
         to-c b set h = unfold step-c in c-times b (taken b set) (b .phase) h
 
         to-y : (b : State) (set : ℕ) → Sub set (table .present) → Parted (table .present) tasks b (b .phase)
-            → let c : State = step-c b t (taken b set) in
+            → let c : State = step-c b t (taken b set) (deferred b set) in
             let y : State = step-d c (taken b set) (c .phase) in Parted (table .present) tasks y (y .phase)
         to-y b set g k =
             let new : ℕ = taken b set in
-            let c : State = step-c b t new in
-            Places.d-moves (table .present) tasks c new
-            (Places.c-moves (table .present) tasks b t new k (λ j l m. g j l (difference-left set (b .jobs .pending) j m)) (λ j m. difference-right set (b .jobs .pending) j m) .parted) .parted
+            let c : State = step-c b t new (deferred b set) in
+            Places.d-moves (table .present) tasks c new (Places.c-takes (table .present) tasks b t set g k .parted) .parted
 
         to-table : (b : State) (set : ℕ) → b .table ≡ table
-            → let c : State = step-c b t (taken b set) in
+            → let c : State = step-c b t (taken b set) (deferred b set) in
             let y : State = step-d c (taken b set) (c .phase) in y .table ≡ table
         to-table b set x =
-            let c : State = step-c b t (taken b set) in
-            ap (λ (y : Frame). y .table) (d-frame c (taken b set) ∙ c-frame b t (taken b set)) ∙ x
+            let c : State = step-c b t (taken b set) (deferred b set) in
+            ap (λ (y : Frame). y .table) (d-frame c (taken b set)) ∙ c-table b t (taken b set) (deferred b set) ∙ x
 
--- ---- an instant at which nothing ends and nothing is released
+-- ---- an instant at which nothing ends and nothing is taken
 
 abbrev pub processor-drop : ℕ → Processor → ℕ
 processor-drop t Idle = 0
@@ -251,6 +251,22 @@ still-copyin t (Copying n until) h = rw (no-drop (eqb until t) h)
 still-copyin t (Loaded n) h = refl
 still-copyin t (Cancelled n fate) h = refl
 
+-- no copy-out ends, so that no job completes
+still-done : (j : Jobs) (t : ℕ) (o : CopyOut) → copyout-drop t o ≡ 0 → completed j t o ≡ NoJob
+unfolding completed
+still-done j t NoCopyOut h = refl
+still-done j t (CopyingOut n start until) h = rw (no-drop (eqb until t) h)
+still-done j t (CopiedOut n) h = refl
+
+-- and what is pending stays so up to the releases
+pub still-pending : (d : State) (t : ℕ) → drop t (d .phase) ≡ 0 → at-b d t .state .jobs .pending ≡ d .jobs .pending
+unfolding at-a
+still-pending d t z = pending-b d t ∙ ap (after-done (d .jobs .pending)) (go (d .phase) z)
+  where
+    go : (p : Phase) → drop t p ≡ 0 → step-a (at-clock d t) t p .done ≡ NoJob
+    go (Between next outgoing) z = unfold step-a in refl
+    go (Within i) z = unfold step-a in still-done (d .jobs) t (i .copyout) (omega arith)
+
 module _ (P : ℕ → Type 0) (t : ℕ) where
   -- the times of a phase that is settled
   pub record Still (d : State) (p : Phase) : Type 0 where
@@ -284,15 +300,15 @@ module _ (P : ℕ → Type 0) (t : ℕ) where
   b-still s h =
       b-cases Stays-still s t (λ i e o. h) (λ next outgoing e. h) (λ i e o. clash (over i) o (subst OpenAt e (h .open-yet)))
 
-  c-still : (d : State) (new : ℕ) (p : Phase) → ((k : ℕ) → k < 32 → member k new ≡ false) → Still d p → Still (step-c d t new) (with-candidates d new p)
+  c-still : (d : State) (new late : ℕ) (p : Phase) → ((k : ℕ) → k < 32 → member k new ≡ false) → Still d p → Still (step-c d t new late) (with-candidates d new p)
   unfolding with-candidates step-c
-  c-still d new (Between next outgoing) n h = record {
+  c-still d new late (Between next outgoing) n h = record {
     times = tt;
     decided = tt;
     open-yet = tt;
     rests = (h .rests .0, h .rests .1, rw (h .rests .2) (empty (union 0 new) (union-small 0 new) (λ k l. rw (united 0 new k l, none k, n k l))));
   }
-  c-still d new (Within i) n h = record { times = h .times; decided = h .decided; open-yet = h .open-yet; rests = tt }
+  c-still d new late (Within i) n h = record { times = h .times; decided = h .decided; open-yet = h .open-yet; rests = tt }
 
   not-outranked : (d : State) (new c : ℕ) (q : MaybeTask) → ((k : ℕ) → k < 32 → member k new ≡ false) → Best (d .table .priority) (intersection new (d .marked)) q → outranks d c q ≡ false
   not-outranked d new c NoTask n b = refl
@@ -315,23 +331,22 @@ module _ (P : ℕ → Type 0) (t : ℕ) where
       unwanted : (next : Next) (outgoing : Outgoing) (ready : ℕ) → (next ≡ NoneNext) × (outgoing ≡ NoneOutgoing) × (ready ≡ 0) → wanted next outgoing ready ≡ false
       unwanted next outgoing ready h = rw (h .0, h .1, h .2)
 
-  pub instant-still : (d : State) (set : ℕ) → drop t (d .phase) ≡ 0 → ((k : ℕ) → k < 32 → member k set ≡ false) → Still d (d .phase) → Still (at-g d t set) (at-g d t set .phase)
-  unfolding at-g at-f at-e at-b at-a new-at taken
-  instant-still d set z n h =
+  pub instant-still : (d : State) (set : ℕ) → drop t (d .phase) ≡ 0 → ((k : ℕ) → k < 32 → member k (new-at d t set) ≡ false) → Still d (d .phase) → Still (at-g d t set) (at-g d t set .phase)
+  unfolding at-g at-f at-e at-b at-a
+  instant-still d set z m h =
       let a : Stage = at-a d t in
       let b : State = at-b d t .state in
       let new : ℕ = new-at d t set in
-      let c : State = step-c b t new in
+      let late : ℕ = late-at d t set in
+      let c : State = step-c b t new late in
       let y : State = step-d c new (c .phase) in
       let e : State = at-e d t set in
       let s : Stage = fresh-stage e in
       let f : State = at-f d t set .state in
-      let m : (k : ℕ) → k < 32 → member k new ≡ false =
-      λ k l. by-test (member k new) (λ x. clash (member k set) (difference-left set (b .jobs .pending) k x) (n k l)) (λ x. x) in
       let hb : Still b (b .phase) = b-still a (a-still (at-clock d t) (d .phase) refl z (record { times = h .times; decided = h .decided; open-yet = h .open-yet; rests = h .rests })) in
-      let hc : Still c (c .phase) = to-c b new m hb in
+      let hc : Still c (c .phase) = to-c b new late m hb in
       let he : Still e (e .phase) = e-still y (d-still c new m hc) in
       g-still f (held-at d t set) (b-still s he)
     where
-      to-c : (b : State) (new : ℕ) → ((k : ℕ) → k < 32 → member k new ≡ false) → Still b (b .phase) → Still (step-c b t new) (step-c b t new .phase)
-      to-c b new m h = unfold step-c in c-still b new (b .phase) m h
+      to-c : (b : State) (new late : ℕ) → ((k : ℕ) → k < 32 → member k new ≡ false) → Still b (b .phase) → Still (step-c b t new late) (step-c b t new late .phase)
+      to-c b new late m h = unfold step-c in c-still b new late (b .phase) m h

@@ -1,13 +1,14 @@
 -- The entry of a job done tells the truth: along the calls, the state knows of each task's last job what the walk of Tally finds.
-use Rattle.guarantees.specs.Types.{_≡_, refl, sym, ap, _∙_, subst, Bool, true, false, cond, false≢true, List, _∷_, _++_, append-assoc, _⊎_, inr, ⊎-elim, ℕ, _+_, _<_, Table, Jobs, CopyOut, NoCopyOut, CopyingOut, CopiedOut, Interval, Phase, Between, Within, State, NoJob, Job, Tick, Call, JobEntry, Occurred, Served, Refused}
+use Rattle.guarantees.specs.Types.{_≡_, refl, sym, ap, _∙_, subst, Bool, true, false, cond, false≢true, List, _∷_, _++_, append-assoc, inr, ⊎-elim, ℕ, _<_, Table, Jobs, CopyOut, NoCopyOut, CopyingOut, CopiedOut, Interval, Phase, Between, Within, State, NoJob, Job, Never, Tick, Call, JobEntry, Occurred, Served, Refused}
 use native.Mathlib.Omega.{arith}
 use lib.Dec.{eqb}
-use lib.ListN.{getD}
+use lib.ListN.{getD, replicate}
 use Rattle.sets.specs.Sets.{member}
-use Rattle.sets.proofs.Laws.{by-test, clash, none, difference-right, same-task, member-task}
+use Rattle.sets.proofs.Laws.{by-test, clash, none, same-task, member-task}
 use Rattle.rules.specs.With.{at-clock}
-use Rattle.rules.specs.Instant.{step-a, step-c, step-d, completed, job-entry, occurred, at-a, at-b, at-e, at-f, at-g, new-at, taken, fresh-stage}
-use Rattle.guarantees.specs.History.{Event, Comes, Takes, history, after-calls, happens, processor-events-in, finish-events-in, completion-events, end-events, take-events, giving-events-in, begin-events, start-events}
+use Rattle.rules.specs.Instant.{step-a, step-c, step-d, completed, job-entry, occurred, at-a, at-b, at-e, at-f, at-g, new-at, late-at, fresh-stage}
+use Rattle.guarantees.specs.History.{Event, Comes, history, after-calls, happens, processor-events-in, finish-events-in, completion-events, end-events, take-events, defer-events, giving-events-in, begin-events, start-events}
+use Rattle.guarantees.specs.Queries.{waiting, original}
 use Rattle.guarantees.specs.Entries.{lower-in, TellsJob}
 use Rattle.guarantees.specs.States.{copyout-known, phase-known}
 use Rattle.guarantees.proofs.Proper.{Fair}
@@ -17,6 +18,7 @@ use Rattle.guarantees.proofs.Invariant.{Good, good-opened, good-next, g
 use Rattle.rules.specs.Calls.{refusal, served, instant, opened}
 use Rattle.guarantees.proofs.Cases.{held-at}
 use Rattle.guarantees.proofs.Steps.{Sub}
+use Rattle.guarantees.proofs.Releases.{taken-not-pending}
 use Rattle.guarantees.proofs.Waiting.{runs}
 use Rattle.guarantees.proofs.Blocking.{Bounded, bounded-a, bounded-e, bounded-g, bounded-opened, bounded-quiet}
 use Rattle.guarantees.proofs.Places.{Parted, b-moves, to-b, to-e}
@@ -41,8 +43,9 @@ module _ (table : Table) (marks : ℕ) (fair : Fair table marks) (n : ℕ) (smal
     at = k .at;
     releases = k .releases;
     counts = k .counts;
-    awaits = λ w. let a : Awaiting (table .priority) n small x d = k .awaits w in record { taken = a .taken; unexecuted = a .unexecuted; count = a .count; unstarted = a .unstarted };
-    runs = λ s r. let a : Ran (table .priority) n small x s d = k .runs s r in record { taken = a .taken; executed = a .executed; count = a .count; started = a .started };
+    holds = k .holds;
+    awaits = λ w. let a : Awaiting (table .priority) n small x d = k .awaits w in record { release = a .release; unexecuted = a .unexecuted; count = a .count; unstarted = a .unstarted };
+    runs = λ s r. let a : Ran (table .priority) n small x s d = k .runs s r in record { release = a .release; executed = a .executed; count = a .count; started = a .started };
   }
 
   quiet-knows : (d : State) (m : ℕ) (x : Tally) → K x d → K x (with-marks d m)
@@ -51,8 +54,9 @@ module _ (table : Table) (marks : ℕ) (fair : Fair table marks) (n : ℕ) (smal
     at = k .at;
     releases = k .releases;
     counts = k .counts;
-    awaits = λ w. let a : Awaiting (table .priority) n small x d = k .awaits w in record { taken = a .taken; unexecuted = a .unexecuted; count = a .count; unstarted = a .unstarted };
-    runs = λ s r. let a : Ran (table .priority) n small x s d = k .runs s r in record { taken = a .taken; executed = a .executed; count = a .count; started = a .started };
+    holds = k .holds;
+    awaits = λ w. let a : Awaiting (table .priority) n small x d = k .awaits w in record { release = a .release; unexecuted = a .unexecuted; count = a .count; unstarted = a .unstarted };
+    runs = λ s r. let a : Ran (table .priority) n small x s d = k .runs s r in record { release = a .release; executed = a .executed; count = a .count; started = a .started };
   }
 
   module _ (d : State) (t set : ℕ) (x : Tally) (g : Good table marks fair d) (known : Sub set (table .present)) (bound : B d) (k : K x d) where
@@ -67,6 +71,13 @@ module _ (table : Table) (marks : ℕ) (fair : Fair table marks) (n : ℕ) (smal
 
     abbrev takes-c : List Event
     takes-c = take-events 32 (new-at d t set) (d .marked) t
+
+    abbrev defers-c : List Event
+    defers-c = defer-events 32 (late-at d t set) t
+
+    -- what the walk finds after step c
+    abbrev after-c : Tally
+    after-c = tally n (tally n (tally n (tally n x ended-a) ends-b) takes-c) defers-c
 
     abbrev gives-d : List Event
     gives-d = giving-events-in (at-b d t .state .phase) (at-e d t set .phase)
@@ -88,49 +99,50 @@ module _ (table : Table) (marks : ℕ) (fair : Fair table marks) (n : ℕ) (smal
     parted-b : Parted (table .present) (fair .present) (at-b d t .state) (at-b d t .state .phase)
     parted-b = to-b (table .present) (fair .present) d t (g .parted) .parted
 
-    pub knows-e : K (tally n (tally n (tally n x ended-a) ends-b) takes-c) (at-e d t set)
+    pub knows-e : K after-c (at-e d t set)
     unfolding at-e
     knows-e =
         let b : State = at-b d t .state in
         let new : ℕ = new-at d t set in
-        let c : State = step-c b t new in
-        let y : Tally = tally n (tally n (tally n x ended-a) ends-b) takes-c in
-        e-knows pr n small t (step-d c new (c .phase)) y
-        (d-knows pr n small new c y
-        (c-knows pr n small (table .present) (fair .present) b t new (d .marked) (tally n (tally n x ended-a) ends-b) parted-b
-        (λ j m. unfold new-at taken in difference-right set (b .jobs .pending) j m) knows-b))
+        let late : ℕ = late-at d t set in
+        let c : State = step-c b t new late in
+        e-knows pr n small t (step-d c new (c .phase)) after-c
+        (d-knows pr n small new c after-c
+        (c-knows pr n small (table .present) (fair .present) b t new late (d .marked) (tally n (tally n x ended-a) ends-b) parted-b
+        (λ j m. unfold new-at in taken-not-pending b set j m) knows-b))
 
     pub parted-e : Parted (table .present) (fair .present) (at-e d t set) (at-e d t set .phase)
     parted-e = to-e (table .present) (fair .present) d t set known parted-b .parted
 
-    knows-f : K (tally n (tally n (tally n (tally n x ended-a) ends-b) takes-c) ends-f) (at-f d t set .state)
+    knows-f : K (tally n after-c ends-f) (at-f d t set .state)
     unfolding at-f
     knows-f =
-        b-knows pr n small (fresh-stage (at-e d t set)) t (at-e d t set .phase) (tally n (tally n (tally n x ended-a) ends-b) takes-c) refl (bounded-e pr n small d t set bound) knows-e
+        b-knows pr n small (fresh-stage (at-e d t set)) t (at-e d t set .phase) after-c refl (bounded-e pr n small d t set bound) knows-e
 
     parted-f : Parted (table .present) (fair .present) (at-f d t set .state) (at-f d t set .state .phase)
     unfolding at-f
     parted-f = b-moves (table .present) (fair .present) (fresh-stage (at-e d t set)) t (at-e d t set .phase) refl parted-e .parted
 
-    knows-g : K (tally n (tally n (tally n (tally n (tally n x ended-a) ends-b) takes-c) ends-f) begins-g) (at-g d t set)
+    knows-g : K (tally n (tally n after-c ends-f) begins-g) (at-g d t set)
     unfolding at-g
     knows-g =
         g-knows pr n small (table .present) (fair .present) (at-f d t set .state) t (held-at d t set) (at-f d t set .state .phase)
-        (tally n (tally n (tally n (tally n x ended-a) ends-b) takes-c) ends-f) refl parted-f knows-f
+        (tally n after-c ends-f) refl parted-f knows-f
 
-    walked : tally n x (happens d t set) ≡ tally n (tally n (tally n (tally n (tally n x ended-a) ends-b) takes-c) ends-f) begins-g
+    walked : tally n x (happens d t set) ≡ tally n (tally n after-c ends-f) begins-g
     walked =
-        let rest : List Event = ends-b ++ (takes-c ++ (gives-d ++ (ends-f ++ begins-g))) in
-        let y : Tally = tally n (tally n (tally n x ended-a) ends-b) takes-c in
-        let parts : happens d t set ≡ Comes t ∷ (ended-a ++ (ends-b ++ (takes-c ++ (gives-d ++ (ends-f ++ begins-g))))) = unfold happens in simp append-assoc in
+        let tail : List Event = gives-d ++ (ends-f ++ begins-g) in
+        let rest : List Event = ends-b ++ (takes-c ++ (defers-c ++ tail)) in
+        let parts : happens d t set ≡ Comes t ∷ (ended-a ++ (ends-b ++ (takes-c ++ (defers-c ++ (gives-d ++ (ends-f ++ begins-g)))))) = unfold happens in simp append-assoc in
         ap (tally n x) parts
         ∙ first-comes (ended-a ++ rest)
         ∙ tally-append n ended-a rest x
-        ∙ tally-append n ends-b (takes-c ++ (gives-d ++ (ends-f ++ begins-g))) (tally n x ended-a)
-        ∙ tally-append n takes-c (gives-d ++ (ends-f ++ begins-g)) (tally n (tally n x ended-a) ends-b)
-        ∙ tally-append n gives-d (ends-f ++ begins-g) y
-        ∙ ap (λ (z : Tally). tally n z (ends-f ++ begins-g)) (gives-tally n (at-b d t .state .phase) (at-e d t set .phase) y)
-        ∙ tally-append n ends-f begins-g y
+        ∙ tally-append n ends-b (takes-c ++ (defers-c ++ tail)) (tally n x ended-a)
+        ∙ tally-append n takes-c (defers-c ++ tail) (tally n (tally n x ended-a) ends-b)
+        ∙ tally-append n defers-c tail (tally n (tally n (tally n x ended-a) ends-b) takes-c)
+        ∙ tally-append n gives-d (ends-f ++ begins-g) after-c
+        ∙ ap (λ (z : Tally). tally n z (ends-f ++ begins-g)) (gives-tally n (at-b d t .state .phase) (at-e d t set .phase) after-c)
+        ∙ tally-append n ends-f begins-g after-c
       where
         first-comes : (es : List Event) → tally n x (Comes t ∷ es) ≡ tally n x es
         first-comes es = unfold tally in refl
@@ -145,6 +157,7 @@ module _ (table : Table) (marks : ℕ) (fair : Fair table marks) (n : ℕ) (smal
     at = refl;
     releases = small;
     counts = small;
+    holds = record { times = small; is = ap (λ (b : Bool). cond b (Tick (getD (replicate 32 0) n 0)) Never) (sym (none n)) };
     awaits = λ w. ⊎-elim (λ m. clash (member n 0) m (none n)) (λ e. absurd (false≢true e)) w;
     runs = λ s r. absurd r;
   }
@@ -165,6 +178,9 @@ module _ (table : Table) (marks : ℕ) (fair : Fair table marks) (n : ℕ) (smal
 
 different {ℓ} : {A : Type ℓ} (e : JobEntry) → NoJob ≡ Job e → A
 different e h = absurd (let z : _≡_ {A = ℕ} 0 1 = cc in omega arith)
+
+tick-is : (a b : ℕ) → Tick a ≡ Tick b → a ≡ b
+tick-is a b h = cc
 
 -- the copy-out that ends now
 completed-is : (j : Jobs) (t : ℕ) (o : CopyOut) (e : JobEntry) → completed j t o ≡ Job e
@@ -219,15 +235,17 @@ module _ (table : Table) (marks : ℕ) (fair : Fair table marks) where
           let a : Ran (table .priority) m small x (Tick start) d =
           knows-after table marks fair m small cs .runs (Tick start)
           (subst (RunsAt (table .priority) m small (Tick start)) (sym e) (inr (subst (InCopyOut (table .priority) m small (Tick start)) (sym f) (same-task m, refl)))) in
-          let s : Split m nothing h x = last-job m h (getD (d .jobs .release) m 0) (a .taken) in
-          let same : Tick (s .tick) ≡ Tick (getD (d .jobs .release) m 0) = sym (s .taken) ∙ a .taken in
-          let r : s .tick ≡ getD (d .jobs .release) m 0 = cc in
+          let s : Split m nothing h x = last-job m h (getD (d .jobs .release) m 0) (a .release) in
+          let r : ℕ = original (waiting m Never (s .before)) (s .tick) in
+          let same : Tick (getD (d .jobs .release) m 0) ≡ Tick r = sym (a .release) ∙ s .release in
           record {
             before = s .before;
             after = s .after;
+            taken = s .tick;
             marked = s .marked;
-            release = s .is ∙ ap (λ (j : ℕ). s .before ++ (Takes m j (s .marked) ∷ s .after)) r;
+            taking-is = s .is;
             last-taken = s .last;
+            release = tick-is (getD (d .jobs .release) m 0) r same;
             execution-start = sym (s .started) ∙ a .started;
             completion = refl;
             blocked = a .count ∙ ap (lower-in (table .priority) m) (s .waits);

@@ -2,10 +2,10 @@
 use Rattle.guarantees.specs.Types.{_≡_, refl, ap, _∙_, Bool, true, false, cond, List, [], _∷_, _++_, ℕ, zero, suc, _+_, _*_, MaybeTask, State}
 use native.Mathlib.Omega.{arith}
 use Rattle.sets.specs.Sets.{member, count, size}
-use Rattle.rules.specs.Instant.{at-a, at-b, at-e, at-f, at-g, new-at}
-use Rattle.guarantees.specs.History.{Event, Comes, Starts, Stops, Finishes, Completes, Ends, Takes, GivesWay, Begins, happens, processor-events-in, finish-events-in, completion-events, end-events, take-events, begin-events, start-events}
+use Rattle.rules.specs.Instant.{at-a, at-b, at-e, at-f, at-g, new-at, late-at}
+use Rattle.guarantees.specs.History.{Event, Comes, Starts, Stops, Finishes, Completes, Ends, Takes, Defers, GivesWay, Begins, happens, processor-events-in, finish-events-in, completion-events, end-events, take-events, begin-events, giving-events-in, start-events}
 use Rattle.guarantees.specs.Queries.{total, is-take, is-begin, is-completion}
-use Rattle.guarantees.proofs.Events.{by-processor, by-finishes, by-gives, by-ends, by-takes, by-begins, by-starts, by-front, tail-of, front-of, happens-parts, front-parts, tail-parts}
+use Rattle.guarantees.proofs.Events.{by-processor, by-finishes, by-gives, by-ends, by-takes, by-defers, by-begins, by-starts, by-front, tail-of, front-of, happens-parts, front-parts, tail-parts}
 
 module _ (f : Event → ℕ) where
   abbrev As : List Event → List Event → Type 0
@@ -36,6 +36,9 @@ module _ (d : State) (t set : ℕ) (h : List Event) where
   abbrev new : ℕ
   new = new-at d t set
 
+  abbrev given : List Event
+  given = giving-events-in (at-b d t .state .phase) (at-e d t set .phase)
+
   abbrev closed : List Event
   closed = end-events t (at-e d t set .phase) (at-f d t set .state .phase)
 
@@ -52,15 +55,16 @@ module _ (d : State) (t set : ℕ) (h : List Event) where
       by-front (As f ys) (λ u. skip f ys (Comes u) (a u)) (λ n u. skip f ys (Starts n u) (x n u)) (λ n u. skip f ys (Stops n u) (y n u)) (λ n. skip f ys (Finishes n) (b n))
       (λ n u. skip f ys (Completes n u) (c n u)) (λ u. skip f ys (Ends u) (e u)) d t ys refl
 
-  -- and after them a copy-in gives way and an interval ends or begins, and nothing else occurs
-  after-releases : (f : Event → ℕ) → ((n : ℕ) → f (GivesWay n) ≡ 0) → ((u : ℕ) → f (Ends u) ≡ 0) → ((u : ℕ) (r l : MaybeTask) → f (Begins u r l) ≡ 0) → ((n u : ℕ) → f (Starts n u) ≡ 0)
+  -- and after those that are taken some wait, a copy-in gives way and an interval ends or begins, and nothing else occurs
+  after-releases : (f : Event → ℕ) → ((n u : ℕ) → f (Defers n u) ≡ 0) → ((n : ℕ) → f (GivesWay n) ≡ 0) → ((u : ℕ) → f (Ends u) ≡ 0) → ((u : ℕ) (r l : MaybeTask) → f (Begins u r l) ≡ 0) → ((n u : ℕ) → f (Starts n u) ≡ 0)
       → total f (tail-of d t set ++ h) ≡ total f h
-  after-releases f w a b c =
+  after-releases f v w a b c =
       ap (total f) (tail-parts d t set h)
-      ∙ by-gives (As f h) (λ n. skip f h (GivesWay n) (w n)) (at-b d t .state .phase) (at-e d t set .phase) (closed ++ (begun ++ (started ++ h)))
+      ∙ by-defers (As f h) 32 (late-at d t set) t (λ n l m. skip f h (Defers n t) (v n t)) (given ++ (closed ++ (begun ++ (started ++ h))))
+      (by-gives (As f h) (λ n. skip f h (GivesWay n) (w n)) (at-b d t .state .phase) (at-e d t set .phase) (closed ++ (begun ++ (started ++ h)))
       (by-ends (As f h) t (skip f h (Ends t) (a t)) (at-e d t set .phase) (at-f d t set .state .phase) (begun ++ (started ++ h))
       (by-begins (As f h) t (λ r l. skip f h (Begins t r l) (b t r l)) (at-f d t set .state .phase) (at-g d t set .phase) (started ++ h)
-      (by-starts (As f h) t (λ n. skip f h (Starts n t) (c n t)) (at-f d t set .state .phase) (at-g d t set .phase) h refl)))
+      (by-starts (As f h) t (λ n. skip f h (Starts n t) (c n t)) (at-f d t set .state .phase) (at-g d t set .phase) h refl))))
 
   pub begins-of : total is-begin (happens d t set ++ h) ≡ total is-begin (begin-events t (at-f d t set .state .phase) (at-g d t set .phase)) + total is-begin h
   begins-of =
@@ -69,6 +73,7 @@ module _ (d : State) (t set : ℕ) (h : List Event) where
       ∙ before-releases is-begin (λ u. refl) (λ n u. refl) (λ n u. refl) (λ n. refl) (λ n u. refl) (λ u. refl) (take-events 32 new (d .marked) t ++ ys)
       ∙ by-takes (As is-begin ys) 32 new (d .marked) t (λ n l m. skip is-begin ys (Takes n t (member n (d .marked))) refl) ys refl
       ∙ ap (total is-begin) (tail-parts d t set h)
+      ∙ by-defers (As is-begin (given ++ (closed ++ (begun ++ (started ++ h))))) 32 (late-at d t set) t (λ n l m. skip is-begin (given ++ (closed ++ (begun ++ (started ++ h)))) (Defers n t) refl) (given ++ (closed ++ (begun ++ (started ++ h)))) refl
       ∙ by-gives (As is-begin (closed ++ (begun ++ (started ++ h)))) (λ n. skip is-begin (closed ++ (begun ++ (started ++ h))) (GivesWay n) refl) (at-b d t .state .phase) (at-e d t set .phase) (closed ++ (begun ++ (started ++ h))) refl
       ∙ by-ends (As is-begin (begun ++ (started ++ h))) t (skip is-begin (begun ++ (started ++ h)) (Ends t) refl) (at-e d t set .phase) (at-f d t set .state .phase) (begun ++ (started ++ h)) refl
       ∙ omega (
@@ -87,7 +92,7 @@ module _ (d : State) (t set : ℕ) (h : List Event) where
         arith,
         total-append is-take (take-events 32 new (d .marked) t) ys,
         takes-total is-take 1 (λ n t m. refl) 32 new (d .marked) t,
-        after-releases is-take (λ n. refl) (λ u. refl) (λ u r l. refl) (λ n u. refl),
+        after-releases is-take (λ n u. refl) (λ n. refl) (λ u. refl) (λ u r l. refl) (λ n u. refl),
       )
 
   pub completes-of : total is-completion (happens d t set ++ h) ≡ total is-completion (completion-events (at-a d t .done)) + total is-completion h
@@ -106,5 +111,5 @@ module _ (d : State) (t set : ℕ) (h : List Event) where
         total-append is-completion c (e ++ rest),
         by-ends (As is-completion rest) t (skip is-completion rest (Ends t) refl) (at-a d t .state .phase) (at-b d t .state .phase) rest refl,
         by-takes (As is-completion ys) 32 new (d .marked) t (λ n l m. skip is-completion ys (Takes n t (member n (d .marked))) refl) ys refl,
-        after-releases is-completion (λ n. refl) (λ u. refl) (λ u r l. refl) (λ n u. refl),
+        after-releases is-completion (λ n u. refl) (λ n. refl) (λ u. refl) (λ u r l. refl) (λ n u. refl),
       )

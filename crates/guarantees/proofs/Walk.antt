@@ -1,9 +1,9 @@
 -- Walks along the calls: each call is an instant that is served, or leaves all but the marks as it is; and what holds through both holds
--- through a list of them. A new call that leaves table, clock, jobs and phase as they are needs a line in `each-call` alone.
+-- through a list of them. A new call that leaves table, clock, jobs, waiting releases and phase as they are needs a line in `each-call` alone.
 use Rattle.guarantees.specs.Types.{_≡_, refl, sym, ap, _∙_, subst, append-assoc, Bool, true, false, cond, not, false≢true, _⊎_, inl, inr, ⊎-elim, List, [], _∷_, _++_, ℕ, State, Call, Instant, Mark, Served, Refused, Occurred}
 use borrow.Author.Tests.{eqb-true}
 use lib.Dec.{eqb, ltb}
-use Rattle.sets.specs.Sets.{member, insert, remove}
+use Rattle.sets.specs.Sets.{member, union, insert, remove}
 use Rattle.sets.proofs.Laws.{by-test, insert-out, remove-out}
 use Rattle.rules.specs.Instant.{at-g, occurred}
 use Rattle.rules.specs.Calls.{refusal, instant as instant-step, served as served-step, mark-refusal, with-mark, mark as mark-step, after-call}
@@ -36,13 +36,13 @@ module _ (d : State) (t set : ℕ) where
 
 -- the state with other marks
 abbrev pub with-marks : State → ℕ → State
-with-marks d marks = record { table = d .table; marked = marks; clock = d .clock; half = d .half; jobs = d .jobs; phase = d .phase }
+with-marks d marks = record { table = d .table; marked = marks; clock = d .clock; half = d .half; jobs = d .jobs; waiting = d .waiting; phase = d .phase }
 
 -- the marks are of tasks of the table, if those before were
 abbrev pub MarksKnown : State → ℕ → Type 0
 MarksKnown d marks = Sub (d .marked) (d .table .present) → Sub marks (d .table .present)
 
--- a call by which nothing occurs, and that leaves table, clock, jobs and phase as they are
+-- a call by which nothing occurs, and that leaves table, clock, jobs, waiting releases and phase as they are
 pub record Quiet (d : State) (c : Call) : Type 0 where
   pub marks : ℕ
   pub known : MarksKnown d marks
@@ -73,7 +73,7 @@ module _ (d : State) (n m : ℕ) where
   -- a mark call that is served names a task of the table
   mark-known : eqb (mark-refusal d n m) 0 ≡ true → member n (d .table .present) ≡ true
   unfolding mark-refusal
-  mark-known = go (member n (d .table .present)) (ltb 1 m) (member n (d .jobs .pending))
+  mark-known = go (member n (d .table .present)) (ltb 1 m) (member n (union (d .jobs .pending) (d .waiting .tasks)))
     where
       go : (a b c : Bool) → eqb (cond (not a) 16 (cond b 6 (cond c 17 0))) 0 ≡ true → a ≡ true
       go true b c h = refl

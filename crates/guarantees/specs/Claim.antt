@@ -3,14 +3,15 @@
 use Rattle.guarantees.specs.Types.{_≡_, Bool, true, false, cond, List, _∷_, _++_, _⊎_, ℕ, _+_, _*_, _≤_, _<_, Table, MaybeTask, NoTask, Task, State, Due, Never, Tick, NoRefusal, Call}
 use lib.Dec.{leb}
 use lib.ListN.{getD, length}
+use Rattle.sets.specs.Sets.{size}
 use Rattle.table.specs.Table.{copyin-length, execution-length, copyout-length}
 use Rattle.table.specs.Refusals.{refusal-number, refusal-place}
 use Rattle.rules.specs.Calls.{opening}
 use Rattle.dispatcher.specs.declared.Opening.{Opening}
 use Rattle.dispatcher.specs.Dispatcher.{state-of, opening-of}
-use Rattle.guarantees.specs.History.{Event, Starts, Stops, Completes, Ends, Takes, Begins, history, after-calls, EmptySets}
+use Rattle.guarantees.specs.History.{Event, Starts, Stops, Completes, Ends, Takes, Defers, Begins, history, after-calls, EmptySets}
 use Rattle.guarantees.specs.Entries.{EntriesTell}
-use Rattle.guarantees.specs.Queries.{is-task, Situation, NoneOpen, situation, Latest, none-yet, latest, loaded, last-mark, Execution, not-yet, execution, intervals, met, end-tick, begin-tick, copied-out, start, stop, completion, last-instant, is-take, is-begin, is-completion, total}
+use Rattle.guarantees.specs.Queries.{is-task, Situation, NoneOpen, situation, Latest, none-yet, latest, loaded, last-mark, Execution, not-yet, execution, intervals, met, end-tick, begin-tick, copied-out, taking, deferring, start, stop, completion, last-instant, is-take, is-begin, is-completion, total}
 
 -- ---- The order
 
@@ -64,7 +65,8 @@ pub record CopiedOut (U n t : ℕ) (after : List Event) : Type 0 where
 
 -- for the tasks of a table
 pub record Holds (table : Table) (history : List Event) : Type 0 where
-  -- "this holds of each job taken, whatever is released when"; "A job is marked if its task was at the release."
+  -- "this holds of each job taken, whatever is released when"; "A job is marked if its task was at the release." 4/13: a job is counted from its
+  -- taking, which belongs to an interval as a release of that instant does; its mark cannot have changed since its release.
   pub each-job : (before after : List Event) (n t : ℕ) (marked : Bool) → history ≡ before ++ (Takes n t marked ∷ after) →
       let at : Situation = situation NoneOpen before in InOrder (table .priority) n marked (met n at (intervals after))
   -- "If no interval is open and some job is loaded, promoted, ready or waiting for copy-out, an interval begins": a job that is taken while
@@ -97,14 +99,34 @@ pub record Holds (table : Table) (history : List Event) : Type 0 where
   -- and nothing else completes a job: the open interval copies it out, and has begun U ticks before
   pub each-completion : (before after : List Event) (n c : ℕ) → history ≡ before ++ (Completes n c ∷ after) →
       let x : Latest = latest none-yet before in (b : ℕ) × (x .begun ≡ Tick b) × (x .out ≡ Task n) × (c ≡ b + copyout-length (table .columns) n)
-  -- "Where N jobs were taken, at most 3 × N intervals have begun"; "N is the number of releases taken in the list"
+  -- "Where N jobs were taken, at most 3 × N intervals have begun"; "N is the number of releases taken in the list", at once or after waiting
   pub at-most-three : total is-begin history ≤ 3 * total is-take history
 
--- "complete every job": each has its completion after its release
+-- a job of task n that was taken, and what occurs from then on: it executes and completes
+pub record Completed (n : ℕ) (after : List Event) : Type 0 where
+  pub started : ℕ
+  pub starts : start n after ≡ Tick started
+  pub done : ℕ
+  pub completes : completion n after ≡ Tick done
+
+-- a release of task n that was set waiting, and what occurs from then on: it is the next of its task to be taken, none waits beside it until then, and
+-- its job executes and completes
+pub record TakenLater (n : ℕ) (after : List Event) : Type 0 where
+  pub between : List Event
+  pub later : List Event
+  pub tick : ℕ
+  pub marked : Bool
+  pub is-taken : after ≡ between ++ (Takes n tick marked ∷ later)
+  pub next-taken : taking n between ≡ Never
+  pub alone : deferring n between ≡ Never
+  pub completed : Completed n later
+
+-- "complete every job": each has its execution and its completion after its taking
 pub record AllCompleted (history : List Event) : Type 0 where
-  pub each : (before after : List Event) (n t : ℕ) (marked : Bool) → history ≡ before ++ (Takes n t marked ∷ after) →
-      (u : ℕ) × (completion n after ≡ Tick u)
+  pub each : (before after : List Event) (n t : ℕ) (marked : Bool) → history ≡ before ++ (Takes n t marked ∷ after) → Completed n after
   pub as-many : total is-completion history ≡ total is-take history
+  -- 4/13: "every waiting release is executed once empty sets at the due times leave none due"
+  pub each-deferred : (before after : List Event) (n t : ℕ) → history ≡ before ++ (Defers n t ∷ after) → TakenLater n after
 
 -- ---- The claim
 
@@ -120,9 +142,11 @@ pub record Claim (d : State) (calls : List Call) : Type 0 where
   -- "Once empty sets have been handed in at each due time until none is left, nothing is pending."
   pub nothing-pending : (rest : List Call) → EmptySets (after-calls d calls) rest → after-calls d (calls ++ rest) .jobs .pending ≡ 0
   pub complete-every-job : (rest : List Call) → EmptySets (after-calls d calls) rest → AllCompleted (history d (calls ++ rest))
-  -- where N is that of the list: none is taken in them
-  pub none-more-taken : (rest : List Call) → EmptySets (after-calls d calls) rest
-      → total is-take (history d (calls ++ rest)) ≡ total is-take (history d calls)
+  -- 4/13: and nothing waits
+  pub nothing-waits : (rest : List Call) → EmptySets (after-calls d calls) rest → after-calls d (calls ++ rest) .waiting .tasks ≡ 0
+  -- so that N of the list with them is that of the list and one for each release that waits at its end
+  pub waiting-taken : (rest : List Call) → EmptySets (after-calls d calls) rest
+      → total is-take (history d (calls ++ rest)) ≡ total is-take (history d calls) + size (after-calls d calls .waiting .tasks)
 
 -- "Demand 3 is a single claim about a whole list of instants and mark calls, and not one for each call. The list starts from the state
 -- that opening returned, for any table it serves."

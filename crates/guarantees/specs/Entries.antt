@@ -1,11 +1,12 @@
 -- That the entries tell the truth: of each job done (kind 16) and of each interval closed (kind 17) that the calls answer with, what it says is
 -- what the history has of it. What stands between quotation marks is document 01; below each quotation stands what it says of a history.
 use Rattle.guarantees.specs.Types.{_≡_, Bool, false, cond, List, [], _∷_, _++_, ℕ, _+_, MaybeTask, NoTask, Task, State, Due, Never, Tick, Call, Instant, Mark, Answer, Refused, Served, Occurred, Done, NoJob, Job, Closing, Unclosed, BeforeReleases, AfterReleases, JobEntry, IntervalEntry}
-use lib.Dec.{ltb}
+use lib.Dec.{eqb, ltb}
 use lib.ListN.{getD}
-use Rattle.rules.specs.Calls.{instant, after-call}
+use Rattle.sets.specs.Sets.{size}
+use Rattle.rules.specs.Calls.{refusal, instant, after-call}
 use Rattle.guarantees.specs.History.{Event, Takes, history, after-calls}
-use Rattle.guarantees.specs.Queries.{details, completes, ends, each, NoneOpen, situation, Latest, none-yet, latest-by, intervals, taking, start, waited}
+use Rattle.guarantees.specs.Queries.{details, completes, ends, total, is-take, each, NoneOpen, situation, Latest, none-yet, latest-by, waiting, original, intervals, taking, start, waited}
 
 -- ---- What calls answer
 
@@ -22,6 +23,19 @@ unfoldable pub answers : State → List Call → List Occurred
 answers d [] = []
 answers d (c ∷ cs) = answer-of d c ++ answers (after-call d c) cs
 
+-- ---- The releases
+
+-- of the calls, how many releases the served instants hand in
+unfoldable pub handed-in : State → List Call → ℕ
+handed-in d [] = 0
+handed-in d (Instant t set ∷ cs) = cond (eqb (refusal d t set) 0) (size set) 0 + handed-in (after-call d (Instant t set)) cs
+handed-in d (Mark n m ∷ cs) = handed-in (after-call d (Mark n m)) cs
+
+-- and of what they answer, how many are skipped
+unfoldable pub skips : List Occurred → ℕ
+skips [] = 0
+skips (o ∷ os) = size (o .skipped) + skips os
+
 -- ---- A job done
 
 module _ (priority : List ℕ) (n : ℕ) where
@@ -37,18 +51,21 @@ module _ (priority : List ℕ) (n : ℕ) where
 
 -- an entry of the instant at t, by what has occurred before it: "task (1), release, execution start, completion (8 each), blocked intervals (1)"
 pub record TellsJob (priority : List ℕ) (history : List Event) (t : ℕ) (e : JobEntry) : Type 0 where
-  -- the job is the last that was taken of its task, "one release that was taken", and its release is the tick of that;
+  -- the job is the last that was taken of its task, "one release that was taken";
   pub before : List Event
   pub after : List Event
+  pub taken : ℕ
   pub marked : Bool
-  pub release : history ≡ before ++ (Takes (e .task) (e .release) marked ∷ after)
+  pub taking-is : history ≡ before ++ (Takes (e .task) taken marked ∷ after)
   pub last-taken : taking (e .task) after ≡ Never
+  -- 4/13: "The job entry shows the original time": the tick of the release that waited, else that of the taking;
+  pub release : e .release ≡ original (waiting (e .task) Never before) taken
   -- its execution start is the tick on which it started to execute;
   pub execution-start : start (e .task) after ≡ Tick (e .start)
   -- its completion is this instant, since "a copy-out's end completes its job";
   pub completion : e .completion ≡ t
   -- "A job is blocked in an interval if that interval holds its release or comes later, comes before the one that executes it, and the
-  -- processor executes a lower-priority job in it."
+  -- processor executes a lower-priority job in it." 4/13: "intervals and blocking are counted from the taking."
   pub blocked : e .blocked ≡ lower-in priority (e .task) (waited (e .task) (situation NoneOpen before) (intervals after))
 
 -- a job that completes: its task and the tick
@@ -104,5 +121,7 @@ pub record EntriesTell (d : State) (calls : List Call) : Type 0 where
       → instant (after-calls d before) t set .answer ≡ Served o → o .done ≡ Job e → TellsJob (d .table .priority) (history d before) t e
   -- "The record has kind 16 at step a": one entry for each job that completes, in their order
   pub each-done : done (answers d calls) ≡ completions (history d calls)
+  -- 4/13: each release that is handed in is taken, at once or after waiting, or waits still, or is skipped
+  pub each-release : handed-in d calls ≡ total is-take (history d calls) + size (after-calls d calls .waiting .tasks) + skips (answers d calls)
   -- "kind 17 at the interval's end": one for each interval that ended, in their order
   pub each-interval : closed (answers d calls) ≡ ended none-yet (history d calls)

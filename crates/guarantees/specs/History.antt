@@ -3,7 +3,7 @@
 use Rattle.guarantees.specs.Types.{_≡_, Bool, cond, List, [], _∷_, _++_, ℕ, zero, suc, MaybeTask, NoTask, Task, Processor, Idle, CopyingIn, Executing, Finished, CopyIn, Unchosen, NoneChosen, Copying, Loaded, Cancelled, Phase, Between, Within, State, Done, NoJob, Job, Call, Instant, Mark, Never, Tick}
 use lib.Dec.{eqb}
 use Rattle.sets.specs.Sets.{member}
-use Rattle.rules.specs.Instant.{at-a, at-b, at-e, at-f, at-g, new-at, due, processor-task, copyout-task}
+use Rattle.rules.specs.Instant.{at-a, at-b, at-e, at-f, at-g, new-at, late-at, due, processor-task, copyout-task}
 use Rattle.rules.specs.Calls.{refusal, after-call}
 
 pub data Event : Type 0 where
@@ -14,6 +14,7 @@ pub data Event : Type 0 where
   Completes : ℕ → ℕ → Event  -- a: a task's job is copied out, at a time
   Ends : ℕ → Event  -- b, f: the open interval ends, at a time
   Takes : ℕ → ℕ → Bool → Event  -- c: a task's release is taken, at a time, the task then marked or not
+  Defers : ℕ → ℕ → Event  -- c: a task's release waits from now on, at a time
   GivesWay : ℕ → Event  -- d: the engine's copy-in of a task's job, under way or finished, gives way to a marked release
   Begins : ℕ → MaybeTask → MaybeTask → Event  -- g: an interval begins, at a time: the task that it executes, and the one that it copies out
 
@@ -57,6 +58,11 @@ end-events t (Within i) (Within j) = []
 unfoldable pub take-events : ℕ → ℕ → ℕ → ℕ → List Event
 take-events zero new marked t = []
 take-events (suc k) new marked t = take-events k new marked t ++ cond (member k new) (Takes k t (member k marked) ∷ []) []
+
+-- and the releases of tasks below a number that wait from now on
+unfoldable pub defer-events : ℕ → ℕ → ℕ → List Event
+defer-events zero late t = []
+defer-events (suc k) late t = defer-events k late t ++ cond (member k late) (Defers k t ∷ []) []
 
 -- d. a copy-in that had not given way before the step and has after it
 abbrev pub given-way : CopyIn → MaybeTask
@@ -103,10 +109,11 @@ happens d t set =
     ++ (completion-events (at-a d t .done)
     ++ (end-events t (at-a d t .state .phase) (at-b d t .state .phase)
     ++ (take-events 32 (new-at d t set) (d .marked) t
+    ++ (defer-events 32 (late-at d t set) t
     ++ (giving-events-in (at-b d t .state .phase) (at-e d t set .phase)
     ++ (end-events t (at-e d t set .phase) (at-f d t set .state .phase)
     ++ (begin-events t (at-f d t set .state .phase) (at-g d t set .phase)
-    ++ start-events t (at-f d t set .state .phase) (at-g d t set .phase)))))))))
+    ++ start-events t (at-f d t set .state .phase) (at-g d t set .phase))))))))))
 
 -- ---- A list of calls
 

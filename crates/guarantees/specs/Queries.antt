@@ -2,7 +2,7 @@
 -- job starts to execute, stops and completes, and how many events of a kind there are. Each is a walk along the events, and names only the kinds of events that it asks for.
 use Rattle.guarantees.specs.Types.{Bool, false, cond, _&&_, _||_, List, [], _∷_, _++_, ℕ, _+_, MaybeTask, NoTask, Task, Due, Never, Tick}
 use lib.Dec.{eqb}
-use Rattle.guarantees.specs.History.{Event, Comes, Starts, Stops, Finishes, Completes, Ends, Takes, GivesWay, Begins}
+use Rattle.guarantees.specs.History.{Event, Comes, Starts, Stops, Finishes, Completes, Ends, Takes, Defers, GivesWay, Begins}
 
 -- ---- What an event says
 
@@ -24,6 +24,7 @@ details (Takes n t m) = record { kind = 4; tick = t; task = Task n; out = NoTask
 details (Begins t r l) = record { kind = 5; tick = t; task = r; out = l; mark = false }
 details (Starts n t) = record { kind = 6; tick = t; task = Task n; out = NoTask; mark = false }
 details (Stops n t) = record { kind = 7; tick = t; task = Task n; out = NoTask; mark = false }
+details (Defers n t) = record { kind = 9; tick = t; task = Task n; out = NoTask; mark = false }
 details (GivesWay n) = record { kind = 8; tick = 0; task = Task n; out = NoTask; mark = false }
 
 abbrev pub is-task : ℕ → MaybeTask → Bool
@@ -58,6 +59,9 @@ module _ (e : Event) where
 
   abbrev pub gives-way : Bool
   gives-way = eqb (details e .kind) 8
+
+  abbrev pub defers : Bool
+  defers = eqb (details e .kind) 9
 
 -- ---- The walks
 
@@ -137,6 +141,15 @@ execution = after execution-by
 abbrev pub last-mark : ℕ → Bool → List Event → Bool
 last-mark n = after (λ b e. cond (takes e && is-task n (details e .task)) (details e .mark) b)
 
+-- the tick of the release of task n that waits
+abbrev pub waiting : ℕ → Due → List Event → Due
+waiting n = after (λ w e. cond (is-task n (details e .task)) (cond (defers e) (Tick (details e .tick)) (cond (takes e) Never w)) w)
+
+-- the original tick of a release that is taken at t, after waiting or at once
+abbrev pub original : Due → ℕ → ℕ
+original Never t = t
+original (Tick u) t = u
+
 -- ---- What comes next
 
 -- the intervals that begin, each by the task that it executes
@@ -157,6 +170,10 @@ copied-out = first begins (λ e. details e .out) NoTask
 -- the tick at which the next job of task n is taken
 abbrev pub taking : ℕ → List Event → Due
 taking n = first (λ e. takes e && is-task n (details e .task)) (λ e. Tick (details e .tick)) Never
+
+-- and at which the next release of task n begins to wait
+abbrev pub deferring : ℕ → List Event → Due
+deferring n = first (λ e. defers e && is-task n (details e .task)) (λ e. Tick (details e .tick)) Never
 
 -- the ticks at which the next job of task n to execute starts, and at which the next execution of one ends
 abbrev pub start : ℕ → List Event → Due

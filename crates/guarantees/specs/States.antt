@@ -57,6 +57,7 @@ pub record Named (table : Table) (d : State) : Type 0 where
   pub marked : set-known (table .present) (d .marked)
   pub pending : set-known (table .present) (d .jobs .pending)
   pub ready : set-known (table .present) (d .jobs .ready)
+  pub waiting : set-known (table .present) (d .waiting .tasks)
   pub phase : phase-known (table .present) (d .phase)
 
 -- ---- The arithmetic of an instant
@@ -83,6 +84,8 @@ pub record PlainInstant (d : State) (t set : ℕ) : Type 0 where
 
 pub record PlainState (d : State) : Type 0 where
   pub named : Named (d .table) d
+  -- a release waits only behind a pending job of its task
+  pub behind : (n : ℕ) → n < 32 → member n (d .waiting .tasks) ≡ true → member n (d .jobs .pending) ≡ true
   -- no job is blocked in more than two intervals
   pub counts : (n : ℕ) → n < 32 → getD (d .jobs .blocked) n 0 ≤ 2
   pub instants : (t set : ℕ) → refusal d t set ≡ 0 → PlainInstant d t set

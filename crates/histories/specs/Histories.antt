@@ -1,5 +1,5 @@
--- That the claim says something: it accepts the histories of document 01's plans A to F', and refuses histories that are wrong in one
--- point each. All are of the plans' tasks: 1 has the highest priority and is marked, then come 2 and 3, which are not.
+-- That the claim says something: it accepts the histories of document 01's plans A to F' and of one with a release that waits, and refuses
+-- histories that are wrong in one point each. All are of the plans' tasks: 1 has the highest priority and is marked, then come 2 and 3, which are not.
 use mathlib.Core.Path.{_≡_}
 use mathlib.Core.Bool.{true, false}
 use mathlib.Core.List.{List, [], _∷_, _++_}
@@ -10,7 +10,7 @@ use lib.ListN.{replicate, take}
 use Rattle.rules.specs.Calls.{opening}
 use Rattle.rules.specs.declared.Call.{Call}
 use Rattle.rules.specs.declared.Call.the-variants.{Instant}
-use Rattle.guarantees.specs.History.{Event, Comes, Starts, Stops, Finishes, Completes, Ends, Takes, GivesWay, Begins, history}
+use Rattle.guarantees.specs.History.{Event, Comes, Starts, Stops, Finishes, Completes, Ends, Takes, Defers, GivesWay, Begins, history}
 use Rattle.entries.specs.declared.JobEntry.{JobEntry}
 use Rattle.rules.specs.declared.Due.the-variants.{Tick}
 use Rattle.guarantees.specs.Queries.{none-yet}
@@ -103,14 +103,18 @@ history-e =
     Comes 10 ∷ Completes 1 10 ∷ Ends 10 ∷ []
 
 unfoldable pub calls-f : List Call
-calls-f = Instant 0 2 ∷ Instant 2 0 ∷ Instant 5 2 ∷ Instant 6 0 ∷ []
+calls-f = Instant 0 2 ∷ Instant 2 0 ∷ Instant 5 2 ∷ Instant 6 0 ∷ Instant 8 0 ∷ Instant 11 0 ∷ Instant 12 0 ∷ []
 
+-- 4/13: the release at 5 waits, and is taken at 6
 unfoldable pub history-f : List Event
 history-f =
     Comes 0 ∷ Takes 1 0 true ∷ Begins 0 NoTask NoTask ∷
     Comes 2 ∷ Finishes 1 ∷ Ends 2 ∷ Begins 2 (Task 1) NoTask ∷ Starts 1 2 ∷
-    Comes 5 ∷ Stops 1 5 ∷ Ends 5 ∷ Begins 5 NoTask (Task 1) ∷
-    Comes 6 ∷ Completes 1 6 ∷ Ends 6 ∷ []
+    Comes 5 ∷ Stops 1 5 ∷ Ends 5 ∷ Defers 1 5 ∷ Begins 5 NoTask (Task 1) ∷
+    Comes 6 ∷ Completes 1 6 ∷ Takes 1 6 true ∷
+    Comes 8 ∷ Finishes 1 ∷ Ends 8 ∷ Begins 8 (Task 1) NoTask ∷ Starts 1 8 ∷
+    Comes 11 ∷ Stops 1 11 ∷ Ends 11 ∷ Begins 11 NoTask (Task 1) ∷
+    Comes 12 ∷ Completes 1 12 ∷ Ends 12 ∷ []
 
 unfoldable pub calls-f′ : List Call
 calls-f′ = Instant 0 2 ∷ Instant 2 0 ∷ Instant 5 0 ∷ Instant 6 2 ∷ Instant 8 0 ∷ Instant 11 0 ∷ Instant 12 0 ∷ []
@@ -124,6 +128,25 @@ history-f′ =
     Comes 8 ∷ Finishes 1 ∷ Ends 8 ∷ Begins 8 (Task 1) NoTask ∷ Starts 1 8 ∷
     Comes 11 ∷ Stops 1 11 ∷ Ends 11 ∷ Begins 11 NoTask (Task 1) ∷
     Comes 12 ∷ Completes 1 12 ∷ Ends 12 ∷ []
+
+-- a release of 1 waits from 3 on, while job 3 executes, and is taken at 11, in an interval in which the processor idles
+unfoldable pub calls-waiting : List Call
+calls-waiting =
+    Instant 0 8 ∷ Instant 2 2 ∷ Instant 3 2 ∷ Instant 4 0 ∷ Instant 7 0 ∷ Instant 9 0 ∷ Instant 10 0 ∷ Instant 11 0 ∷ Instant 13 0 ∷ Instant 16 0 ∷ Instant 17 0 ∷ []
+
+unfoldable pub history-waiting : List Event
+history-waiting =
+    Comes 0 ∷ Takes 3 0 false ∷ Begins 0 NoTask NoTask ∷
+    Comes 2 ∷ Finishes 3 ∷ Ends 2 ∷ Takes 1 2 true ∷ Begins 2 (Task 3) NoTask ∷ Starts 3 2 ∷
+    Comes 3 ∷ Defers 1 3 ∷
+    Comes 4 ∷ Finishes 1 ∷
+    Comes 7 ∷ Stops 3 7 ∷ Ends 7 ∷ Begins 7 (Task 1) (Task 3) ∷ Starts 1 7 ∷
+    Comes 9 ∷ Completes 3 9 ∷
+    Comes 10 ∷ Stops 1 10 ∷ Ends 10 ∷ Begins 10 NoTask (Task 1) ∷
+    Comes 11 ∷ Completes 1 11 ∷ Takes 1 11 true ∷
+    Comes 13 ∷ Finishes 1 ∷ Ends 13 ∷ Begins 13 (Task 1) NoTask ∷ Starts 1 13 ∷
+    Comes 16 ∷ Stops 1 16 ∷ Ends 16 ∷ Begins 16 NoTask (Task 1) ∷
+    Comes 17 ∷ Completes 1 17 ∷ Ends 17 ∷ []
 
 -- the calls make the history, and the claim holds of it
 pub record Accepts (calls : List Call) (h : List Event) : Type 0 where
@@ -140,6 +163,7 @@ PlansAccepted =
     × Accepts calls-e history-e
     × Accepts calls-f history-f
     × Accepts calls-f′ history-f′
+    × Accepts calls-waiting history-waiting
 
 -- ---- Wrong histories
 
@@ -315,6 +339,44 @@ cut-short =
     Comes 2 ∷ Finishes 1 ∷ Ends 2 ∷ Begins 2 (Task 1) NoTask ∷ Starts 1 2 ∷
     Comes 4 ∷ Ends 4 ∷ Begins 4 NoTask (Task 1) ∷ []
 
+-- four intervals where one release was taken and one waits: N is the number of those taken
+unfoldable pub one-waits : List Event
+one-waits =
+    Comes 0 ∷ Takes 1 0 true ∷ Begins 0 NoTask NoTask ∷
+    Comes 2 ∷ Finishes 1 ∷ Ends 2 ∷ Begins 2 (Task 1) NoTask ∷ Starts 1 2 ∷
+    Comes 5 ∷ Stops 1 5 ∷ Ends 5 ∷ Defers 1 5 ∷ Begins 5 NoTask (Task 1) ∷
+    Comes 6 ∷ Completes 1 6 ∷ Ends 6 ∷ Begins 6 NoTask NoTask ∷ []
+
+-- plan F where the release that waits is never taken: but for it this is plan C
+unfoldable pub never-taken : List Event
+never-taken =
+    Comes 0 ∷ Takes 1 0 true ∷ Begins 0 NoTask NoTask ∷
+    Comes 2 ∷ Finishes 1 ∷ Ends 2 ∷ Begins 2 (Task 1) NoTask ∷ Starts 1 2 ∷
+    Comes 5 ∷ Stops 1 5 ∷ Ends 5 ∷ Defers 1 5 ∷ Begins 5 NoTask (Task 1) ∷
+    Comes 6 ∷ Completes 1 6 ∷ Ends 6 ∷ []
+
+-- plan F where a release waits from 3 on, and that at 5 is set waiting beside it
+unfoldable pub two-wait : List Event
+two-wait =
+    Comes 0 ∷ Takes 1 0 true ∷ Begins 0 NoTask NoTask ∷
+    Comes 2 ∷ Finishes 1 ∷ Ends 2 ∷ Begins 2 (Task 1) NoTask ∷ Starts 1 2 ∷
+    Comes 3 ∷ Defers 1 3 ∷
+    Comes 5 ∷ Stops 1 5 ∷ Ends 5 ∷ Defers 1 5 ∷ Begins 5 NoTask (Task 1) ∷
+    Comes 6 ∷ Completes 1 6 ∷ Takes 1 6 true ∷
+    Comes 8 ∷ Finishes 1 ∷ Ends 8 ∷ Begins 8 (Task 1) NoTask ∷ Starts 1 8 ∷
+    Comes 11 ∷ Stops 1 11 ∷ Ends 11 ∷ Begins 11 NoTask (Task 1) ∷
+    Comes 12 ∷ Completes 1 12 ∷ Ends 12 ∷ []
+
+-- plan F where the job of the release that waited is copied out and never executed
+unfoldable pub waited-unexecuted : List Event
+waited-unexecuted =
+    Comes 0 ∷ Takes 1 0 true ∷ Begins 0 NoTask NoTask ∷
+    Comes 2 ∷ Finishes 1 ∷ Ends 2 ∷ Begins 2 (Task 1) NoTask ∷ Starts 1 2 ∷
+    Comes 5 ∷ Stops 1 5 ∷ Ends 5 ∷ Defers 1 5 ∷ Begins 5 NoTask (Task 1) ∷
+    Comes 6 ∷ Completes 1 6 ∷ Takes 1 6 true ∷
+    Comes 8 ∷ Finishes 1 ∷ Ends 8 ∷ Begins 8 NoTask (Task 1) ∷
+    Comes 9 ∷ Completes 1 9 ∷ Ends 9 ∷ []
+
 abbrev pub Refuses : List Event → Type 0
 Refuses h = Holds plans-table h → ⊥
 
@@ -342,7 +404,11 @@ WrongRefused =
     × Refuses starts-twice
     × Refuses stops-unstarted
     × Refuses cut-short
+    × Refuses one-waits
     × (AllCompleted third-idle → ⊥)
+    × (AllCompleted never-taken → ⊥)
+    × (AllCompleted two-wait → ⊥)
+    × (AllCompleted waited-unexecuted → ⊥)
 
 -- ---- Entries
 
@@ -353,19 +419,33 @@ before-13 = take 27 history-b
 abbrev pub job-1 : ℕ → ℕ → ℕ → ℕ → JobEntry
 job-1 release start completion blocked = record { task = 1; release = release; start = start; completion = completion; blocked = blocked }
 
-abbrev pub Tells : JobEntry → Type 0
-Tells e = TellsJob (plans-table .priority) before-13 13 e
+-- an entry of the instant at t, behind what has occurred before it
+abbrev pub Tells : List Event → ℕ → JobEntry → Type 0
+Tells before t e = TellsJob (plans-table .priority) before t e
 
 -- job 1 is released at 4, starts at 9, completes at 13 and is blocked in one interval: this tells the truth, and with one number another it
 -- does not
 unfoldable pub OneEntry : Type 0
 OneEntry =
-    Tells (job-1 4 9 13 1)
-    × (Tells (job-1 3 9 13 1) → ⊥)
-    × (Tells (job-1 4 8 13 1) → ⊥)
-    × (Tells (job-1 4 9 12 1) → ⊥)
-    × (Tells (job-1 4 9 13 0) → ⊥)
-    × (Tells (job-1 4 9 13 2) → ⊥)
+    Tells before-13 13 (job-1 4 9 13 1)
+    × (Tells before-13 13 (job-1 3 9 13 1) → ⊥)
+    × (Tells before-13 13 (job-1 4 8 13 1) → ⊥)
+    × (Tells before-13 13 (job-1 4 9 12 1) → ⊥)
+    × (Tells before-13 13 (job-1 4 9 13 0) → ⊥)
+    × (Tells before-13 13 (job-1 4 9 13 2) → ⊥)
+
+-- the history with a release that waits, before the instant at 17, at which its job completes
+unfoldable pub before-17 : List Event
+before-17 = take 36 history-waiting
+
+-- it came at 3 and was taken at 11, and from its taking on no interval blocks it. Refused: the tick of its taking; that of the release before it; and
+-- a count from 3 on, which has the interval in which job 3 executes.
+unfoldable pub WaitedEntry : Type 0
+WaitedEntry =
+    Tells before-17 17 (job-1 3 13 17 0)
+    × (Tells before-17 17 (job-1 11 13 17 0) → ⊥)
+    × (Tells before-17 17 (job-1 2 13 17 0) → ⊥)
+    × (Tells before-17 17 (job-1 3 13 17 1) → ⊥)
 
 -- what plan C's history has for the entries: its intervals 0–2, 2–5 and 5–6, and its completion
 unfoldable pub PlanC : Type 0

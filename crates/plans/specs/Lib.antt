@@ -1,5 +1,6 @@
 pub mod Rows
 pub mod Plans
+pub mod Waiting
 pub mod Refusals
 pub mod Runs
 pub mod Table

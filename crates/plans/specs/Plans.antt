@@ -93,14 +93,16 @@ record-E =
     job 1 2 6 10 1 ++
     interval 9 10 1 none 0 1 none 0 none
 
--- plan F: 109 bytes
+-- 4/13: "Plan F then runs as F' does, with its second job shown as released at 5": 174 bytes
 unfoldable pub record-F : List ℕ
 record-F =
     interval 0 2 0 none 0 none 1 1 none ++
     interval 2 5 1 1 1 none none 0 none ++
-    skipped 1 5 ++
     job 1 0 2 6 0 ++
-    interval 5 6 0 none 0 1 none 0 none
+    interval 5 8 0 none 0 1 1 1 none ++
+    interval 8 11 1 1 1 none none 0 none ++
+    job 1 5 8 12 0 ++
+    interval 11 12 0 none 0 1 none 0 none
 
 -- plan F': 174 bytes
 unfoldable pub record-F′ : List ℕ
@@ -186,7 +188,7 @@ plans =
     recorded (tasks ++ (release 0 1)) record-C 99 101 ∷
     recorded (tasks ++ (release 0 2 ++ (release 1 1))) record-D 150 152 ∷
     recorded (tasks ++ (release 0 2 ++ (release 2 1))) record-E 150 152 ∷
-    recorded (tasks ++ (release 0 1 ++ (release 5 1))) record-F 109 111 ∷
+    recorded (tasks ++ (release 0 1 ++ (release 5 1))) record-F 174 176 ∷
     recorded (tasks ++ (release 0 1 ++ (release 6 1))) record-F′ 174 176 ∷
     recorded (tasks) [] 0 2 ∷
     -- finished copies

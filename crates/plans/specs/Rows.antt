@@ -2,12 +2,14 @@
 use mathlib.Core.List.{List, [], _∷_, _++_}
 use Prim.Native.Nat.{ℕ}
 use lib.ListN.{replicate}
-use Rattle.rules.specs.Types.{State}
+use Rattle.sets.specs.Sets.{insert}
+use Rattle.rules.specs.Types.{Phase, Between, Within, State}
+use Rattle.rules.specs.With.{with-waiting}
 use Rattle.rules.specs.declared.Answer.{Answer}
 use Rattle.rules.specs.declared.Answer.the-variants.{Refused, Served}
 use Rattle.rules.specs.declared.Call.{Call}
 use Rattle.rules.specs.declared.Call.the-variants.{Instant, Mark}
-use Rattle.rules.specs.Calls.{Step, MarkStep, Opening, opening, instant, mark}
+use Rattle.rules.specs.Calls.{Step, MarkStep, Opening, opening, instant, mark, after-call}
 use Rattle.rules.specs.Answers.{answer-number, due-values, mark-number}
 use Rattle.run.specs.Run.{Moment, moment, record-bytes}
 use Rattle.record.specs.Writing.{Written, file, outcome-number, outcome-value}
@@ -15,15 +17,18 @@ use Rattle.table.specs.Refusals.{refusal-number, refusal-place}
 
 -- ---- What is handed in
 
--- an input, with the length of the lent slice, each of whose bytes is 170; or opening bytes and calls
+-- an input, with the length of the lent slice, each of whose bytes is 170; or opening bytes and calls; or these, and then a release of a task, at a
+-- time, that is put into the state as one that waits, and further calls
 pub data Given : Type 0 where
   OfFile : List ℕ → ℕ → Given
   OfCalls : List ℕ → List Call → Given
+  OfPut : List ℕ → List Call → ℕ → ℕ → List Call → Given
 
 -- ---- What must come of it
 
 -- of a file its number (0 where there is no refusal), its value (the place, the length needed or the record's length) and what the
--- slice holds; of calls the opening's number and place and each call's answer, and the record's bytes of what they made happen
+-- slice holds; of calls the opening's number and place and each call's answer, and the record's bytes of what they made happen; of those behind a
+-- release that was put in, each answer, then the candidates for promotion of the interval that is open at the end, and these bytes
 pub record Result : Type 0 where
   pub numbers : List ℕ
   pub memory : List ℕ
@@ -50,6 +55,18 @@ called-moments d [] = []
 called-moments d (Instant t set ∷ cs) = let s : Step = instant d t set in moment t (s .answer) ++ called-moments (s .state) cs
 called-moments d (Mark n m ∷ cs) = called-moments (mark d n m .state) cs
 
+-- the state that calls hand back, and one with a release of task n, at t, as the only one that waits
+unfoldable pub called-state : State → List Call → State
+called-state d [] = d
+called-state d (c ∷ cs) = called-state (after-call d c) cs
+
+unfoldable pub with-put : State → ℕ → ℕ → State
+with-put d n t = with-waiting d (record { tasks = insert n 0; times = replicate 32 t })
+
+abbrev pub candidates-in : Phase → ℕ
+candidates-in (Between next outgoing) = 0
+candidates-in (Within i) = i .candidates
+
 unfoldable pub found : Given → Result
 found (OfFile s size) =
     let w : Written = file s (replicate size 170) in
@@ -57,6 +74,9 @@ found (OfFile s size) =
 found (OfCalls s cs) =
     let o : Opening = opening s in
     record { numbers = refusal-number (o .refusal) ∷ refusal-place (o .refusal) ∷ called (o .state) cs; memory = record-bytes (called-moments (o .state) cs) }
+found (OfPut s before n t cs) =
+    let d : State = with-put (called-state (opening s .state) before) n t in
+    record { numbers = called d cs ++ (candidates-in (called-state d cs .phase) ∷ []); memory = record-bytes (called-moments d cs) }
 
 unfoldable pub all-found : List Row → List Result
 all-found [] = []
@@ -79,3 +99,8 @@ refused input lent n value = record { given = OfFile input lent; expected = reco
 -- opening bytes and calls, with the numbers of the opening and the answers, and the record's bytes of what the calls made happen
 unfoldable pub answered : List ℕ → List Call → List ℕ → List ℕ → Row
 answered input calls numbers bytes = record { given = OfCalls input calls; expected = record { numbers = numbers; memory = bytes } }
+
+-- opening bytes, calls, a task and the time of its release that is put in, and further calls, with their answers, the candidates and the bytes
+unfoldable pub answered-behind : List ℕ → List Call → ℕ → ℕ → List Call → List ℕ → List ℕ → Row
+answered-behind input before n t calls numbers bytes =
+    record { given = OfPut input before n t calls; expected = record { numbers = numbers; memory = bytes } }

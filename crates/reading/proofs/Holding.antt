@@ -16,7 +16,7 @@ use Rattle.rules.specs.Instant.{occurred}
 use Rattle.rules.specs.Registers.{Arrays, first-memory, state-in}
 use Rattle.rules.specs.Steps.{Empty}
 use Rattle.run.specs.Advance.{AdvancedTo}
-use Rattle.record.specs.Types.{Table, Registers, Advanced, Clock, At, TaskPart, NoRefusal}
+use Rattle.record.specs.Types.{Table, WaitingReleases, Registers, Advanced, Clock, At, TaskPart, NoRefusal}
 use Rattle.run.specs.Listed.{releases-at}
 use Rattle.run.specs.Run.{released-at}
 use Rattle.record.specs.Cursor.{most, served-bytes, Room, start, run-bytes, budget-at}
@@ -123,15 +123,15 @@ module _ (stored made : List ℕ) (size len : ℕ) (l : size ≤ length stored) 
 -- ---- how far a run and a record agree
 
 -- what the record has so far, what is made, and what is to come make the whole
-pub record Holding (s : List ℕ) (table : Table) (whole stored made : List ℕ) (a : Arrays) (r : Registers) (at size len left : ℕ) : Type 0 where
+pub record Holding (s : List ℕ) (table : Table) (whole stored made : List ℕ) (a : Arrays) (w : WaitingReleases) (r : Registers) (at size len left : ℕ) : Type 0 where
   pub n : ℕ
-  pub going : Going s table whole stored false a r at n left stored
-  pub rest : take size stored ++ (take len made ++ run-bytes s (cursor-in (memory-in table (going .clock) a) r at) left) ≡ whole
+  pub going : Going s table whole stored false a w r at n left stored
+  pub rest : take size stored ++ (take len made ++ run-bytes s (cursor-in (memory-in table (going .clock) a w) r at) left) ≡ whole
   pub within : size ≤ length stored
   pub room : len + most ≤ length made
 
 pub begins : (s stored made : List ℕ) (k : TaskPart) (r : Registers) {budget : ℕ} → Empty (k .marked) r → Room s (start k) budget stored false → most ≤ length made
-    → Holding s (k .table) (run-bytes s (first-cursor k r) budget) stored made (first-memory (k .table) .arrays) r (k .end) 0 0 budget
+    → Holding s (k .table) (run-bytes s (first-cursor k r) budget) stored made (first-memory (k .table) .arrays) (first-memory (k .table) .waiting) r (k .end) 0 0 budget
 unfolding sets-out
 begins s stored made k r e p l = record { n = 0; going = sets-out k r e p; rest = refl; within = omega arith; room = omega arith }
 
@@ -156,18 +156,18 @@ module _ (whole stored front made rest : List ℕ) (size len : ℕ) (f : front �
 
 -- ---- one instant
 
-module _ {s : List ℕ} {table : Table} {whole stored made : List ℕ} {a : Arrays} {r : Registers} {at size len left : ℕ}
-    (g : Holding s table whole stored made a r at size len left) where
+module _ {s : List ℕ} {table : Table} {whole stored made : List ℕ} {a : Arrays} {w : WaitingReleases} {r : Registers} {at size len left : ℕ}
+    (g : Holding s table whole stored made a w r at size len left) where
   -- the run has come to its end
-  pub ended : run-bytes s (cursor-in (memory-in table (g .going .clock) a) r at) left ≡ [] → take len (drop size stored) ≡ take len made
+  pub ended : run-bytes s (cursor-in (memory-in table (g .going .clock) a w) r at) left ≡ [] → take len (drop size stored) ≡ take len made
       → eqb (size + len) (length stored) ≡ same-bytes whole stored
   ended none e = alike whole stored (take size stored) made _ size len refl (g .within) (g .rest) none (omega (arith, g .room)) e
 
   pub differs : (take len (drop size stored) ≡ take len made → ⊥) → false ≡ same-bytes whole stored
   differs n = same-false whole stored (unlike whole stored (take size stored) made _ size len refl (g .within) (g .rest) (omega (arith, g .room)) n)
 
-  module _ {x : Advanced} {after : Arrays} {before rest-after : List ℕ}
-      (made-by : AdvancedTo (take (length s - at) (drop at s)) (memory-in table (g .going .clock) a) r before x after rest-after)
+  module _ {x : Advanced} {after : Arrays} {later : WaitingReleases} {before rest-after : List ℕ}
+      (made-by : AdvancedTo (take (length s - at) (drop at s)) (memory-in table (g .going .clock) a w) r before x (memory-in table (g .going .clock) after later) rest-after)
       (k : ℕ) (left-over : k ≡ length made - len) (lent-is : before ≡ take k (drop len made)) where
     abbrev next : List ℕ
     next = take len made ++ (rest-after ++ drop k (drop len made))
@@ -198,24 +198,24 @@ module _ {s : List ℕ} {table : Table} {whole stored made : List ℕ} {a : Arra
           ∙ take-append-add (take len made) (rest-after ++ drop k (drop len made)) (x .size)
           ∙ ap (λ (l : List ℕ). take len made ++ l) (take-append-le (x .size) rest-after (drop k (drop len made)) (omega (arith, same-size made-by, lent-length, fits)))
 
-      abbrev moved : Going s table whole stored false after (x .registers) (at + x .read) (g .n + x .size) (left - 1) stored
+      abbrev moved : Going s table whole stored false after later (x .registers) (at + x .read) (g .n + x .size) (left - 1) stored
       moved = moves-to (g .going) made-by some on (λ e. absurd (false≢true e)) (λ e. refl) refl
 
       clock-is : moves-to (g .going) made-by some on {out′ = stored} (λ e. absurd (false≢true e)) (λ e. refl) refl .clock ≡ At (x .time)
       clock-is = moves-clock (g .going) made-by some on (λ e. absurd (false≢true e)) (λ e. refl) refl
 
       abbrev bytes : List ℕ
-      bytes = served-bytes (x .time) (occurred (state-in (memory-in table (g .going .clock) a) r) (x .time) (released-at (x .time) (releases-at s at)))
+      bytes = served-bytes (x .time) (occurred (state-in (memory-in table (g .going .clock) a w) r) (x .time) (released-at (x .time) (releases-at s at)))
 
       abbrev to-come : List ℕ
-      to-come = run-bytes s (cursor-in (memory-in table (At (x .time)) after) (x .registers) (at + x .read)) (left - 1)
+      to-come = run-bytes s (cursor-in (memory-in table (At (x .time)) after later) (x .registers) (at + x .read)) (left - 1)
 
-      front : take (x .size) rest-after ≡ served-bytes (x .time) (occurred (state-in (memory-in table (g .going .clock) a) r) (x .time) (released-at (x .time) (releases-at s at)))
+      front : take (x .size) rest-after ≡ served-bytes (x .time) (occurred (state-in (memory-in table (g .going .clock) a w) r) (x .time) (released-at (x .time) (releases-at s at)))
       front = made-front (g .going) made-by some on (omega (arith, g .room, lent-length))
 
       whole-is : take size stored
           ++ (take (len + x .size) (take len made ++ (rest-after ++ drop k (drop len made)))
-          ++ run-bytes s (cursor-in (memory-in table (At (x .time)) after) (x .registers) (at + x .read)) (left - 1))
+          ++ run-bytes s (cursor-in (memory-in table (At (x .time)) after later) (x .registers) (at + x .read)) (left - 1))
           ≡ whole
       whole-is =
           ap (λ (l : List ℕ). take size stored ++ l)
@@ -225,11 +225,11 @@ module _ {s : List ℕ} {table : Table} {whole stored made : List ℕ} {a : Arra
 
       -- what was made was held against the record, or is kept
       module _ (h : Held) (held : Holds stored (take len made ++ (rest-after ++ drop k (drop len made))) size (len + x .size) h) where
-        pub goes-on : h .agrees ≡ true → Holding s table whole stored (take len made ++ (rest-after ++ drop k (drop len made))) after (x .registers) (at + x .read) (h .size) (h .len) (left - 1)
+        pub goes-on : h .agrees ≡ true → Holding s table whole stored (take len made ++ (rest-after ++ drop k (drop len made))) after later (x .registers) (at + x .read) (h .size) (h .len) (left - 1)
         goes-on e = record {
           n = g .n + x .size;
           going = moved;
-          rest = ap (λ (k : Clock). take (h .size) stored ++ (take (h .len) next ++ run-bytes s (cursor-in (memory-in table k after) (x .registers) (at + x .read)) (left - 1))) clock-is
+          rest = ap (λ (k : Clock). take (h .size) stored ++ (take (h .len) next ++ run-bytes s (cursor-in (memory-in table k after later) (x .registers) (at + x .read)) (left - 1))) clock-is
               ∙ sym (append-assoc (take (h .size) stored) (take (h .len) next) to-come)
               ∙ ap (λ (l : List ℕ). l ++ to-come) (held .stays e) ∙ append-assoc (take size stored) (take (len + x .size) next) to-come ∙ whole-is;
           within = held .within e .0;

@@ -13,12 +13,12 @@ use Rattle.reading.proofs.RunTold.{tally, skips-told}
 
 -- ---- how many tasks pass a test
 
--- two counts together are two others, where they are so at each place
-pub count-pairs : (k : ℕ) (p q r s : ℕ → Bool) → ((n : ℕ) → n < k → bit (p n) + bit (q n) ≡ bit (r n) + bit (s n))
-    → count k p + count k q ≡ count k r + count k s
+-- three counts together are three others, where they are so at each place
+pub count-threes : (k : ℕ) (p q u r v s : ℕ → Bool) → ((n : ℕ) → n < k → bit (p n) + bit (q n) + bit (u n) ≡ bit (r n) + bit (v n) + bit (s n))
+    → count k p + count k q + count k u ≡ count k r + count k v + count k s
 unfolding count
-count-pairs zero p q r s h = refl
-count-pairs (suc k) p q r s h = omega (arith, count-pairs k p q r s (λ n l. h n (omega arith)), h k (omega arith))
+count-threes zero p q u r v s h = refl
+count-threes (suc k) p q u r v s h = omega (arith, count-threes k p q u r v s (λ n l. h n (omega arith)), h k (omega arith))
 
 -- a test of one task alone
 count-at : (k n : ℕ) (f : ℕ → Bool) → n < k → count k (λ m. eqb m n && f m) ≡ bit (f n)

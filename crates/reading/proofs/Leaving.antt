@@ -1,24 +1,26 @@
 -- Each release of an input that is accepted leaves exactly one entry, a job done or a release skipped, with its task and its time. Along the run, for
--- each test of a release: the entries of an instant and what is pending after it are what was pending before it and what is released at it. Assumes nothing.
+-- each test of a release: the entries of an instant and what is pending or waits after it are what was pending or waited before it and what is released
+-- at it. Assumes nothing.
 use Prim.Native.Nat.{_^_}
 use native.Mathlib.Nat.{zero-add}
 use native.Mathlib.Omega.{arith}
 use borrow.Author.Tests.{eqb-true, eqb-false}
 use lib.Dec.{eqb}
 use lib.ListN.{length, getD}
-use Rattle.sets.specs.Sets.{member, union, intersection, difference, insert, bit}
-use Rattle.sets.proofs.Laws.{by-test, united, intersection-member, difference-member, same-task, member-task}
+use Rattle.sets.specs.Sets.{member, union, insert, bit}
+use Rattle.sets.proofs.Laws.{by-test, united, same-task, member-task}
 use Rattle.table.specs.TaskPart.{task-part}
 use Rattle.rules.specs.With.{at-clock}
 use Rattle.rules.specs.Order.{highest-of}
-use Rattle.rules.specs.Instant.{completed, after-done, without-done, step-a, close, step-b, taken, skipped, stamped, step-c, cancel, step-d, choose, step-e, begin, step-g, fresh-stage, at-a, at-b, new-at, at-e, at-f, at-g, occurred}
+use Rattle.rules.specs.Instant.{completed, after-done, without-done, step-a, close, step-b, taken, deferred, skipped, original, stamped, step-c, cancel, step-d, choose, step-e, begin, step-g, fresh-stage, at-a, at-b, new-at, late-at, at-e, at-f, at-g, occurred}
 use Rattle.rules.specs.Calls.{opened, after-call}
-use Rattle.guarantees.specs.Types.{_≡_, refl, ap, _∙_, subst, Bool, true, false, cond, not, _&&_, _||_, List, [], _∷_, ℕ, _+_, _<_, Table, Jobs, MaybeTask, NoTask, Task, CopyOut, NoCopyOut, CopyingOut, CopiedOut, Interval, Phase, Between, Within, State, Done, Stage, Call, Step}
+use Rattle.guarantees.specs.Types.{_≡_, refl, sym, ap, _∙_, subst, Bool, true, false, cond, _&&_, _||_, List, [], _∷_, ℕ, _+_, _<_, Table, Jobs, WaitingReleases, MaybeTask, NoTask, Task, CopyOut, NoCopyOut, CopyingOut, CopiedOut, Interval, Phase, Between, Within, State, Done, Stage, Call, Step}
 use Rattle.guarantees.specs.History.{after-calls}
 use Rattle.guarantees.specs.States.{copyout-known}
 use Rattle.guarantees.proofs.Cases.{held-at, b-cases, d-cases, e-cases, g-cases}
 use Rattle.guarantees.proofs.Proper.{Fair}
 use Rattle.guarantees.proofs.Places.{copyout-bit, Parted}
+use Rattle.guarantees.proofs.Releases.{waits-after, is-taken, is-deferred, is-skipped, is-waiting, taken-member, deferred-member, skipped-member, waits-member}
 use Rattle.guarantees.proofs.Tallies.{stamped-length, stamped-exact}
 use Rattle.guarantees.proofs.Closings.{done-so}
 use Rattle.run.specs.Files.{Releases, releases-of}
@@ -32,16 +34,17 @@ use Rattle.record.proofs.Feeding.{Fit, state-is, step-is, fit-next}
 use Rattle.record.proofs.FileClaim.{fit, fed-file, demand-3-files}
 use Rattle.reading.specs.Types.{Release}
 use Rattle.reading.proofs.RunTold.{done-told, skips-told, moment-told, run-told, tally}
-use Rattle.reading.proofs.Keys.{count-pairs, hits, among, among-none, among-removed, among-inserted, tally-append, skips-tally}
+use Rattle.reading.proofs.Keys.{count-threes, hits, among, among-none, among-removed, among-inserted, tally-append, skips-tally}
 
--- ---- what is pending, with the times of the releases
+-- ---- what is pending and what waits, with the times of the releases
 
 record Held : Type 0 where
   pending : ℕ
   release : List ℕ
+  waiting : WaitingReleases
 
 abbrev held : State → Held
-held d = record { pending = d .jobs .pending; release = d .jobs .release }
+held d = record { pending = d .jobs .pending; release = d .jobs .release; waiting = d .waiting }
 
 -- the steps but a and c leave it
 b-held : (s : Stage) (t : ℕ) → held (step-b s t (s .state .phase) .state) ≡ held (s .state)
@@ -69,36 +72,44 @@ held-b : (d : State) (t : ℕ) → held (at-b d t .state) ≡ held (at-a d t .st
 unfolding at-b
 held-b d t = b-held (at-a d t) t
 
-held-g : (d : State) (t set : ℕ) → held (at-g d t set) ≡ held (step-c (at-b d t .state) t (new-at d t set))
+held-g : (d : State) (t set : ℕ) → held (at-g d t set) ≡ held (step-c (at-b d t .state) t (new-at d t set) (late-at d t set))
 unfolding at-g at-f at-e
 held-g d t set =
     let new : ℕ = new-at d t set in
-    let c : State = step-c (at-b d t .state) t new in
+    let c : State = step-c (at-b d t .state) t new (late-at d t set) in
     g-held (at-f d t set .state) t (held-at d t set)
     ∙ b-held (fresh-stage (at-e d t set)) t ∙ e-held (step-d c new (c .phase)) t ∙ d-held c new
 
--- the times are as many as before
-a-length : (d : State) (t : ℕ) (p : Phase) → length (step-a d t p .state .jobs .release) ≡ length (d .jobs .release)
+-- there is a time for each task, as at opening
+record Long (h : Held) : Type 0 where
+  release : length (h .release) ≡ 32
+  times : length (h .waiting .times) ≡ 32
+
+a-long : (d : State) (t : ℕ) (p : Phase) → Long (held d) → Long (held (step-a d t p .state))
 unfolding step-a without-done
-a-length d t (Between next outgoing) = refl
-a-length d t (Within i) = refl
+a-long d t (Between next outgoing) h = h
+a-long d t (Within i) h = record { release = h .release; times = h .times }
 
-b-length : (d : State) (t : ℕ) → length (at-b d t .state .jobs .release) ≡ length (d .jobs .release)
+b-long : (d : State) (t : ℕ) → Long (held d) → Long (held (at-b d t .state))
 unfolding at-a
-b-length d t = ap (λ (x : Held). length (x .release)) (held-b d t) ∙ a-length (at-clock d t) t (d .phase)
+b-long d t h = subst Long (sym (held-b d t)) (a-long (at-clock d t) t (d .phase) (record { release = h .release; times = h .times }))
 
-g-length : (d : State) (t set : ℕ) → length (at-g d t set .jobs .release) ≡ length (d .jobs .release)
+c-long : (d : State) (t new late : ℕ) → Long (held d) → Long (held (step-c d t new late))
 unfolding step-c
-g-length d t set =
-    ap (λ (x : Held). length (x .release)) (held-g d t set)
-    ∙ stamped-length (new-at d t set) t 0 (at-b d t .state .jobs .release) ∙ b-length d t
+c-long d t new late h = record {
+  release = stamped-length new (original (d .waiting) t) 0 (d .jobs .release) ∙ h .release;
+  times = stamped-length late (λ k. t) 0 (d .waiting .times) ∙ h .times;
+}
+
+g-long : (d : State) (t set : ℕ) → Long (held d) → Long (held (at-g d t set))
+g-long d t set h = subst Long (sym (held-g d t set)) (c-long (at-b d t .state) t (new-at d t set) (late-at d t set) (b-long d t h))
 
 -- ---- for each test of a release
 
 module _ (test : Release → Bool) where
-  -- how many pending jobs pass it
+  -- how many pending jobs and waiting releases pass it
   unfoldable held-with : Held → ℕ
-  held-with h = among test (h .pending) (λ n. getD (h .release) n 0)
+  held-with h = among test (h .pending) (λ n. getD (h .release) n 0) + among test (h .waiting .tasks) (λ n. getD (h .waiting .times) n 0)
 
   -- a: a job that is done was pending
   a-jobs : (j : Jobs) (t : ℕ) (o : CopyOut) → ((n start until : ℕ) → o ≡ CopyingOut n start until → (n < 32) × (member n (j .pending) ≡ true))
@@ -116,7 +127,7 @@ module _ (test : Release → Bool) where
       → tally test (done-told (step-a d t p .done)) + held-with (held (step-a d t p .state)) ≡ held-with (held d)
   unfolding step-a without-done held-with tally
   a-leaves present tasks d t (Between next outgoing) h = omega arith
-  a-leaves present tasks d t (Within i) h = a-jobs (d .jobs) t (i .copyout) there
+  a-leaves present tasks d t (Within i) h = omega (arith, a-jobs (d .jobs) t (i .copyout) there)
     where
       there : (n start until : ℕ) → i .copyout ≡ CopyingOut n start until → (n < 32) × (member n (d .jobs .pending) ≡ true)
       there n start until e =
@@ -124,43 +135,66 @@ module _ (test : Release → Bool) where
           let one : copyout-bit n (i .copyout) ≡ 1 = ap (copyout-bit n) e ∙ rw (same-task n) in
           (l, by-test (member n (d .jobs .pending)) (λ m. m) (λ m. absurd (omega (arith, rw m at (h .parts n l)))))
 
-  -- c: a release is taken, and pending from now on, or skipped
-  c-leaves : (d : State) (t set : ℕ) → length (d .jobs .release) ≡ 32
-      → among test (skipped d set) (λ n. t) + held-with (held (step-c d t (taken d set))) ≡ held-with (held d) + among test set (λ n. t)
-  unfolding skipped taken step-c held-with among
+  -- c: a release is taken, and pending from now on, or waits, or is skipped; one that waited is taken with its time
+  c-leaves : (d : State) (t set : ℕ) → Long (held d)
+      → among test (skipped d set) (λ n. t) + held-with (held (step-c d t (taken d set) (deferred d set))) ≡ held-with (held d) + among test set (λ n. t)
+  unfolding step-c held-with among
   c-leaves d t set long =
       let p : ℕ = d .jobs .pending in
-      let new : ℕ = difference set p in
+      let new : ℕ = taken d set in
+      let late : ℕ = deferred d set in
+      let w : WaitingReleases = d .waiting in
       let xs : List ℕ = d .jobs .release in
-      count-pairs 32 (λ n. member n (intersection set p) && hits test t n) (λ n. member n (union p new) && hits test (getD (stamped new t 0 xs) n 0) n)
-      (λ n. member n p && hits test (getD xs n 0) n) (λ n. member n set && hits test t n)
-      (λ n l.
-      let stamp : getD (stamped new t 0 xs) n 0 ≡ cond (member n new) t (getD xs n 0) =
-      stamped-exact new t 0 xs n (omega arith) ∙ ap (λ (j : ℕ). cond (member j new) t (getD xs n 0)) (zero-add n) in
-      rw (intersection-member set p n l, united p new n l, stamp, difference-member set p n l) (parts (member n p) (member n set) n (getD xs n 0)))
+      let at-release : ℕ → ℕ = λ n. getD (stamped new (original w t) 0 xs) n 0 in
+      let at-waiting : ℕ → ℕ = λ n. getD (stamped late (λ k. t) 0 (w .times)) n 0 in
+      omega (
+        arith,
+        count-threes 32 (λ n. member n (skipped d set) && hits test t n) (λ n. member n (union p new) && hits test (at-release n) n)
+            (λ n. member n (waits-after d set) && hits test (at-waiting n) n)
+            (λ n. member n p && hits test (getD xs n 0) n) (λ n. member n (w .tasks) && hits test (getD (w .times) n 0) n) (λ n. member n set && hits test t n)
+            (λ n l.
+            rw (
+              skipped-member d set n l,
+              waits-member d set n l,
+              stamped-at new (original w t) xs n l (long .release),
+              stamped-at late (λ k. t) (w .times) n l (long .times),
+              united p new n l,
+              taken-member d set n l,
+              deferred-member d set n l,
+            ) (parts (member n p) (member n (w .tasks)) (member n set) n (getD xs n 0) (getD (w .times) n 0))),
+      )
     where
-      parts : (p s : Bool) (n x : ℕ)
-          → bit ((s && p) && hits test t n) + bit ((p || (s && not p)) && hits test (cond (s && not p) t x) n) ≡ bit (p && hits test x n) + bit (s && hits test t n)
-      parts true true n x = omega arith
-      parts true false n x = omega arith
-      parts false true n x = omega arith
-      parts false false n x = omega arith
+      stamped-at : (s : ℕ) (f : ℕ → ℕ) (xs : List ℕ) (n : ℕ) → n < 32 → length xs ≡ 32 → getD (stamped s f 0 xs) n 0 ≡ cond (member n s) (f n) (getD xs n 0)
+      stamped-at s f xs n l e = stamped-exact s f 0 xs n (omega arith) ∙ ap (λ (j : ℕ). cond (member j s) (f j) (getD xs n 0)) (zero-add n)
+
+      parts : (p w s : Bool) (n x y : ℕ)
+          → bit (is-skipped p w s && hits test t n) + bit ((p || is-taken p w s) && hits test (cond (is-taken p w s) (cond w y t) x) n)
+          + bit (is-waiting p w s && hits test (cond (is-deferred p w s) t y) n)
+          ≡ bit (p && hits test x n) + bit (w && hits test y n) + bit (s && hits test t n)
+      parts true true true n x y = omega arith
+      parts true true false n x y = omega arith
+      parts true false true n x y = omega arith
+      parts true false false n x y = omega arith
+      parts false true true n x y = omega arith
+      parts false true false n x y = omega arith
+      parts false false true n x y = omega arith
+      parts false false false n x y = omega arith
 
   -- an instant
-  instant-leaves : (present : ℕ) (tasks : present < 2 ^ 32) (d : State) (t set : ℕ) → Parted present tasks d (d .phase) → length (d .jobs .release) ≡ 32
+  instant-leaves : (present : ℕ) (tasks : present < 2 ^ 32) (d : State) (t set : ℕ) → Parted present tasks d (d .phase) → Long (held d)
       → tally test (moment-told (record { time = t; occurred = occurred d t set })) + held-with (held (at-g d t set)) ≡ held-with (held d) + among test set (λ n. t)
-  unfolding moment-told occurred new-at
+  unfolding moment-told occurred new-at late-at
   instant-leaves present tasks d t set h long =
       let a : Stage = at-a d t in
       let b : State = at-b d t .state in
       let from-a : tally test (done-told (a .done)) + held-with (held (a .state)) ≡ held-with (held d) =
-      unfold at-a in a-leaves present tasks (at-clock d t) t (d .phase) (record { few = h .few; marks = h .marks; pending = h .pending; ready = h .ready; known = h .known; parts = h .parts }) in
+      unfold at-a in a-leaves present tasks (at-clock d t) t (d .phase) (record { few = h .few; marks = h .marks; pending = h .pending; ready = h .ready; waits = h .waits; known = h .known; parts = h .parts }) in
       omega (
         arith,
         tally-append test (done-told (at-b d t .done)) (skips-told 32 (skipped b set) t),
         skips-tally test (skipped b set) t,
         ap (λ (o : Done). tally test (done-told o)) (done-so d t set),
-        c-leaves b t set (b-length d t ∙ long),
+        c-leaves b t set (b-long d t long),
         ap held-with (held-b d t),
         ap held-with (held-g d t set),
       )
@@ -186,14 +220,14 @@ module _ (test : Release → Bool) where
       let x : r .time ≡ t → ⊥ = eqb-false (r .time) t e in
       rw (Listing.later t set r rs x, Listing.after-later t set r rs x))
 
-  -- where nothing is pending nothing passes
-  none-held : (d : State) → d .jobs .pending ≡ 0 → held-with (held d) ≡ 0
+  -- where nothing is pending and nothing waits nothing passes
+  none-held : (d : State) → d .jobs .pending ≡ 0 → d .waiting .tasks ≡ 0 → held-with (held d) ≡ 0
   unfolding held-with
-  none-held d e = rw e (among-none test (λ n. getD (d .jobs .release) n 0))
+  none-held d e f = rw (e, f) (omega (arith, among-none test (λ n. getD (d .jobs .release) n 0), among-none test (λ n. getD (d .waiting .times) n 0)))
 
   -- along the calls that feed a file
   module _ (table : Table) (marks : ℕ) (fair : Fair table marks) where
-    feed-leaves : (cs : List Call) (d : State) (rs : List Release) → Fit table marks fair d rs → length (d .jobs .release) ≡ 32 → Feeds d rs cs
+    feed-leaves : (cs : List Call) (d : State) (rs : List Release) → Fit table marks fair d rs → Long (held d) → Feeds d rs cs
         → tally test (run-told (answers d cs)) + held-with (held (after-calls d cs)) ≡ held-with (held d) + tally test rs
     unfolding Feeds answers after-calls run-told tally
     feed-leaves [] d rs fit long feeds = rw (feeds .0) (omega arith)
@@ -213,7 +247,7 @@ module _ (test : Release → Bool) where
           ap (λ (x : State). held-with (held x)) last,
           tally-append test (moment-told m) (run-told (answers g cs)),
           instant-leaves (table .present) (fair .present) d t set (fit .good .parted) long,
-          feed-leaves cs g rest (fit-next table marks fair d rs t fit (feeds .1)) (g-length d t set ∙ long) (subst (λ (x : State). Feeds x rest cs) state (feeds .3)),
+          feed-leaves cs g rest (fit-next table marks fair d rs t fit (feeds .1)) (g-long d t set long) (subst (λ (x : State). Feeds x rest cs) state (feeds .3)),
           releases-apart (table .present) (fair .present) t 0 rs (fit .sorted) (none-under t rs),
           among-none test (λ n. t),
         )
@@ -227,13 +261,13 @@ leaves-one s rs h test =
     let a : Accepted s rs = accepted s rs h in
     let d : State = opened (task-part s .table) (task-part s .marked) in
     let f = fed-file s rs h in
-    let none-left : after-calls d (f .calls) .jobs .pending ≡ 0 = demand-3-files s rs h .of-the-feed (f .calls) (f .feeds) .nothing-pending in
+    let claim = demand-3-files s rs h .of-the-feed (f .calls) (f .feeds) in
     let fed : tally test (run-told (answers d (f .calls))) + held-with test (held (after-calls d (f .calls))) ≡ held-with test (held d) + tally test rs =
-    feed-leaves test (task-part s .table) (task-part s .marked) (fair s rs a) (f .calls) d rs (fit s rs a) (unfold opened in refl) (f .feeds) in
+    feed-leaves test (task-part s .table) (task-part s .marked) (fair s rs a) (f .calls) d rs (fit s rs a) (unfold opened in record { release = refl; times = refl }) (f .feeds) in
     omega (
       arith,
       fed,
       ap (λ (ms : List Moment). tally test (run-told ms)) (f .gives),
-      none-held test (after-calls d (f .calls)) none-left,
-      none-held test d (unfold opened in refl),
+      none-held test (after-calls d (f .calls)) (claim .nothing-pending) (claim .nothing-waits),
+      none-held test d (unfold opened in refl) (unfold opened in refl),
     )

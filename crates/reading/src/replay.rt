@@ -92,6 +92,8 @@ fn replays(s: &[u8], part: TaskPart, budget: usize, stored: &[u8]) -> bool
 {
     let mut release = [0u64; 32];
     let mut blocked = [0u8; 32];
+    let mut waiting: u32 = 0;
+    let mut waits = [0u64; 32];
     let mut made = [0u8; PIECE];
     let mut r = rules::empty(part.marked);
     let mut at = part.end;
@@ -107,6 +109,8 @@ fn replays(s: &[u8], part: TaskPart, budget: usize, stored: &[u8]) -> bool
             &part.table.columns,
             &mut release,
             &mut blocked,
+            &mut waiting,
+            &mut waits,
             &mut made[len..],
         );
         if x.time == u64::MAX {

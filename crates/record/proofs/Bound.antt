@@ -16,7 +16,7 @@ use Rattle.record.proofs.Accepted.{Accepted, accepted}
 use Rattle.record.proofs.Lengths.{length-record}
 use Rattle.record.proofs.Ends.{is-open}
 use Rattle.record.proofs.Feeding.{Fed}
-use Rattle.record.proofs.FileClaim.{fed, completed}
+use Rattle.record.proofs.FileClaim.{fed, completed, releases-so}
 
 none-open : (table : Table) (marks : ℕ) → is-open (opened table marks .phase) ≡ 0
 unfolding opened
@@ -30,7 +30,7 @@ record-bound s rs h =
     omega (
       arith,
       length-record (moments-of s rs),
-      f .releases,
+      releases-so s rs a,
       f .jobs,
       f .intervals,
       completed s rs a .as-many,

@@ -8,7 +8,7 @@ use native.Mathlib.Omega.{arith}
 use borrow.Author.Tests.{eq-eqb, ltb-false, le-ltb, lt-leb}
 use lib.Dec.{eqb, ltb}
 use lib.ListN.{length}
-use Rattle.sets.specs.Sets.{member, difference}
+use Rattle.sets.specs.Sets.{member, difference, size}
 use Rattle.sets.proofs.Laws.{by-test, clash, none, empty, difference-left, difference-right, difference-small, size-none}
 use Rattle.rules.specs.Instant.{due, sooner, at-g, occurred}
 use Rattle.rules.specs.Calls.{refusal, unknown, not-after, before-now, instant, served, after-call}
@@ -20,6 +20,7 @@ use Rattle.guarantees.proofs.Walk
 use Rattle.guarantees.proofs.Frames.{clock-g}
 use Rattle.guarantees.proofs.Served.{sooner-is, sooner-never, before-sooner, due-drop, served-at}
 use Rattle.guarantees.proofs.Invariant.{Good, mass, debt, sinks, debt-less, good-next}
+use Rattle.guarantees.proofs.Releases.{balance-g}
 use Rattle.guarantees.proofs.Completion.{due-times, not-late}
 use Rattle.guarantees.proofs.Totals.{begins-of, takes-of, completes-of}
 use Rattle.record.specs.Types.{Release}
@@ -28,7 +29,7 @@ use Rattle.record.specs.FileClaim.{Feeds, answers, AllServed, jobs-done,
 use Rattle.record.proofs.Lengths.{intervals-ended}
 use Rattle.record.specs.Cursor.{AllEarly}
 use Rattle.record.proofs.Accepted.{Sorted}
-use Rattle.record.proofs.Released.{taken-or-skipped, NotBefore, After, fewer, Split, split, early}
+use Rattle.record.proofs.Released.{NotBefore, After, fewer, Split, split, early}
 use Rattle.record.proofs.Ends.{is-open, ends-paid, job-completes}
 
 -- the releases that are left come after the clock
@@ -49,7 +50,7 @@ first-ahead Unset rs t h e = refl
 first-ahead (At u) [] t h e = absurd (let z : _≡_ {A = ℕ} 0 1 = cc in omega arith)
 first-ahead (At u) (r ∷ rs) t h e = let x : r .time ≡ t = cc in lt-leb t u (omega arith)
 
-first-early : (present : ℕ) (rs : List Release) (t : ℕ) → Sorted present rs → first-time rs ≡ Tick t → t ≤ 2000000000
+first-early : (present : ℕ) (rs : List Release) (t : ℕ) → Sorted present rs → first-time rs ≡ Tick t → t ≤ 3000000000
 unfolding Sorted
 first-early present [] t h e = absurd (let z : _≡_ {A = ℕ} 0 1 = cc in omega arith)
 first-early present (r ∷ rs) t h e = let x : r .time ≡ t = cc in omega (arith, h .1)
@@ -70,7 +71,7 @@ pub record Fed (k : ℕ) (d : State) (rs : List Release) (ms : List Moment) : Ty
   pub gives : answers d calls ≡ ms
   pub within : length calls < k
   pub rests : due (after-calls d calls .phase) ≡ Never
-  pub releases : total is-take (history d calls) + releases-skipped ms ≡ length rs
+  pub releases : total is-take (history d calls) + size (after-calls d calls .waiting .tasks) + releases-skipped ms ≡ length rs + size (d .waiting .tasks)
   pub jobs : jobs-done ms ≡ total is-completion (history d calls)
   pub intervals : intervals-ended ms ≤ is-open (d .phase) + total is-begin (history d calls)
 
@@ -88,7 +89,7 @@ fed-none k d e = record {
   gives = refl;
   within = omega arith;
   rests = e;
-  releases = refl;
+  releases = omega arith;
   jobs = refl;
   intervals = omega arith;
 }
@@ -145,7 +146,7 @@ module _ (table : Table) (marks : ℕ) (fair : Fair table marks) where
         (sooner-is (first-time rs) (due (d .phase)) t next)
 
     -- nor is an instant late
-    not-far : t ≤ 2000000000
+    not-far : t ≤ 3000000000
     not-far =
         ⊎-elim (first-early (table .present) rs t (fit .sorted))
         (λ e. omega (arith, due-times table marks fair d t (fit .good) e .bound, debt-less d (fit .good .sound)))
@@ -180,8 +181,8 @@ module _ (table : Table) (marks : ℕ) (fair : Fair table marks) where
         ≤ mass d + debt (at-g d t (released-at t rs)) + 25 * length rs
     nearer =
         ⊎-elim
-        (λ e. omega (arith, sinks d t set (fit .good .sound), taken-or-skipped d t set, parts .sizes, size-none, first-fewer rs t e))
-        (λ e. omega (arith, sinks d t set (fit .good .sound), taken-or-skipped d t set, parts .sizes, size-none, due-drop t (d .phase) e))
+        (λ e. omega (arith, sinks d t set (fit .good .sound), parts .sizes, size-none, first-fewer rs t e))
+        (λ e. omega (arith, sinks d t set (fit .good .sound), parts .sizes, size-none, due-drop t (d .phase) e))
         (sooner-is (first-time rs) (due (d .phase)) t next)
 
     run-next : (k : ℕ)
@@ -191,10 +192,12 @@ module _ (table : Table) (marks : ℕ) (fair : Fair table marks) where
 
     fed-more : (k : ℕ) (ms : List Moment) → Fed k (at-g d t (released-at t rs)) (released-after t rs) ms
         → Fed (suc k) d rs (record { time = t; occurred = occurred d t (released-at t rs) } ∷ ms)
-    unfolding Feeds AllServed AllEarly answers after-calls history by-call jobs-done intervals-ended releases-skipped
+    unfolding Feeds AllServed AllEarly answers after-calls history by-call jobs-done intervals-ended releases-skipped occurred
     fed-more k ms h =
         let g : State = at-g d t set in
         let es : List Event = history g (h .calls) in
+        let waits-on : size (after-calls d (Instant t set ∷ h .calls) .waiting .tasks) ≡ size (after-calls g (h .calls) .waiting .tasks) =
+        ap (λ (x : State). size (after-calls x (h .calls) .waiting .tasks)) state-is in
         record {
           calls = Instant t set ∷ h .calls;
           feeds = (t, next, refl, subst (λ (x : State). Feeds x rest (h .calls)) (sym state-is) (h .feeds));
@@ -203,7 +206,7 @@ module _ (table : Table) (marks : ℕ) (fair : Fair table marks) where
           gives = rw (ap (λ (s : Step). s .answer) step-is, state-is) (ap (λ (l : List Moment). record { time = t; occurred = occurred d t set } ∷ l) (h .gives));
           within = omega (arith, h .within);
           rests = ap (λ (x : State). due (after-calls x (h .calls) .phase)) state-is ∙ h .rests;
-          releases = rw (is-served, state-is) (omega (arith, takes-of d t set es, taken-or-skipped d t set, parts .sizes, size-none, h .releases));
+          releases = rw (is-served, state-is) (omega (arith, takes-of d t set es, balance-g d t set, parts .sizes, size-none, h .releases, waits-on));
           jobs = rw (is-served, state-is) (omega (arith, completes-of d t set es, job-completes d t set, h .jobs));
           intervals = rw (is-served, state-is) (omega (arith, begins-of d t set es, ends-paid d t set, h .intervals));
         }

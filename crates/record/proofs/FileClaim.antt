@@ -1,15 +1,17 @@
 -- Demand 3 for files: the claim holds of every input that is accepted.
 use mathlib.Core.Path.{_≡_, refl, sym, ap, _∙_, subst}
 use mathlib.Core.List.{List, [], _∷_, _++_, append-nil}
-use Prim.Native.Nat.{ℕ}
+use Prim.Native.Nat.{ℕ, _+_}
 use native.Mathlib.Omega.{arith}
 use lib.ListN.{length}
+use Rattle.sets.specs.Sets.{size}
 use Rattle.sets.proofs.Laws.{size-none}
 use Rattle.table.specs.TaskPart.{task-part}
 use Rattle.rules.specs.Instant.{due, sooner}
 use Rattle.rules.specs.Calls.{opened, instant, after-call}
 use Rattle.guarantees.specs.Types.{State, Due, Never, Tick, Call, Instant, Mark, Answer, Refused, Served, Occurred}
 use Rattle.guarantees.specs.History.{after-calls, history, EmptySets}
+use Rattle.guarantees.specs.Queries.{total, is-take}
 use Rattle.guarantees.specs.Claim.{AllCompleted}
 use Rattle.guarantees.specs.Entries.{told, answer-of, done, closed}
 use Rattle.guarantees.specs.Entries.{answers as occurred-by}
@@ -17,7 +19,7 @@ use Rattle.guarantees.proofs.Invariant.{mass, good-opened}
 use Rattle.record.specs.Types.{Release}
 use Rattle.run.specs.Files.{Releases, releases-of}
 use Rattle.run.specs.Run.{Moment, moment, first-time, released-at, released-after, budget, moments-of}
-use Rattle.record.specs.FileClaim.{Feeds, answers, occurrences, FedClaim, Demand3Files}
+use Rattle.record.specs.FileClaim.{Feeds, answers, occurrences, releases-skipped, FedClaim, Demand3Files}
 use Rattle.record.proofs.Accepted.{Accepted, accepted}
 use Rattle.record.proofs.TasksAlone.{opens, fair, claim}
 use Rattle.record.proofs.Feeding.{Fit, Fed, feeding}
@@ -85,6 +87,18 @@ module _ (s : List ℕ) (rs : List Release) (a : Accepted s rs) where
       subst (λ (cs : List Call). AllCompleted (history d cs)) (append-nil (fed .calls))
       (claim s rs a (fed .calls) .complete-every-job [] (unfold EmptySets in fed .rests))
 
+  none-waits : after-calls (opened (task-part s .table) (task-part s .marked)) (fed .calls) .waiting .tasks ≡ 0
+  none-waits =
+      subst (λ (cs : List Call). after-calls d cs .waiting .tasks ≡ 0) (append-nil (fed .calls))
+      (claim s rs a (fed .calls) .nothing-waits [] (unfold EmptySets in fed .rests))
+
+  none-waits-yet : size (opened (task-part s .table) (task-part s .marked) .waiting .tasks) ≡ 0
+  unfolding opened
+  none-waits-yet = size-none
+
+  pub releases-so : total is-take (history (opened (task-part s .table) (task-part s .marked)) (fed .calls)) + releases-skipped (moments-of s rs) ≡ length rs
+  releases-so = omega (arith, fed .releases, ap size none-waits, size-none, none-waits-yet)
+
   -- what the record is made of, and what the feed answers
   same : occurred-by (opened (task-part s .table) (task-part s .marked)) (fed .calls) ≡ occurrences (moments-of s rs)
   same = sym (as-answered (fed .calls) d) ∙ ap occurrences (fed .gives)
@@ -100,8 +114,9 @@ module _ (s : List ℕ) (rs : List Release) (a : Accepted s rs) where
     nothing-pending =
         subst (λ (cs : List Call). after-calls d cs .jobs .pending ≡ 0) (append-nil (fed .calls))
         (claim s rs a (fed .calls) .nothing-pending [] (unfold EmptySets in fed .rests));
+    nothing-waits = none-waits;
     complete-every-job = completed;
-    taken-or-skipped = fed .releases;
+    taken-or-skipped = releases-so;
     an-entry-each = fed .jobs ∙ completed .as-many;
   }
 

@@ -1,5 +1,5 @@
 -- What occurs at an instant fits its fields: so do the times and tasks that the state holds, from opening on, and each step keeps it. Assumes nothing.
-use Rattle.guarantees.specs.Types.{_≡_, refl, subst, Bool, true, false, ⊎-elim, List, [], _∷_, ℕ, zero, suc, _^_, _<_, Table, Jobs, MaybeTask, NoTask, Task, Processor, Idle, CopyingIn, Executing, Finished, CopyOut, NoCopyOut, CopyingOut, CopiedOut, CopyIn, Unchosen, NoneChosen, Copying, Loaded, Cancelled, Interval, Next, NoneNext, LoadedNext, PromotedNext, Outgoing, NoneOutgoing, AwaitsCopyOut, Phase, Between, Within, State, Closed, NoInterval, Span, Stage}
+use Rattle.guarantees.specs.Types.{_≡_, refl, subst, Bool, true, false, ⊎-elim, List, [], _∷_, ℕ, zero, suc, _^_, _<_, Table, Jobs, WaitingReleases, MaybeTask, NoTask, Task, Processor, Idle, CopyingIn, Executing, Finished, CopyOut, NoCopyOut, CopyingOut, CopiedOut, CopyIn, Unchosen, NoneChosen, Copying, Loaded, Cancelled, Interval, Next, NoneNext, LoadedNext, PromotedNext, Outgoing, NoneOutgoing, AwaitsCopyOut, Phase, Between, Within, State, Closed, NoInterval, Span, Stage}
 use native.Mathlib.Omega.{arith}
 use lib.Dec.{eqb}
 use lib.ListN.{getD, replicate}
@@ -7,7 +7,7 @@ use Rattle.sets.specs.Sets.{member}
 use Rattle.sets.proofs.Laws.{by-test}
 use Rattle.rules.specs.With.{at-clock}
 use Rattle.rules.specs.Order.{highest}
-use Rattle.rules.specs.Instant.{fresh-stage, processor-at, copyout-at, copyin-at, ended, completed, without-done, step-a, over, processor-task, copyout-task, copyin-task, promoted, next-of, awaiting-copyout, close, interval-entry, close-stage, step-b, stamped, with-candidates, step-c, cancel, step-d, choose, step-e, begin-processor, begin-copyout, begin, step-g, at-a, at-b, new-at, at-e, at-f, at-g, closing, occurred}
+use Rattle.rules.specs.Instant.{fresh-stage, processor-at, copyout-at, copyin-at, ended, completed, without-done, step-a, over, processor-task, copyout-task, copyin-task, promoted, next-of, awaiting-copyout, close, interval-entry, close-stage, step-b, original, stamped, with-candidates, step-c, cancel, step-d, choose, step-e, begin-processor, begin-copyout, begin, step-g, at-a, at-b, new-at, late-at, at-e, at-f, at-g, closing, occurred}
 use Rattle.rules.specs.Calls.{opened}
 use Rattle.guarantees.proofs.Highest.{Best, best}
 use Rattle.guarantees.proofs.Cases.{held-at, copyin-cases, copyout-cases, processor-cases, d-cases, e-cases, g-cases}
@@ -51,6 +51,7 @@ ReleasesFit release = (n : ℕ) → TimeFits (getD release n 0)
 
 pub record StateFits (d : State) : Type 0 where
   pub releases : ReleasesFit (d .jobs .release)
+  pub waits : ReleasesFit (d .waiting .times)
   pub phase : PhaseFits (d .phase)
 
 abbrev SpanFits : Closed → Type 0
@@ -99,6 +100,7 @@ module _ (t : ℕ) (now : TimeFits t) where
       record {
         state = record {
           releases = h .releases;
+          waits = h .waits;
           phase = (f .0, a-processor (d .table) (i .processor) (f .1), a-copyout (i .copyout) (f .2), a-copyin (i .copyin) (f .3));
         };
         done = a-done (d .jobs) (i .copyout) (h .releases) (f .2);
@@ -147,6 +149,7 @@ module _ (t : ℕ) (now : TimeFits t) where
       record {
         state = unfold close in record {
           releases = h .state .releases;
+          waits = h .state .waits;
           phase = (b-next (i .copyin) (promoted (s .state) i (i .copyin)) (f .3) p, b-outgoing (i .processor) (f .1));
         };
         done = h .done;
@@ -166,20 +169,27 @@ module _ (t : ℕ) (now : TimeFits t) where
   b-fits s (Within i) e h = b-close s i (over i) (subst PhaseFits e (h .state .phase)) h
 
   -- c
-  c-releases : (s k : ℕ) (xs : List ℕ) → ReleasesFit xs → ReleasesFit (stamped s t k xs)
+  c-releases : (s : ℕ) (f : ℕ → ℕ) → ((k : ℕ) → f k < 256 ^ 8) → (k : ℕ) (xs : List ℕ) → ReleasesFit xs → ReleasesFit (stamped s f k xs)
   unfolding stamped
-  c-releases s k [] h n = h n
-  c-releases s k (x ∷ xs) h zero = by-test (member k s) (λ e. rw e now) (λ e. rw e (h 0))
-  c-releases s k (x ∷ xs) h (suc n) = c-releases s (suc k) xs (λ m. h (suc m)) n
+  c-releases s f g k [] h n = h n
+  c-releases s f g k (x ∷ xs) h zero = by-test (member k s) (λ e. rw e (g k)) (λ e. rw e (h 0))
+  c-releases s f g k (x ∷ xs) h (suc n) = c-releases s f g (suc k) xs (λ m. h (suc m)) n
+
+  c-original : (w : WaitingReleases) → ReleasesFit (w .times) → (k : ℕ) → original w t k < 256 ^ 8
+  c-original w h k = by-test (member k (w .tasks)) (λ e. rw e (h k)) (λ e. rw e now)
 
   c-phase : (d : State) (new : ℕ) (p : Phase) → PhaseFits p → PhaseFits (with-candidates d new p)
   unfolding with-candidates
   c-phase d new (Between next outgoing) h = h
   c-phase d new (Within i) h = h
 
-  c-fits : (d : State) (new : ℕ) → StateFits d → StateFits (step-c d t new)
+  c-fits : (d : State) (new late : ℕ) → StateFits d → StateFits (step-c d t new late)
   unfolding step-c
-  c-fits d new h = record { releases = c-releases new 0 (d .jobs .release) (h .releases); phase = c-phase d new (d .phase) (h .phase) }
+  c-fits d new late h = record {
+    releases = c-releases new (original (d .waiting) t) (c-original (d .waiting) (h .waits)) 0 (d .jobs .release) (h .releases);
+    waits = c-releases late (λ k. t) (λ k. now) 0 (d .waiting .times) (h .waits);
+    phase = c-phase d new (d .phase) (h .phase);
+  }
 
   -- d: the job whose copy-in gives way stays the one chosen
   d-fits : (d : State) (new : ℕ) → StateFits d → StateFits (step-d d new (d .phase))
@@ -188,17 +198,17 @@ module _ (t : ℕ) (now : TimeFits t) where
       d-cases StateFits d new h
       (λ i n u e s b.
       let f : PhaseFits (Within i) = subst PhaseFits e (h .phase) in
-      record { releases = h .releases; phase = (f .0, f .1, f .2, ⊎-elim (λ x. subst CopyInFits (x .1) (f .3)) (λ x. subst CopyInFits x (f .3)) s) })
+      record { releases = h .releases; waits = h .waits; phase = (f .0, f .1, f .2, ⊎-elim (λ x. subst CopyInFits (x .1) (f .3)) (λ x. subst CopyInFits x (f .3)) s) })
 
   -- e
-  e-choose : (d : State) (i : Interval) (q : MaybeTask) → TaskFits q → ReleasesFit (d .jobs .release) → PhaseFits (Within i) → StateFits (choose d t i q)
+  e-choose : (d : State) (i : Interval) (q : MaybeTask) → TaskFits q → StateFits d → PhaseFits (Within i) → StateFits (choose d t i q)
   unfolding choose
-  e-choose d i NoTask k r f = record { releases = r; phase = (f .0, f .1, f .2, k) }
-  e-choose d i (Task n) k r f = record { releases = r; phase = (f .0, f .1, f .2, k) }
+  e-choose d i NoTask k h f = record { releases = h .releases; waits = h .waits; phase = (f .0, f .1, f .2, k) }
+  e-choose d i (Task n) k h f = record { releases = h .releases; waits = h .waits; phase = (f .0, f .1, f .2, k) }
 
   e-fits : (d : State) → StateFits d → StateFits (step-e d t (d .phase))
   e-fits d h =
-      e-cases StateFits d t h (λ i e s u. e-choose d i _ (picked (d .table .priority) (d .jobs .ready)) (h .releases) (subst PhaseFits e (h .phase)))
+      e-cases StateFits d t h (λ i e s u. e-choose d i _ (picked (d .table .priority) (d .jobs .ready)) h (subst PhaseFits e (h .phase)))
 
   -- g
   g-processor : (table : Table) (next : Next) → NextFits next → ProcessorFits (begin-processor table t next)
@@ -210,16 +220,16 @@ module _ (t : ℕ) (now : TimeFits t) where
   g-copyout table NoneOutgoing h = tt
   g-copyout table (AwaitsCopyOut n start) h = h
 
-  g-begin : (d : State) (new : ℕ) (next : Next) (outgoing : Outgoing) → ReleasesFit (d .jobs .release) → PhaseFits (Between next outgoing)
+  g-begin : (d : State) (new : ℕ) (next : Next) (outgoing : Outgoing) → StateFits d → PhaseFits (Between next outgoing)
       → StateFits (begin d t new next outgoing)
   unfolding begin
-  g-begin d new next outgoing r f =
-      record { releases = r; phase = (now, g-processor (d .table) next (f .0), g-copyout (d .table) outgoing (f .1), unfold TaskFits in tt) }
+  g-begin d new next outgoing h f =
+      record { releases = h .releases; waits = h .waits; phase = (now, g-processor (d .table) next (f .0), g-copyout (d .table) outgoing (f .1), unfold TaskFits in tt) }
 
   g-fits : (d : State) (new : ℕ) → StateFits d → StateFits (step-g d t new (d .phase))
   g-fits d new h =
       g-cases StateFits d t new (λ i e. h) (λ next outgoing e w. h)
-      (λ next outgoing e w. e-fits (begin d t new next outgoing) (g-begin d new next outgoing (h .releases) (subst PhaseFits e (h .phase))))
+      (λ next outgoing e w. e-fits (begin d t new next outgoing) (g-begin d new next outgoing h (subst PhaseFits e (h .phase))))
 
   -- ---- The instant
 
@@ -227,15 +237,16 @@ module _ (t : ℕ) (now : TimeFits t) where
     to-b : StageFits (at-b d t)
     unfolding at-b at-a
     to-b =
-        let a : StageFits (at-a d t) = a-fits (at-clock d t) (d .phase) refl (record { releases = h .releases; phase = h .phase }) in
+        let a : StageFits (at-a d t) = a-fits (at-clock d t) (d .phase) refl (record { releases = h .releases; waits = h .waits; phase = h .phase }) in
         b-fits (at-a d t) (at-a d t .state .phase) refl a
 
     to-e : StateFits (at-e d t set)
     unfolding at-e
     to-e =
         let new : ℕ = new-at d t set in
-        let c : State = step-c (at-b d t .state) t new in
-        e-fits (step-d c new (c .phase)) (d-fits c new (c-fits (at-b d t .state) new (to-b .state)))
+        let late : ℕ = late-at d t set in
+        let c : State = step-c (at-b d t .state) t new late in
+        e-fits (step-d c new (c .phase)) (d-fits c new (c-fits (at-b d t .state) new late (to-b .state)))
 
     to-f : StageFits (at-f d t set)
     unfolding at-f
@@ -270,4 +281,4 @@ zeros (suc k) (suc n) = zeros k n
 
 pub opened-fits : (table : Table) (marked : ℕ) → StateFits (opened table marked)
 unfolding opened
-opened-fits table marked = record { releases = zeros 32; phase = (tt, tt) }
+opened-fits table marked = record { releases = zeros 32; waits = zeros 32; phase = (tt, tt) }

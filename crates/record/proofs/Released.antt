@@ -1,7 +1,7 @@
 -- The releases of an instant, of those of an accepted file that are left: the set handed in has a task of the table for each of them, and those after
--- it come later. And what an instant takes and skips is what it is handed.
+-- it come later.
 use mathlib.Core.Path.{_≡_, refl, ap, _∙_, subst}
-use mathlib.Core.Bool.{Bool, true, false, not, _&&_, _||_, true≢false}
+use mathlib.Core.Bool.{Bool, true, false, _&&_, _||_, true≢false}
 use mathlib.Core.Logic.{_⊎_, inl, inr, ⊎-elim}
 use mathlib.Core.List.{List, [], _∷_}
 use Prim.Native.Nat.{ℕ, _+_, _^_, _≤_, _<_}
@@ -9,10 +9,8 @@ use native.Mathlib.Omega.{arith}
 use borrow.Author.Tests.{eqb-true, eqb-false, ltb-true}
 use lib.Dec.{eqb, ltb}
 use lib.ListN.{length}
-use Rattle.sets.specs.Sets.{member, difference, intersection, insert, bit, size}
-use Rattle.sets.proofs.Laws.{by-test, clash, left, right, one-of, count-sum, count-one, none, inserted, insert-out, difference-member, intersection-member, member-task}
-use Rattle.rules.specs.Instant.{at-b, new-at, taken, skipped, occurred}
-use Rattle.guarantees.specs.Types.{State}
+use Rattle.sets.specs.Sets.{member, insert, bit, size}
+use Rattle.sets.proofs.Laws.{by-test, clash, left, right, one-of, count-sum, count-one, none, inserted, insert-out, member-task}
 use Rattle.record.specs.Types.{Release, Before}
 use Rattle.run.specs.Files.{rises}
 use Rattle.run.specs.Run.{released-from, released-at, released-after}
@@ -34,18 +32,6 @@ one-more n s l h =
     apart : (a b : Bool) → (a ≡ true → b ≡ false) → bit (a || b) ≡ bit a + bit b
     apart true b h = rw (h refl)
     apart false b h = omega arith
-
-pub taken-or-skipped : (d : State) (t set : ℕ) → size set ≡ size (new-at d t set) + size (occurred d t set .skipped)
-unfolding occurred new-at taken skipped size
-taken-or-skipped d t set =
-    let p : ℕ = at-b d t .state .jobs .pending in
-    count-sum 32 (λ k. member k set) (λ k. member k (difference set p)) (λ k. member k (intersection set p))
-    (λ n l. rw (difference-member set p n l, intersection-member set p n l) (split-bit (member n set) (member n p)))
-  where
-    split-bit : (a b : Bool) → bit a ≡ bit (a && not b) + bit (a && b)
-    split-bit true true = refl
-    split-bit true false = refl
-    split-bit false b = refl
 
 -- ---- the releases at a time, and those after it
 

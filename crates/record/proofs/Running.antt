@@ -171,10 +171,10 @@ module _ (s : List ℕ) (c : Cursor) (v : Served s c) (t at : ℕ) (next : soone
   goes = go (v .calls) (v .feeds) (v .all-served) (v .early)
 
 module _ (s : List ℕ) (c : Cursor) (v : Served s c) (t : ℕ) (next : sooner (first-time (releases-at s (c .at))) (due (c .state .phase)) ≡ Tick t) where
-  go-early : (cs : List Call) → Feeds (c .state) (releases-at s (c .at)) cs → AllEarly cs → t ≤ 2000000000
+  go-early : (cs : List Call) → Feeds (c .state) (releases-at s (c .at)) cs → AllEarly cs → t ≤ 3000000000
   unfolding Feeds AllEarly
   go-early [] f l = absurd (not-over (c .state) (releases-at s (c .at)) t (f .0) (f .1) next)
   go-early (x ∷ cs) f l = omega (arith, subst (λ (w : Call). AllEarly (w ∷ cs)) (f .2) l .0, same (f .0) t (sym (f .1) ∙ next))
 
-  pub comes-early : t ≤ 2000000000
+  pub comes-early : t ≤ 3000000000
   comes-early = go-early (v .calls) (v .feeds) (v .early)

@@ -34,10 +34,10 @@ most = 371
 abbrev pub start : TaskPart → Cursor
 start k = record { state = opened (k .table) (k .marked); at = k .end }
 
--- no instant is past 2,000,000,000: none is at the last tick that a clock has
+-- no instant is past 3,000,000,000: none is at the last tick that a clock has
 unfoldable pub AllEarly : List Call → Type 0
 AllEarly [] = Unit {0}
-AllEarly (Instant t set ∷ cs) = (t ≤ 2000000000) × AllEarly cs
+AllEarly (Instant t set ∷ cs) = (t ≤ 3000000000) × AllEarly cs
 AllEarly (Mark n m ∷ cs) = AllEarly cs
 
 -- no instant of a run is refused, and none is late

@@ -78,9 +78,11 @@ pub record FedClaim (d : State) (rs : List Release) (ms : List Moment) (calls : 
   pub each-interval : closed (occurrences ms) ≡ ended none-yet (history d calls)
   -- "The run goes on until nothing is pending."
   pub nothing-pending : after-calls d calls .jobs .pending ≡ 0
+  -- 4/13: and nothing waits
+  pub nothing-waits : after-calls d calls .waiting .tasks ≡ 0
   -- the run completes all N, "N is the number of releases taken in the list or the file"
   pub complete-every-job : AllCompleted (history d calls)
-  -- each release of the file is one of those, or skipped
+  -- each release of the file is one of those, taken at once or after waiting, or skipped
   pub taken-or-skipped : total is-take (history d calls) + releases-skipped ms ≡ length rs
   -- and the record has an entry for each of the N
   pub an-entry-each : jobs-done ms ≡ total is-take (history d calls)

@@ -16,6 +16,8 @@ fn run_over(s: &[u8], part: TaskPart, budget: usize, out: &mut [u8], keep: bool)
 {
     let mut release = [0u64; 32];
     let mut blocked = [0u8; 32];
+    let mut waiting: u32 = 0;
+    let mut waits = [0u64; 32];
     let mut r = rules::empty(part.marked);
     let mut at = part.end;
     let mut size: usize = 0;
@@ -30,6 +32,8 @@ fn run_over(s: &[u8], part: TaskPart, budget: usize, out: &mut [u8], keep: bool)
             &part.table.columns,
             &mut release,
             &mut blocked,
+            &mut waiting,
+            &mut waits,
             &mut out[place..],
         );
         if x.time == u64::MAX {

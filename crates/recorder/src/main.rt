@@ -50,6 +50,8 @@ fn write_run(input: &[u8], part: TaskPart, out: &mut [u8])
 {
     let mut release = [0u64; 32];
     let mut blocked = [0u8; 32];
+    let mut waiting: u32 = 0;
+    let mut waits = [0u64; 32];
     let mut r = rules::empty(part.marked);
     let mut at = part.end;
     let mut len = 0;
@@ -63,6 +65,8 @@ fn write_run(input: &[u8], part: TaskPart, out: &mut [u8])
             &part.table.columns,
             &mut release,
             &mut blocked,
+            &mut waiting,
+            &mut waits,
             &mut out[len..],
         );
         if x.time == u64::MAX {

@@ -1,9 +1,8 @@
 -- An instant by its steps: where each step leaves what the rules say of the step before it, the last leaves what they say of the instant.
 use Rattle.rules.specs.Types.{ℕ, Phase, Between, Within, State, Closed, NoInterval, Occurred, Stage, _≡_, refl, ap, _∙_}
 use mathlib.Core.Path.{ap₂}
-use Rattle.sets.specs.Sets.{intersection}
 use Rattle.sets.proofs.Laws.{by-test}
-use Rattle.rules.specs.Instant.{over, close-stage, step-a, step-b, taken, skipped, held-over, step-e, steps-c-d, steps-c-to-e, steps-c-to-f, step-g, due, at-b, new-at, at-e, at-f, at-g, closing, occurred}
+use Rattle.rules.specs.Instant.{over, close-stage, step-a, step-b, taken, deferred, skipped, held-over, step-e, steps-c-d, steps-c-to-e, steps-c-to-f, step-g, due, at-b, new-at, late-at, at-e, at-f, at-g, closing, occurred}
 
 -- before step b no interval has ended
 pub none-closed : (d : State) (t : ℕ) (x : Phase) → step-a d t x .closed ≡ NoInterval
@@ -18,40 +17,45 @@ keeps-done s t (Between next outgoing) = refl
 keeps-done s t (Within i) = by-test (over i) (λ e. rw e) (λ e. rw e)
 
 -- the releases of an instant are taken before the choice is made
-pub chosen-after : {x e : State} (d : State) (t new : ℕ) → x ≡ steps-c-d d t new → e ≡ step-e x t (x .phase) → e ≡ steps-c-to-e d t new
+pub chosen-after : {x e : State} (d : State) (t new late : ℕ) → x ≡ steps-c-d d t new late → e ≡ step-e x t (x .phase) → e ≡ steps-c-to-e d t new late
 unfolding steps-c-to-e
-chosen-after d t new p q = rw (q, p)
+chosen-after d t new late p q = rw (q, p)
 
 -- ---- the state after steps b, f and g
 
-pub record Steps (d : State) (t set new held : ℕ) (b f g : State) : Type 0 where
+pub record Steps (d : State) (t set new late held : ℕ) (b f g : State) : Type 0 where
   pub b-is : b ≡ at-b d t .state
   pub new-is : new ≡ taken b set
-  pub f-is : f ≡ steps-c-to-f b t new .state
+  pub late-is : late ≡ deferred b set
+  pub f-is : f ≡ steps-c-to-f b t new late .state
   pub held-is : held ≡ held-over (b .phase) new
   pub g-is : g ≡ step-g f t held (f .phase)
 
-module _ {new held : ℕ} {b f g : State} (d : State) (t set : ℕ) (h : Steps d t set new held b f g) where
+module _ {new late held : ℕ} {b f g : State} (d : State) (t set : ℕ) (h : Steps d t set new late held b f g) where
   new-is-new : new ≡ new-at d t set
   unfolding new-at
   new-is-new = h .new-is ∙ ap (λ x. taken x set) (h .b-is)
 
-  pub is-f : steps-c-to-f b t new ≡ at-f d t set
+  late-is-late : late ≡ late-at d t set
+  unfolding late-at
+  late-is-late = h .late-is ∙ ap (λ x. deferred x set) (h .b-is)
+
+  pub is-f : steps-c-to-f b t new late ≡ at-f d t set
   unfolding at-f at-e steps-c-to-f
-  is-f = rw (h .b-is, new-is-new)
+  is-f = rw (h .b-is, new-is-new, late-is-late)
 
   pub is-g : g ≡ at-g d t set
   unfolding at-g
   is-g = rw (h .g-is, h .f-is ∙ ap (λ (x : Stage). x .state) is-f, h .held-is, h .b-is, new-is-new)
 
   pub is-occurred : {o : Occurred} {x y : Closed} → o .done ≡ at-b d t .done
-      → x ≡ at-b d t .closed → y ≡ steps-c-to-f b t new .closed → o .closed ≡ closing x y
-      → o .skipped ≡ intersection set (b .jobs .pending) → o .due ≡ due (g .phase) → o ≡ occurred d t set
-  unfolding occurred skipped
+      → x ≡ at-b d t .closed → y ≡ steps-c-to-f b t new late .closed → o .closed ≡ closing x y
+      → o .skipped ≡ skipped b set → o .due ≡ due (g .phase) → o ≡ occurred d t set
+  unfolding occurred
   is-occurred p x y q r s =
       rw (
         p,
         q ∙ ap₂ closing x (y ∙ ap (λ (z : Stage). z .closed) is-f),
-        r ∙ ap (λ z. intersection set (z .jobs .pending)) (h .b-is),
+        r ∙ ap (λ z. skipped z set) (h .b-is),
         s ∙ ap (λ z. due (z .phase)) is-g,
       )

@@ -1,4 +1,4 @@
--- A loop from member to member of a set that stores into an array at each: `count_all` and `stamp`.
+-- A loop from member to member of a set that stores into an array at each: `count_all`, `take` and `defer`.
 use Rattle.rules.specs.Types.{cond, List, [], _∷_, ℕ, zero, suc, _+_, _^_, _<_, _≡_, refl, sym, ap, _∙_, subst}
 use native.Mathlib.Omega.{arith}
 use native.Mathlib.Nat.{le-of-suc-le-suc, not-suc-le-zero}
@@ -16,15 +16,15 @@ unfoldable pub each : (ℕ → ℕ → ℕ) → ℕ → ℕ → List ℕ → Lis
 each f s k [] = []
 each f s k (x ∷ xs) = cond (member k s) (f k x) x ∷ each f s (suc k) xs
 
-pub is-stamped : (s v k : ℕ) (xs : List ℕ) → each (λ k x. v) s k xs ≡ stamped s v k xs
+pub is-stamped : (s : ℕ) (f : ℕ → ℕ) (k : ℕ) (xs : List ℕ) → each (λ k x. f k) s k xs ≡ stamped s f k xs
 unfolding each stamped
-is-stamped s v k [] = refl
-is-stamped s v k (x ∷ xs) = rw (is-stamped s v (suc k) xs)
+is-stamped s f k [] = refl
+is-stamped s f k (x ∷ xs) = rw (is-stamped s f (suc k) xs)
 
-pub stamped-none : (v k : ℕ) (xs : List ℕ) → stamped 0 v k xs ≡ xs
+pub stamped-none : (f : ℕ → ℕ) (k : ℕ) (xs : List ℕ) → stamped 0 f k xs ≡ xs
 unfolding stamped
-stamped-none v k [] = refl
-stamped-none v k (x ∷ xs) = rw (none k, stamped-none v (suc k) xs)
+stamped-none f k [] = refl
+stamped-none f k (x ∷ xs) = rw (none k, stamped-none f (suc k) xs)
 
 each-length : (f : ℕ → ℕ → ℕ) (s k : ℕ) (xs : List ℕ) → length (each f s k xs) ≡ length xs
 unfolding each

@@ -4,7 +4,7 @@ use mathlib.Core.Bool.{false≢true}
 use lib.Dec.{eqb}
 use Rattle.sets.proofs.Laws.{by-test}
 use Rattle.rules.specs.Instant.{fresh-stage, over, is-over, promoted, blocks, counted, closed-with, close, entry-with, interval-entry, close-stage, step-a, step-b, step-e, steps-c-d, steps-c-to-e, steps-c-to-f, at-a, at-b}
-use Rattle.rules.specs.Registers.{as-task, copyin-in, interval-in, phase-in, Arrays, Memory, with-arrays, with-counts, at-tick, state-in}
+use Rattle.rules.specs.Registers.{as-task, copyin-in, interval-in, phase-in, Memory, with-counts, at-tick, state-in}
 use Rattle.rules.specs.Steps.{TestedTo, blocks-at-end}
 use Rattle.rules.proofs.BySteps.{none-closed, chosen-after}
 
@@ -88,28 +88,29 @@ module _ (m : Memory) (t : ℕ) (r a : Registers)
 
 -- ---- steps c to f
 
-module _ (m : Memory) (t new : ℕ) (r : Registers) (a : Arrays) (x e : Registers)
-    (released-is : state-in (with-arrays m a) x ≡ steps-c-d (state-in m r) t new)
-    (chosen-is : state-in (with-arrays m a) e ≡ step-e (state-in (with-arrays m a) x) t (phase-in x)) where
+-- `left` is the memory that the releases leave
+module _ (m left : Memory) (t new late : ℕ) (r : Registers) (x e : Registers)
+    (released-is : state-in left x ≡ steps-c-d (state-in m r) t new late)
+    (chosen-is : state-in left e ≡ step-e (state-in left x) t (phase-in x)) where
   abbrev e-stage : Stage
-  e-stage = fresh-stage (steps-c-to-e (state-in m r) t new)
+  e-stage = fresh-stage (steps-c-to-e (state-in m r) t new late)
 
-  is-e : state-in (with-arrays m a) e ≡ steps-c-to-e (state-in m r) t new
-  is-e = chosen-after (state-in m r) t new released-is (chosen-is ∙ same)
+  is-e : state-in left e ≡ steps-c-to-e (state-in m r) t new late
+  is-e = chosen-after (state-in m r) t new late released-is (chosen-is ∙ same)
     where
-      same : step-e (state-in (with-arrays m a) x) t (phase-in x) ≡ step-e (state-in (with-arrays m a) x) t (state-in (with-arrays m a) x .phase)
+      same : step-e (state-in left x) t (phase-in x) ≡ step-e (state-in left x) t (state-in left x .phase)
       same = unfold state-in in refl
 
-  pub is-f : steps-c-to-f (state-in m r) t new ≡ step-b (fresh-stage (steps-c-to-e (state-in m r) t new)) t (phase-in e)
+  pub is-f : steps-c-to-f (state-in m r) t new late ≡ step-b (fresh-stage (steps-c-to-e (state-in m r) t new late)) t (phase-in e)
   unfolding steps-c-to-f
   is-f = ap (step-b e-stage t) (ap (λ (y : State). y .phase) (sym is-e) ∙ same)
     where
-      same : state-in (with-arrays m a) e .phase ≡ phase-in e
+      same : state-in left e .phase ≡ phase-in e
       same = unfold state-in in refl
 
-  pub f-stays : is-over (phase-in e) ≡ false → TestedTo (steps-c-to-f (state-in m r) t new) (with-arrays m a) e NoInterval
-  f-stays h = rw is-f (stays (with-arrays m a) e t e-stage is-e refl h)
+  pub f-stays : is-over (phase-in e) ≡ false → TestedTo (steps-c-to-f (state-in m r) t new late) left e NoInterval
+  f-stays h = rw is-f (stays left e t e-stage is-e refl h)
 
   pub f-closes : (p : ℕ) {after : List ℕ} {y : Registers} {i : IntervalEntry}
-      → Ends (with-arrays m a) e t p after y i → TestedTo (steps-c-to-f (state-in m r) t new) (with-counts (with-arrays m a) after) y (Span i)
-  f-closes p h = rw is-f (ends-at (with-arrays m a) e t e-stage is-e h)
+      → Ends left e t p after y i → TestedTo (steps-c-to-f (state-in m r) t new late) (with-counts left after) y (Span i)
+  f-closes p h = rw is-f (ends-at left e t e-stage is-e h)

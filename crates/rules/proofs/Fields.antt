@@ -5,8 +5,8 @@ use lib.Dec.{eqb}
 use Rattle.sets.specs.Sets.{union, intersection, insert}
 use Rattle.sets.proofs.Laws.{by-test}
 use Rattle.rules.specs.Instant.{processor-at, copyout-at, copyin-at, ended, completed, after-done, without-done, step-a, resting, settled, processor-task, copyout-task, copyin-task, copyin-fate, without-promoted, next-of, awaiting-copyout, stamped, with-candidates, step-c, cancel, work-of, begin-processor, begin-copyout, begin, is-over, closed-with, entry-with}
-use Rattle.rules.specs.Registers.{as-task, as-processor, as-copyout, as-next, as-outgoing, processor-in, copyout-in, copyin-in, interval-in, phase-in, Memory, with-arrays, state-in}
-use Rattle.rules.specs.Steps.{CopyInAt, GivenWay, taken-arrays}
+use Rattle.rules.specs.Registers.{as-task, as-processor, as-copyout, as-next, as-outgoing, processor-in, copyout-in, copyin-in, interval-in, phase-in, Memory, state-in}
+use Rattle.rules.specs.Steps.{CopyInAt, GivenWay, taken-memory}
 use Rattle.rules.proofs.Parts.{not-copying-out}
 
 -- an open interval, by its units
@@ -18,6 +18,7 @@ pub opened-with : (m : Memory) (r : Registers) (p : Processor) (o : CopyOut) (i 
       clock = m .clock;
       half = r .half;
       jobs = record { pending = r .pending; ready = r .ready; release = m .arrays .release; blocked = m .arrays .blocked };
+      waiting = m .waiting;
       phase = Within (record { begin = r .begin; work = r .work; processor = p; copyout = o; copyin = i; candidates = r .candidates });
     }
 unfolding state-in phase-in interval-in
@@ -99,11 +100,11 @@ closed-by m r p out ready work n o a b = simp (a, b, o)
 
 -- ---- c
 
-pub taken-with : (m : Memory) (r : Registers) (t new pending ready marked candidates : ℕ)
+pub taken-with : (m : Memory) (r : Registers) (t new late pending ready marked candidates : ℕ)
     → pending ≡ union (r .pending) new → ready ≡ union (r .ready) new → marked ≡ intersection new (r .marked) → candidates ≡ union (r .candidates) marked
-    → state-in (with-arrays m (taken-arrays new t (m .arrays))) (record { marked = r .marked; pending = pending; ready = ready; candidates = candidates; begin = r .begin; start = r .start; until = r .until; outstart = r .outstart; outuntil = r .outuntil; inuntil = r .inuntil; half = r .half; work = r .work; processor = r .processor; task = r .task; copyout = r .copyout; outtask = r .outtask; copyin = r .copyin; intask = r .intask }) ≡ step-c (state-in m r) t new
+    → state-in (taken-memory new late t m) (record { marked = r .marked; pending = pending; ready = ready; candidates = candidates; begin = r .begin; start = r .start; until = r .until; outstart = r .outstart; outuntil = r .outuntil; inuntil = r .inuntil; half = r .half; work = r .work; processor = r .processor; task = r .task; copyout = r .copyout; outtask = r .outtask; copyin = r .copyin; intask = r .intask }) ≡ step-c (state-in m r) t new late
 unfolding state-in phase-in interval-in step-c with-candidates
-taken-with m r t new pending ready marked candidates a b k c =
+taken-with m r t new late pending ready marked candidates a b k c =
     by-test (eqb (r .copyin) 6) (λ e. simp (e, a, b)) (λ e. simp (e, a, b, c, k))
 
 -- ---- d

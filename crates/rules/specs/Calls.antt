@@ -3,7 +3,7 @@
 use Rattle.rules.specs.Types.{Bool, false, cond, not, _&&_, List, ℕ, Table, Clock, Unset, At, NoneNext, NoneOutgoing, Between, State, Call, Instant, Mark, Due, Never, Tick, Answer, Refused, Served, MarkAnswer, MarkRefused, MarkServed, Refusal, NoRefusal, Alone, AtEntry, TaskPart}
 use lib.Dec.{ltb, leb, eqb}
 use lib.ListN.{length, replicate}
-use Rattle.sets.specs.Sets.{member, difference, insert, remove}
+use Rattle.sets.specs.Sets.{member, union, difference, insert, remove}
 use Rattle.table.specs.TaskPart.{task-part, no-table}
 use Rattle.rules.specs.Instant.{at-g, occurred, due}
 
@@ -23,7 +23,7 @@ pub record Opening : Type 0 where
 
 -- ---- Opening: 12, 2, 1, 4, 5, 6, 7. A release entry is refused by 2.
 
--- no task has a job, and the first interval gives the processor half 0
+-- no task has a job, no release waits, and the first interval gives the processor half 0
 unfoldable pub opened : Table → ℕ → State
 opened table marked = record {
   table = table;
@@ -31,6 +31,7 @@ opened table marked = record {
   clock = Unset;
   half = 1;
   jobs = record { pending = 0; ready = 0; release = replicate 32 0; blocked = replicate 32 0 };
+  waiting = record { tasks = 0; times = replicate 32 0 };
   phase = Between NoneNext NoneOutgoing;
 }
 
@@ -77,13 +78,13 @@ instant d t set =
     let r : ℕ = refusal d t set in
     cond (eqb r 0) (served d t set) (record { state = d; answer = Refused r })
 
--- ---- A mark call: 16, 6, 17; 0 is none.
+-- ---- A mark call: 16, 6, 17; 0 is none. "A mark cannot change while a release waits, under refusal 17."
 
 unfoldable pub mark-refusal : State → ℕ → ℕ → ℕ
 mark-refusal d n m =
     cond (not (member n (d .table .present))) 16
     (cond (ltb 1 m) 6
-    (cond (member n (d .jobs .pending)) 17 0))
+    (cond (member n (union (d .jobs .pending) (d .waiting .tasks))) 17 0))
 
 abbrev pub with-mark : State → ℕ → ℕ → State
 with-mark d n m = record {
@@ -92,6 +93,7 @@ with-mark d n m = record {
   clock = d .clock;
   half = d .half;
   jobs = d .jobs;
+  waiting = d .waiting;
   phase = d .phase;
 }
 

@@ -1,5 +1,5 @@
 -- What happens at one instant, steps a to g, in this order. Where it applies a definition names its rule of R1 to R6.
-use Rattle.rules.specs.Types.{Bool, true, false, cond, not, _&&_, List, [], _∷_, ℕ, suc, _+_, _-_, min, Table, Jobs, MaybeTask, NoTask, Task, Processor, Idle, CopyingIn, Executing, Finished, CopyOut, NoCopyOut, CopyingOut, CopiedOut, CopyIn, Unchosen, NoneChosen, Copying, Loaded, Cancelled, Interval, Next, NoneNext, LoadedNext, PromotedNext, Outgoing, NoneOutgoing, AwaitsCopyOut, Phase, Between, Within, State, JobEntry, IntervalEntry, Done, NoJob, Job, Closed, NoInterval, Span, Closing, Unclosed, BeforeReleases, AfterReleases, Due, Never, Tick, Occurred, Stage}
+use Rattle.rules.specs.Types.{Bool, true, false, cond, not, _&&_, List, [], _∷_, ℕ, suc, _+_, _-_, min, Table, Jobs, WaitingReleases, MaybeTask, NoTask, Task, Processor, Idle, CopyingIn, Executing, Finished, CopyOut, NoCopyOut, CopyingOut, CopiedOut, CopyIn, Unchosen, NoneChosen, Copying, Loaded, Cancelled, Interval, Next, NoneNext, LoadedNext, PromotedNext, Outgoing, NoneOutgoing, AwaitsCopyOut, Phase, Between, Within, State, JobEntry, IntervalEntry, Done, NoJob, Job, Closed, NoInterval, Span, Closing, Unclosed, BeforeReleases, AfterReleases, Due, Never, Tick, Occurred, Stage}
 use lib.Dec.{eqb}
 use lib.ListN.{getD}
 use Rattle.table.specs.Table.{copyin-length, execution-length, copyout-length}
@@ -208,20 +208,41 @@ unfoldable pub step-b : Stage → ℕ → Phase → Stage
 step-b s t (Between next outgoing) = s
 step-b s t (Within i) = close-stage s t i (over i)
 
--- ---- c. The releases of this instant are taken or skipped. They belong to the open interval, else to the one that step g begins.
+-- ---- c. The releases of this instant are taken, wait or are skipped. Those that are taken belong to the open interval, else to the one that
+-- step g begins.
 
--- a release of a task with no pending job is taken
+-- "At the instant its job completes, step c takes the waiting one before that instant's own releases": a waiting release of a task with
+-- no pending job any more
+abbrev pub resumed : State → ℕ
+resumed d = difference (d .waiting .tasks) (d .jobs .pending)
+
+-- what the instant's own releases then find: the tasks with a pending job, and those with a release that goes on waiting
+abbrev pub found-pending : State → ℕ
+found-pending d = union (d .jobs .pending) (resumed d)
+
+abbrev pub found-waiting : State → ℕ
+found-waiting d = difference (d .waiting .tasks) (resumed d)
+
+-- one of a task with no pending job is taken,
 unfoldable pub taken : State → ℕ → ℕ
-taken d set = difference set (d .jobs .pending)
+taken d set = union (resumed d) (difference set (found-pending d))
 
--- and of one with a pending job is skipped
+-- one of a task with a pending job waits if none waits,
+unfoldable pub deferred : State → ℕ → ℕ
+deferred d set = difference (intersection set (found-pending d)) (found-waiting d)
+
+-- and "only a release that finds one waiting is skipped, so a release at the instant of taking waits in its turn"
 unfoldable pub skipped : State → ℕ → ℕ
-skipped d set = intersection set (d .jobs .pending)
+skipped d set = intersection set (found-waiting d)
 
--- the value v for each task of a set, from task k on
-unfoldable pub stamped : ℕ → ℕ → ℕ → List ℕ → List ℕ
-stamped s v k [] = []
-stamped s v k (x ∷ xs) = cond (member k s) v x ∷ stamped s v (suc k) xs
+-- the value of f for each task of a set, from task k on
+unfoldable pub stamped : ℕ → (ℕ → ℕ) → ℕ → List ℕ → List ℕ
+stamped s f k [] = []
+stamped s f k (x ∷ xs) = cond (member k s) (f k) x ∷ stamped s f (suc k) xs
+
+-- "The job entry shows the original time": that of the waiting release, else the present one
+abbrev pub original : WaitingReleases → ℕ → ℕ → ℕ
+original w t k = cond (member k (w .tasks)) (getD (w .times) k 0) t
 
 -- the marked ones are candidates for promotion in the interval that they belong to
 unfoldable pub with-candidates : State → ℕ → Phase → Phase
@@ -235,17 +256,23 @@ with-candidates d new (Within i) = Within (record {
   candidates = union (i .candidates) (intersection new (d .marked));
 })
 
-unfoldable pub step-c : State → ℕ → ℕ → State
+-- with the tasks whose release is taken, and those whose release waits from now on; a waiting release that is taken waits no more
+unfoldable pub step-c : State → ℕ → ℕ → ℕ → State
 unfolding stamped
-step-c d t new =
-    with-phase
-    (with-jobs d (record {
-      pending = union (d .jobs .pending) new;
-      ready = union (d .jobs .ready) new;
-      release = stamped new t 0 (d .jobs .release);
-      blocked = stamped new 0 0 (d .jobs .blocked);
-    }))
-    (with-candidates d new (d .phase))
+step-c d t new late = record {
+  table = d .table;
+  marked = d .marked;
+  clock = d .clock;
+  half = d .half;
+  jobs = record {
+    pending = union (d .jobs .pending) new;
+    ready = union (d .jobs .ready) new;
+    release = stamped new (original (d .waiting) t) 0 (d .jobs .release);
+    blocked = stamped new (λ k. 0) 0 (d .jobs .blocked);
+  };
+  waiting = record { tasks = union (difference (d .waiting .tasks) new) late; times = stamped late (λ k. t) 0 (d .waiting .times) };
+  phase = with-candidates d new (d .phase);
+}
 
 -- the releases that belong to the interval that step g begins
 abbrev pub held-over : Phase → ℕ → ℕ
@@ -298,21 +325,21 @@ step-f d t = step-b (fresh-stage d) t (d .phase)
 
 -- ---- Steps c to f
 
--- steps c and d, with the tasks whose release is taken
-unfoldable pub steps-c-d : State → ℕ → ℕ → State
-steps-c-d d t new =
-    let c : State = step-c d t new in
+-- steps c and d, with the tasks whose release is taken and those whose release waits
+unfoldable pub steps-c-d : State → ℕ → ℕ → ℕ → State
+steps-c-d d t new late =
+    let c : State = step-c d t new late in
     step-d c new (c .phase)
 
-unfoldable pub steps-c-to-e : State → ℕ → ℕ → State
+unfoldable pub steps-c-to-e : State → ℕ → ℕ → ℕ → State
 unfolding steps-c-d
-steps-c-to-e d t new =
-    let x : State = steps-c-d d t new in
+steps-c-to-e d t new late =
+    let x : State = steps-c-d d t new late in
     step-e x t (x .phase)
 
 -- what they leave, and the interval that ends at step f
-unfoldable pub steps-c-to-f : State → ℕ → ℕ → Stage
-steps-c-to-f d t new = step-f (steps-c-to-e d t new) t
+unfoldable pub steps-c-to-f : State → ℕ → ℕ → ℕ → Stage
+steps-c-to-f d t new late = step-f (steps-c-to-e d t new late) t
 
 -- ---- g. If no interval is open and some job is loaded, promoted, ready or waiting for copy-out, an interval begins.
 
@@ -348,6 +375,7 @@ begin d t new next outgoing =
       clock = d .clock;
       half = 1 - d .half;
       jobs = d .jobs;
+      waiting = d .waiting;
       phase = Within (record {
         begin = t;
         work = work-of next;
@@ -406,9 +434,12 @@ at-b d t = let a : Stage = at-a d t in step-b a t (a .state .phase)
 unfoldable pub new-at : State → ℕ → ℕ → ℕ
 new-at d t set = taken (at-b d t .state) set
 
+unfoldable pub late-at : State → ℕ → ℕ → ℕ
+late-at d t set = deferred (at-b d t .state) set
+
 unfoldable pub at-e : State → ℕ → ℕ → State
 unfolding steps-c-to-e
-at-e d t set = steps-c-to-e (at-b d t .state) t (new-at d t set)
+at-e d t set = steps-c-to-e (at-b d t .state) t (new-at d t set) (late-at d t set)
 
 unfoldable pub at-f : State → ℕ → ℕ → Stage
 at-f d t set = step-f (at-e d t set) t

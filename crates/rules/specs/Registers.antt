@@ -1,6 +1,6 @@
 -- The state as the code has it: numbers that go by value (`Registers`) beside memory that is lent (`Memory`). Read back, they are the
 -- state that the rules speak of.
-use Rattle.rules.specs.Types.{Bool, cond, _||_, List, ℕ, _-_, Table, Clock, Unset, At, MaybeTask, NoTask, Task, Processor, Idle, CopyingIn, Executing, Finished, CopyOut, NoCopyOut, CopyingOut, CopiedOut, CopyIn, Unchosen, NoneChosen, Copying, Loaded, Cancelled, Interval, Next, NoneNext, LoadedNext, PromotedNext, Outgoing, NoneOutgoing, AwaitsCopyOut, Phase, Between, Within, State, Registers}
+use Rattle.rules.specs.Types.{Bool, cond, _||_, List, ℕ, _-_, Table, Clock, Unset, At, MaybeTask, NoTask, Task, Processor, Idle, CopyingIn, Executing, Finished, CopyOut, NoCopyOut, CopyingOut, CopiedOut, CopyIn, Unchosen, NoneChosen, Copying, Loaded, Cancelled, Interval, Next, NoneNext, LoadedNext, PromotedNext, Outgoing, NoneOutgoing, AwaitsCopyOut, Phase, Between, Within, State, WaitingReleases, Registers}
 use lib.Dec.{eqb, ltb}
 use lib.ListN.{replicate}
 
@@ -72,7 +72,7 @@ phase-in r =
     (Between (as-next (r .work) (r .task)) (as-outgoing (r .copyout) (r .outtask) (r .outstart)))
     (Within (interval-in r))
 
--- ---- What stands beside the registers
+-- ---- What stands beside the registers: the table, the clock, the arrays and the waiting releases
 
 -- the arrays by task number that an instant changes: of each task's job the release time and the count of blocked intervals
 pub record Arrays : Type 0 where
@@ -86,20 +86,28 @@ pub record Memory : Type 0 where
   pub table : Table
   pub clock : Clock
   pub arrays : Arrays
+  pub waiting : WaitingReleases
+
+abbrev pub waits : ℕ → List ℕ → WaitingReleases
+waits tasks times = record { tasks = tasks; times = times }
 
 abbrev pub with-arrays : Memory → Arrays → Memory
-with-arrays m a = record { table = m .table; clock = m .clock; arrays = a }
+with-arrays m a = record { table = m .table; clock = m .clock; arrays = a; waiting = m .waiting }
+
+-- with other waiting releases too
+abbrev pub with-kept : Memory → Arrays → WaitingReleases → Memory
+with-kept m a w = record { table = m .table; clock = m .clock; arrays = a; waiting = w }
 
 -- with other counts alone
 abbrev pub with-counts : Memory → List ℕ → Memory
 with-counts m blocked = with-arrays m (arrays (m .arrays .release) blocked)
 
 abbrev pub at-tick : Memory → ℕ → Memory
-at-tick m t = record { table = m .table; clock = At t; arrays = m .arrays }
+at-tick m t = record { table = m .table; clock = At t; arrays = m .arrays; waiting = m .waiting }
 
--- at opening: 0 for each task
+-- at opening: 0 for each task, and none waits
 abbrev pub first-memory : Table → Memory
-first-memory table = record { table = table; clock = Unset; arrays = arrays (replicate 32 0) (replicate 32 0) }
+first-memory table = record { table = table; clock = Unset; arrays = arrays (replicate 32 0) (replicate 32 0); waiting = waits 0 (replicate 32 0) }
 
 -- ---- The state
 
@@ -110,5 +118,6 @@ state-in m r = record {
   clock = m .clock;
   half = r .half;
   jobs = record { pending = r .pending; ready = r .ready; release = m .arrays .release; blocked = m .arrays .blocked };
+  waiting = m .waiting;
   phase = phase-in r;
 }

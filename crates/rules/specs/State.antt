@@ -14,6 +14,11 @@ pub record Jobs : Type 0 where
   pub release : List ℕ
   pub blocked : List ℕ
 
+-- 4/13: "Each task now holds one waiting release in the dispatcher's state": the tasks that have one, and its time by task number
+pub record WaitingReleases : Type 0 where
+  pub tasks : ℕ
+  pub times : List ℕ
+
 -- what the processor does in the open interval, with the task, when its execution started and when its phase ends
 pub data Processor : Type 0 where
   Idle : Processor
@@ -68,6 +73,7 @@ pub record State : Type 0 where
   pub clock : Clock
   pub half : ℕ
   pub jobs : Jobs
+  pub waiting : WaitingReleases
   pub phase : Phase
 
 -- within an instant: the state after some of the steps, with what they did

@@ -1,14 +1,14 @@
 -- What each function over the registers promises: read back, its outcome is that of the rules, whatever stands in the memory that it is
 -- not handed.
-use Rattle.rules.specs.Types.{Bool, true, false, cond, List, ℕ, _-_, _^_, _≤_, _≡_, _⊎_, Table, MaybeTask, Cancelled, State, Done, Closed, Due, Never, Tick, Stage, Registers, Unit}
+use Rattle.rules.specs.Types.{Bool, true, false, cond, List, ℕ, _-_, _^_, _≤_, _≡_, _⊎_, Table, WaitingReleases, MaybeTask, Cancelled, State, Done, Closed, Due, Never, Tick, Stage, Registers, Unit}
 use mathlib.Core.Logic.{_↔_}
 use lib.Dec.{eqb}
-use Rattle.sets.specs.Sets.{member}
+use Rattle.sets.specs.Sets.{member, union, difference}
 use Rattle.rules.specs.Order.{outranks}
-use Rattle.rules.specs.Instant.{processor-at, copyin-at, step-a, resting, settled, is-over, blocks, promoted, processor-task, copyout-task, copyin-task, copyin-fate, without-promoted, next-of, awaiting-copyout, counted, closed-with, stamped, step-c, step-d, steps-c-d, step-e, begin-processor, begin-copyout, begin, step-g, processor-due, copyout-due, copyin-due}
+use Rattle.rules.specs.Instant.{processor-at, copyin-at, step-a, resting, settled, is-over, blocks, promoted, processor-task, copyout-task, copyin-task, copyin-fate, without-promoted, next-of, awaiting-copyout, counted, closed-with, original, stamped, step-c, step-d, steps-c-d, step-e, begin-processor, begin-copyout, begin, step-g, processor-due, copyout-due, copyin-due}
 use Rattle.rules.specs.Blocking.{blockable, CanBlock}
 use Rattle.rules.specs.Calls.{opened}
-use Rattle.rules.specs.Registers.{as-task, as-processor, as-copyout, as-copyin, as-next, as-outgoing, copyin-in, interval-in, phase-in, Arrays, arrays, Memory, with-arrays, first-memory, state-in}
+use Rattle.rules.specs.Registers.{as-task, as-processor, as-copyout, as-copyin, as-next, as-outgoing, copyin-in, interval-in, phase-in, Arrays, arrays, Memory, waits, with-arrays, with-kept, first-memory, state-in}
 
 -- ---- Order
 
@@ -106,14 +106,23 @@ pub record TestedTo (s : Stage) (m : Memory) (x : Registers) (closed : Closed) :
 
 -- ---- c
 
+-- what becomes of an instant's releases, by the tasks with a pending job and those with a waiting release
+abbrev pub BecomesOf : (State → ℕ → ℕ) → ℕ → ℕ → ℕ → ℕ → Type 0
+BecomesOf fate set pending waiting x = (d : State) → d .jobs .pending ≡ pending → d .waiting .tasks ≡ waiting → x ≡ fate d set
+
 -- the arrays after the releases of a set at a time are taken
-abbrev pub taken-arrays : ℕ → ℕ → Arrays → Arrays
-taken-arrays new t a = arrays (stamped new t 0 (a .release)) (stamped new 0 0 (a .blocked))
+abbrev pub taken-arrays : ℕ → ℕ → WaitingReleases → Arrays → Arrays
+taken-arrays new t w a = arrays (stamped new (original w t) 0 (a .release)) (stamped new (λ k. 0) 0 (a .blocked))
+
+-- and the waiting releases after that, with those of another set that wait from now on
+abbrev pub waits-after : ℕ → ℕ → ℕ → WaitingReleases → WaitingReleases
+waits-after new late t w = waits (union (difference (w .tasks) new) late) (stamped late (λ k. t) 0 (w .times))
+
+abbrev pub taken-memory : ℕ → ℕ → ℕ → Memory → Memory
+taken-memory new late t m = with-kept m (taken-arrays new t (m .waiting) (m .arrays)) (waits-after new late t (m .waiting))
 
 abbrev pub Taken : Registers → ℕ → Registers → Type 0
-Taken r new x =
-    (m : Memory) (t : ℕ)
-    → state-in (with-arrays m (taken-arrays new t (m .arrays))) x ≡ step-c (state-in m r) t new
+Taken r new x = (m : Memory) (t late : ℕ) → state-in (taken-memory new late t m) x ≡ step-c (state-in m r) t new late
 
 -- ---- d
 
@@ -129,10 +138,10 @@ CancelledTo r new priority x =
 
 -- ---- c and d
 
-abbrev pub StepsCD : Registers → ℕ → ℕ → List ℕ → Arrays → Registers → Arrays → Type 0
-StepsCD r t new priority before x after =
+abbrev pub StepsCD : Registers → ℕ → ℕ → ℕ → List ℕ → Arrays → WaitingReleases → Registers → Arrays → WaitingReleases → Type 0
+StepsCD r t new late priority before waited x after waits =
     (m : Memory) → m .table .priority ≡ priority
-    → state-in (with-arrays m after) x ≡ steps-c-d (state-in (with-arrays m before) r) t new
+    → state-in (with-kept m after waits) x ≡ steps-c-d (state-in (with-kept m before waited) r) t new late
 
 -- ---- e
 

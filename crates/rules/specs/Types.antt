@@ -1,6 +1,6 @@
 -- The names that the definitions and the laws share: the declared types and their variants, and the library's.
 pub use Rattle.table.specs.declared.Table.{Table}
-pub use Rattle.rules.specs.State.{Jobs, Processor, Idle, CopyingIn, Executing, Finished, CopyOut, NoCopyOut, CopyingOut, CopiedOut, CopyIn, Unchosen, NoneChosen, Copying, Loaded, Cancelled, Interval, Next, NoneNext, LoadedNext, PromotedNext, Outgoing, NoneOutgoing, AwaitsCopyOut, Phase, Between, Within, State, Stage}
+pub use Rattle.rules.specs.State.{Jobs, WaitingReleases, Processor, Idle, CopyingIn, Executing, Finished, CopyOut, NoCopyOut, CopyingOut, CopiedOut, CopyIn, Unchosen, NoneChosen, Copying, Loaded, Cancelled, Interval, Next, NoneNext, LoadedNext, PromotedNext, Outgoing, NoneOutgoing, AwaitsCopyOut, Phase, Between, Within, State, Stage}
 pub use Rattle.rules.specs.declared.Clock.{Clock}
 pub use Rattle.rules.specs.declared.Clock.the-variants.{Unset, At}
 pub use Rattle.entries.specs.declared.MaybeTask.{MaybeTask}

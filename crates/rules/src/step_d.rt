@@ -2,13 +2,14 @@
 // cancelled and its job is ready again (R3). It also throws out a lower-priority copy-in that the engine has already finished in the
 // open interval.
 use crate::Registers;
-use crate::arrays::stamp;
+use crate::arrays::defer;
+use crate::arrays::take;
 use crate::codes;
 use crate::order::first;
 use crate::order::outranks;
 use crate::step_c::taken;
 ghost use mathlib.Core.Path.{_≡_};
-ghost use Rattle.rules.specs.Registers.{is-held, arrays};
+ghost use Rattle.rules.specs.Registers.{is-held, arrays, waits as waiting-releases};
 ghost use Rattle.rules.specs.Steps.{GivenWay, CancelledTo, StepsCD};
 
 // The engine holds a job: its copy-in is under way, or finished.
@@ -48,20 +49,27 @@ fn cancelled(r: Registers, new: u32, priority: &[u8; 32]) -> Registers
     r
 }
 
-// Steps c and d, with the tasks whose release is taken. Most instants of a run have no release, and then nothing changes.
+// Steps c and d, with the tasks whose release is taken and those whose release waits. Most instants of a run have no release, and then
+// nothing changes.
 pub fn steps_c_d(
     r: Registers,
     t: u64,
     new: u32,
+    late: u32,
     priority: &[u8; 32],
     release: &mut [u64; 32],
     blocked: &mut [u8; 32],
+    waiting: &mut u32,
+    waits: &mut [u64; 32],
 ) -> Registers
-    ensures { λ x. ⌜ StepsCD r t new (now (priority .entry)) (arrays (now (release .entry)) (now (blocked .entry))) x (arrays (now (release .exit)) (now (blocked .exit))) ⌝ }
+    ensures { λ x. ⌜ StepsCD r t new late (now (priority .entry)) (arrays (now (release .entry)) (now (blocked .entry))) (waiting-releases (now (waiting .entry)) (now (waits .entry))) x (arrays (now (release .exit)) (now (blocked .exit))) (waiting-releases (now (waiting .exit)) (now (waits .exit))) ⌝ }
 {
-    if new == 0 {
+    let before = *waiting;
+    if sets::union(new, late) == 0 {
         return r;
     }
-    stamp(new, t, release, blocked);
+    take(new, t, before, waits, release, blocked);
+    *waiting = sets::union(sets::difference(before, new), late);
+    defer(late, t, waits);
     cancelled(taken(r, new), new, priority)
 }

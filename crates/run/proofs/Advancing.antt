@@ -10,7 +10,7 @@ use Rattle.sets.proofs.Laws.{by-test}
 use Rattle.table.specs.TaskPart.{task-part}
 use Rattle.table.proofs.Laws.{part-within}
 use Rattle.rules.specs.Instant.{occurred}
-use Rattle.rules.specs.Registers.{Arrays, Memory, state-in}
+use Rattle.rules.specs.Registers.{Memory, state-in}
 use Rattle.run.specs.Types.{Registers, Advanced, TaskPart, Refusal, NoRefusal, Alone, AtEntry}
 use Rattle.run.specs.Files.{refusal-of, releases-of, part-of, file-part}
 use Rattle.run.specs.Listed.{releases-at}
@@ -20,7 +20,7 @@ use Rattle.run.specs.Putting.{moment-entries}
 use Rattle.run.proofs.Slices.{put-all-length}
 use Rattle.run.proofs.InOrder.{moment-most}
 
-module _ {rest : List ℕ} {m : Memory} {r : Registers} {out : List ℕ} {x : Advanced} {after : Arrays} {out-after : List ℕ} (h : AdvancedTo rest m r out x after out-after) where
+module _ {rest : List ℕ} {m : Memory} {r : Registers} {out : List ℕ} {x : Advanced} {after : Memory} {out-after : List ℕ} (h : AdvancedTo rest m r out x after out-after) where
   pub read-most : x .read ≤ length rest
   read-most =
       by-test (eqb (x .time) (2 ^ 64 - 1))

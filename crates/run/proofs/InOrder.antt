@@ -5,10 +5,10 @@ use mathlib.Core.List.{List, [], _∷_, _++_, append-assoc, append-nil}
 use Prim.Native.Nat.{ℕ, zero, suc, _+_, _*_, _≤_}
 use native.Mathlib.Omega.{arith}
 use lib.ListN.{length, length-append}
-use Rattle.sets.specs.Sets.{member, difference, intersection}
+use Rattle.sets.specs.Sets.{member}
 use Rattle.sets.proofs.Laws.{by-test}
 use Rattle.entries.specs.Entries.{job-bytes, interval-bytes, skipped-bytes}
-use Rattle.rules.specs.Instant.{fresh-stage, step-b, step-c, step-d, step-e, close, close-stage, over, with-candidates, taken, skipped, closing, steps-c-d, steps-c-to-e, steps-c-to-f, at-a, at-b, new-at, at-e, at-f, occurred}
+use Rattle.rules.specs.Instant.{fresh-stage, step-b, step-c, step-d, step-e, close, close-stage, over, with-candidates, taken, deferred, skipped, closing, steps-c-d, steps-c-to-e, steps-c-to-f, at-a, at-b, new-at, late-at, at-e, at-f, occurred}
 use Rattle.rules.proofs.BySteps.{none-closed}
 use Rattle.run.specs.Types.{State, Stage, Done, NoJob, Job, Closed, NoInterval, Span, Closing, Unclosed, BeforeReleases, AfterReleases, Interval, Phase, Between, Within}
 use Rattle.run.specs.Run.{Moment, done-bytes, skips-bytes, closed-bytes, moment-bytes}
@@ -62,20 +62,20 @@ unfolding step-e
 shut-e d t (Between next outgoing) h = refl
 shut-e d t (Within i) h = absurd h
 
-shut-releases : (d : State) (t new : ℕ) → Shut (d .phase) → Shut (steps-c-to-e d t new .phase)
+shut-releases : (d : State) (t new late : ℕ) → Shut (d .phase) → Shut (steps-c-to-e d t new late .phase)
 unfolding steps-c-to-e
-shut-releases d t new h =
-    let c : State = step-c d t new in
+shut-releases d t new late h =
+    let c : State = step-c d t new late in
     let p : Shut (c .phase) = unfold step-c in shut-c d new (d .phase) h in
-    let x : steps-c-d d t new ≡ c = unfold steps-c-d in shut-d c new (c .phase) p in
+    let x : steps-c-d d t new late ≡ c = unfold steps-c-d in shut-d c new (c .phase) p in
     subst (λ (y : State). Shut (step-e y t (y .phase) .phase)) (sym x)
     (subst (λ (y : State). Shut (y .phase)) (sym (shut-e c t (c .phase) p)) p)
 
-closes-none : (d : State) (t new : ℕ) → Shut (d .phase) → steps-c-to-f d t new .closed ≡ NoInterval
+closes-none : (d : State) (t new late : ℕ) → Shut (d .phase) → steps-c-to-f d t new late .closed ≡ NoInterval
 unfolding steps-c-to-f
-closes-none d t new h =
-    let e : State = steps-c-to-e d t new in
-    shut-test (fresh-stage e) t (e .phase) (shut-releases d t new h)
+closes-none d t new late h =
+    let e : State = steps-c-to-e d t new late in
+    shut-test (fresh-stage e) t (e .phase) (shut-releases d t new late h)
 
 -- ---- the parts
 
@@ -94,7 +94,7 @@ module _ (d : State) (t set : ℕ) where
   abbrev b : Stage
   b = at-b d t
 
-  is-f : at-f d t set ≡ steps-c-to-f (at-b d t .state) t (new-at d t set)
+  is-f : at-f d t set ≡ steps-c-to-f (at-b d t .state) t (new-at d t set) (late-at d t set)
   unfolding at-f at-e steps-c-to-f
   is-f = refl
 
@@ -104,23 +104,27 @@ module _ (d : State) (t set : ℕ) where
       let skips : List (List ℕ) = skips-entries 32 (skipped (b .state) set) t in
       let z : Closed = at-f d t set .closed in
       ap (λ (x : List (List ℕ)). done-entries (b .done) ++ x)
-      (in-parts (b .closed) z skips (λ h. ap (λ (x : Stage). x .closed) is-f ∙ closes-none (b .state) t (new-at d t set) (at-once d t h)))
+      (in-parts (b .closed) z skips (λ h. ap (λ (x : Stage). x .closed) is-f ∙ closes-none (b .state) t (new-at d t set) (late-at d t set) (at-once d t h)))
       ∙ sym (append-assoc (done-entries (b .done)) (span-entries (b .closed)) (skips ++ span-entries z))
 
   -- by what the functions of the steps find
-  module _ (x : State) (new skips : ℕ) (state : x ≡ at-b d t .state) (new-is : new ≡ difference set (x .jobs .pending)) (skips-is : skips ≡ intersection set (x .jobs .pending)) where
+  module _ (x : State) (new late skips : ℕ) (state : x ≡ at-b d t .state)
+      (new-is : new ≡ taken x set) (late-is : late ≡ deferred x set) (skips-is : skips ≡ skipped x set) where
     is-new : new ≡ new-at d t set
-    unfolding new-at taken
-    is-new = new-is ∙ ap (λ (y : State). difference set (y .jobs .pending)) state
+    unfolding new-at
+    is-new = new-is ∙ ap (λ (y : State). taken y set) state
+
+    is-late : late ≡ late-at d t set
+    unfolding late-at
+    is-late = late-is ∙ ap (λ (y : State). deferred y set) state
 
     is-skipped : skips ≡ skipped (at-b d t .state) set
-    unfolding skipped
-    is-skipped = skips-is ∙ ap (λ (y : State). intersection set (y .jobs .pending)) state
+    is-skipped = skips-is ∙ ap (λ (y : State). skipped y set) state
 
-    same : steps-c-to-f x t new ≡ at-f d t set
-    same = ap (λ (y : State). steps-c-to-f y t new) state ∙ ap (steps-c-to-f (at-b d t .state) t) is-new ∙ sym is-f
+    same : steps-c-to-f x t new late ≡ at-f d t set
+    same = ap (λ (y : State). steps-c-to-f y t new late) state ∙ ap₂ (λ n l. steps-c-to-f (at-b d t .state) t n l) is-new is-late ∙ sym is-f
 
-    pub in-order : moment-entries (record { time = t; occurred = occurred d t set }) ≡ stage-entries (at-b d t) ++ (skips-entries 32 skips t ++ span-entries (steps-c-to-f x t new .closed))
+    pub in-order : moment-entries (record { time = t; occurred = occurred d t set }) ≡ stage-entries (at-b d t) ++ (skips-entries 32 skips t ++ span-entries (steps-c-to-f x t new late .closed))
     in-order =
         parts
         ∙ ap (λ (y : ℕ). stage-entries (at-b d t) ++ (skips-entries 32 y t ++ span-entries (at-f d t set .closed))) (sym is-skipped)

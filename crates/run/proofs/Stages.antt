@@ -4,7 +4,7 @@ use mathlib.Core.List.{List, [], _∷_, _++_, append-nil}
 use Prim.Native.Nat.{ℕ}
 use Rattle.entries.specs.Entries.{interval-bytes}
 use Rattle.rules.specs.Instant.{step-a, steps-c-to-f, at-a, at-b}
-use Rattle.rules.specs.Registers.{phase-in, Arrays, Memory, with-arrays, with-counts, at-tick, state-in}
+use Rattle.rules.specs.Registers.{phase-in, Memory, with-counts, at-tick, state-in}
 use Rattle.rules.specs.Steps.{TestedTo}
 use Rattle.rules.proofs.BySteps.{keeps-done}
 use Rattle.run.specs.Types.{State, Registers, Done, Closed, NoInterval, Span, IntervalEntry}
@@ -43,12 +43,13 @@ module _ (m : Memory) (t : ℕ) (r : Registers) (done : Done) (done-is : done �
 
 -- ---- steps c to f
 
-module _ (m : Memory) (t new : ℕ) (r : Registers) (at : ℕ) (out : List ℕ) (a : Arrays) where
-  pub f-none : (e : Registers) → TestedTo (steps-c-to-f (state-in m r) t new) (with-arrays m a) e NoInterval
-      → SteppedCToF at r t new m out (record { registers = e; end = at }) a out
+-- `left` is the memory that they leave
+module _ (m left : Memory) (t new late : ℕ) (r : Registers) (at : ℕ) (out : List ℕ) where
+  pub f-none : (e : Registers) → TestedTo (steps-c-to-f (state-in m r) t new late) left e NoInterval
+      → SteppedCToF at r t new late m out (record { registers = e; end = at }) left out
   f-none e h = record { state = h .state; puts = subst (λ (y : List (List ℕ)). Puts at y out at out) (ap span-entries (h .interval)) (none at out) }
 
-  pub f-span : (y : Registers) (i : IntervalEntry) → TestedTo (steps-c-to-f (state-in m r) t new) (with-arrays m a) y (Span i)
+  pub f-span : (y : Registers) (i : IntervalEntry) → TestedTo (steps-c-to-f (state-in m r) t new late) left y (Span i)
       → (last : ℕ) (out′ : List ℕ) → Puts at (interval-bytes i ∷ []) out last out′
-      → SteppedCToF at r t new m out (record { registers = y; end = last }) a out′
+      → SteppedCToF at r t new late m out (record { registers = y; end = last }) left out′
   f-span y i h last out′ p = record { state = h .state; puts = subst (λ (z : List (List ℕ)). Puts at z out last out′) (ap span-entries (h .interval)) p }

@@ -1,5 +1,5 @@
 -- The names that the definitions share. Those that lower crates declare are passed on to the crates above.
-pub use Rattle.rules.specs.Types.{Table, TaskPart, Refusal, NoRefusal, Alone, AtEntry, JobEntry, IntervalEntry, State, Stage, Interval, Phase, Between, Within}
+pub use Rattle.rules.specs.Types.{Table, TaskPart, Refusal, NoRefusal, Alone, AtEntry, JobEntry, IntervalEntry, State, WaitingReleases, Stage, Interval, Phase, Between, Within}
 pub use Rattle.rules.specs.declared.Registers.{Registers}
 pub use Rattle.rules.specs.declared.Done.{Done}
 pub use Rattle.rules.specs.declared.Done.the-variants.{NoJob, Job}

@@ -9,7 +9,7 @@ use crate::releases::next_tick;
 use rules::Registers;
 use table::Columns;
 ghost use Prim.Native.Nat.{_≤_};
-ghost use Rattle.rules.specs.Registers.{arrays};
+ghost use Rattle.rules.specs.Registers.{arrays, waits as waiting-releases};
 ghost use Rattle.run.specs.Advance.{StepsAB, StepsCToF, StepsAToG, Advances};
 
 // What is left of the state, and the place behind what was put.
@@ -46,23 +46,26 @@ fn steps_a_b(
     Placed { registers: a, end }
 }
 
-// Steps c to f, with the tasks whose release is taken: the interval that ends after the releases.
+// Steps c to f, with the tasks whose release is taken and those whose release waits: the interval that ends after the releases.
 fn steps_c_to_f(
     out: &mut [u8],
     at: usize,
     r: Registers,
     t: u64,
     new: u32,
+    late: u32,
     present: u32,
     priority: &[u8; 32],
     columns: &Columns,
     release: &mut [u64; 32],
     blocked: &mut [u8; 32],
+    waiting: &mut u32,
+    waits: &mut [u64; 32],
 ) -> Placed
     requires { ⌜ at ≤ 1000 ⌝ }
-    ensures { λ x. ⌜ StepsCToF at r t new present (now (priority .entry)) (now (columns .entry)) (arrays (now (release .entry)) (now (blocked .entry))) (now (out .entry)) x (arrays (now (release .exit)) (now (blocked .exit))) (now (out .exit)) ⌝ }
+    ensures { λ x. ⌜ StepsCToF at r t new late present (now (priority .entry)) (now (columns .entry)) (arrays (now (release .entry)) (now (blocked .entry))) (waiting-releases (now (waiting .entry)) (now (waits .entry))) (now (out .entry)) x (arrays (now (release .exit)) (now (blocked .exit))) (waiting-releases (now (waiting .exit)) (now (waits .exit))) (now (out .exit)) ⌝ }
 {
-    let d = rules::steps_c_d(r, t, new, priority, release, blocked);
+    let d = rules::steps_c_d(r, t, new, late, priority, release, blocked, waiting, waits);
     let e = rules::chosen(d, t, priority, columns);
     if rules::is_over(e) {
         let p = rules::promoted(e, priority);
@@ -90,24 +93,30 @@ fn steps_a_to_g(
     columns: &Columns,
     release: &mut [u64; 32],
     blocked: &mut [u8; 32],
+    waiting: &mut u32,
+    waits: &mut [u64; 32],
 ) -> Placed
-    ensures { λ x. ⌜ StepsAToG r t set present (now (priority .entry)) (now (columns .entry)) (arrays (now (release .entry)) (now (blocked .entry))) (now (out .entry)) x (arrays (now (release .exit)) (now (blocked .exit))) (now (out .exit)) ⌝ }
+    ensures { λ x. ⌜ StepsAToG r t set present (now (priority .entry)) (now (columns .entry)) (arrays (now (release .entry)) (now (blocked .entry))) (waiting-releases (now (waiting .entry)) (now (waits .entry))) (now (out .entry)) x (arrays (now (release .exit)) (now (blocked .exit))) (waiting-releases (now (waiting .exit)) (now (waits .exit))) (now (out .exit)) ⌝ }
 {
     let b = steps_a_b(out, r, t, present, priority, columns, release, blocked);
     let open = b.registers;
-    let new = sets::difference(set, open.pending);
-    let last = skips_at(out, b.end, sets::intersection(set, open.pending), t);
+    let late = rules::to_defer(set, open.pending, *waiting);
+    let new = rules::to_take(set, open.pending, *waiting);
+    let last = skips_at(out, b.end, rules::to_skip(set, open.pending, *waiting), t);
     let f = steps_c_to_f(
         out,
         last,
         open,
         t,
         new,
+        late,
         present,
         priority,
         columns,
         release,
         blocked,
+        waiting,
+        waits,
     );
     let held = rules::held_over(open, new);
     let registers = rules::begun(f.registers, t, held, priority, columns);
@@ -125,9 +134,11 @@ pub fn advance<'a>(
     columns: &'a Columns,
     release: &mut [u64; 32],
     blocked: &mut [u8; 32],
+    waiting: &mut u32,
+    waits: &mut [u64; 32],
     out: &mut [u8],
 ) -> Advanced
-    ensures { λ x. ⌜ Advances (now (rest .entry)) r present (now (priority .entry)) (now (columns .entry)) (arrays (now (release .entry)) (now (blocked .entry))) (now (out .entry)) x (arrays (now (release .exit)) (now (blocked .exit))) (now (out .exit)) ⌝ }
+    ensures { λ x. ⌜ Advances (now (rest .entry)) r present (now (priority .entry)) (now (columns .entry)) (arrays (now (release .entry)) (now (blocked .entry))) (waiting-releases (now (waiting .entry)) (now (waits .entry))) (now (out .entry)) x (arrays (now (release .exit)) (now (blocked .exit))) (waiting-releases (now (waiting .exit)) (now (waits .exit))) (now (out .exit)) ⌝ }
 {
     let time = next_tick(rest, r);
     if time == u64::MAX {
@@ -149,6 +160,8 @@ pub fn advance<'a>(
         columns,
         release,
         blocked,
+        waiting,
+        waits,
     );
     let registers = x.registers;
     Advanced {

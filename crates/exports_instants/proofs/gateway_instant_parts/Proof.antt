@@ -23,9 +23,12 @@ returns : tie.Need-returns
 unfolding state-in
 returns c =
     let s = c .before .before .before .before .before .before .before .before .before .before .args in
-    let st = stored (s .times .now) (s .sets .now) (s .codes .now) (s .priority .now) (s .columns .now) (s .release .now) (s .blocked .now) in
+    let st = stored (s .times .now) (s .sets .now) (s .codes .now) (s .priority .now) (s .columns .now) (s .release .now) (s .blocked .now) (s .waits .now) in
     let n = c .before .refusal .ensures (kept st) refl (sym (c .before .before .before .clock-in .ensures)) (ap phase-in (sym (c .before .before .before .before .before .before .registers-in .ensures))) in
     refused-at st (s .time) (s .set) (tells (s .flags .now) (s .skipped .now) (s .due .now) (s .jobtimes .now) (s .jobbytes .now) (s .spantimes .now) (s .spanbytes .now)) _ n (c .if1 .taken)
+
+element-copy-out-waiting : tie.Need-element-copy-out-waiting
+element-copy-out-waiting c = search needs
 
 steps-requires : tie.Need-steps-requires
 steps-requires c κs = search needs
@@ -42,14 +45,16 @@ put-due-requires c κs = search needs
 returns-2 : tie.Need-returns-2
 unfolding state-in
 returns-2 c =
-    let s = c .before .before .before .before .before .before .before .before .before .before .before .before .before .before .before .before .before .before .before .before .before .before .before .before .before .before .args in
-    let st = stored (s .times .now) (s .sets .now) (s .codes .now) (s .priority .now) (s .columns .now) (s .release .now) (s .blocked .now) in
-    let read = c .before .before .before .before .before .before .before .before .before .before .before .before .before .before .before .before .before .before .before .before .before .before .registers-in in
-    let n = c .before .before .before .before .before .before .before .before .before .before .before .before .before .before .before .before .before .refusal .ensures (kept st) refl (sym (c .before .before .before .before .before .before .before .before .before .before .before .before .before .before .before .before .before .before .before .clock-in .ensures)) (ap phase-in (sym (read .ensures))) in
-    let left = c .before .before .before .before .before .before .before .before .steps in
+    let left = c .before .before .before .before .before .before .before .before in
+    let served = left .before .before .before .before .before .before .before .before .before .before .before in
+    let clock = served .before .before .before in
+    let read = clock .before .before .before in
+    let s = read .before .before .before .before .args in
+    let st = stored (s .times .now) (s .sets .now) (s .codes .now) (s .priority .now) (s .columns .now) (s .release .now) (s .blocked .now) (s .waits .now) in
+    let n = served .before .refusal .ensures (kept st) refl (sym (clock .clock-in .ensures)) (ap phase-in (sym (read .registers-in .ensures))) in
     let put = c .before .before .before .before .put-registers in
     let due = c .before .put-due in
-    instant-at st (s .time) (s .set) (tells (s .flags .now) (s .skipped .now) (s .due .now) (s .jobtimes .now) (s .jobbytes .now) (s .spantimes .now) (s .spanbytes .now)) _ n (c .before .before .before .before .before .before .before .before .before .before .before .before .before .before .before .before .if1 .left) _ (read .ensures) _ _ _ _ (left .ensures (memory-in st) refl refl refl)
+    instant-at st (s .time) (s .set) (tells (s .flags .now) (s .skipped .now) (s .due .now) (s .jobtimes .now) (s .jobbytes .now) (s .spantimes .now) (s .spanbytes .now)) _ n (served .if1 .left) _ (read .registers-in .ensures) _ _ _ _ _ (left .steps .ensures (memory-in st) refl refl refl)
     (put .ensures .0) (put .ensures .1 .0) (put .ensures .1 .1) _ (c .before .before .before .due .ensures) (due .ensures .0) (due .ensures .1)
 
 pub gateway-instant-parts-spec : {M : Type 1} → statement M
@@ -61,6 +66,7 @@ gateway-instant-parts-spec =
     element-copy-out-present
     refusal-requires
     returns
+    element-copy-out-waiting
     steps-requires
     put-registers-requires
     due-requires

@@ -14,14 +14,17 @@ element-copy-out-pending c = search needs
 element-copy-out-present : tie.Need-element-copy-out-present
 element-copy-out-present c = search needs
 
+element-copy-out-waiting : tie.Need-element-copy-out-waiting
+element-copy-out-waiting c = search needs
+
 mark-refusal-requires : tie.Need-mark-refusal-requires
 mark-refusal-requires c κs = search needs
 
 returns : tie.Need-returns
 unfolding state-in
 returns c s =
-    let st = with-sets s (c .before .before .before .before .args .sets .now) in
-    mark-refused st _ _ _ (c .before .mark-refusal .ensures (kept st) refl refl) (c .if1 .taken)
+    let st = with-sets s (c .before .before .before .before .before .args .sets .now) in
+    mark-refused st _ _ _ (c .before .mark-refusal .ensures (kept st) refl refl refl) (c .if1 .taken)
 
 element-copy-out-marked-with : tie.Need-element-copy-out-marked-with
 element-copy-out-marked-with c = search needs
@@ -29,17 +32,17 @@ element-copy-out-marked-with c = search needs
 marked-with-requires : tie.Need-marked-with-requires
 marked-with-requires c κs = search needs
 
-element-copy-out-t10 : tie.Need-element-copy-out-t10
-element-copy-out-t10 c = search needs
+element-copy-out-t11 : tie.Need-element-copy-out-t11
+element-copy-out-t11 c = search needs
 
-element-copy-out-t20 : tie.Need-element-copy-out-t20
-element-copy-out-t20 c = search needs
+element-copy-out-t23 : tie.Need-element-copy-out-t23
+element-copy-out-t23 c = search needs
 
 returns-2 : tie.Need-returns-2
 unfolding state-in
 returns-2 c s =
-    let st = with-sets s (c .before .before .before .before .before .before .before .before .before .args .sets .now) in
-    mark-served st _ _ _ _ (c .before .before .before .before .before .before .mark-refusal .ensures (kept st) refl refl) (c .before .before .before .before .before .if1 .left) (c .before .before .before .marked-with .ensures)
+    let st = with-sets s (c .before .before .before .before .before .before .before .before .before .before .args .sets .now) in
+    mark-served st _ _ _ _ (c .before .before .before .before .before .before .mark-refusal .ensures (kept st) refl refl refl) (c .before .before .before .before .before .if1 .left) (c .before .before .before .marked-with .ensures)
 
 pub gateway-mark-parts-spec : {M : Type 1} → statement M
 gateway-mark-parts-spec =
@@ -47,10 +50,11 @@ gateway-mark-parts-spec =
     (tie.spec
     element-copy-out-pending
     element-copy-out-present
+    element-copy-out-waiting
     mark-refusal-requires
     returns
     element-copy-out-marked-with
     marked-with-requires
-    element-copy-out-t10
-    element-copy-out-t20
+    element-copy-out-t11
+    element-copy-out-t23
     returns-2)

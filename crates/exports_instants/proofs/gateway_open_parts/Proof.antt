@@ -25,7 +25,10 @@ enum-known-refusal-2 : tie.Need-enum-known-refusal-2
 enum-known-refusal-2 c = search needs
 
 returns : tie.Need-returns
-returns c = opened-at _ _ _ (c .before .before .before .before .before .before .before .before .before .before .before .before .«open» .result) _ (c .before .before .before .before .before .before .before .before .before .before .before .before .«open» .ensures) (c .before .before .before .before .before .before .before .before .before .enum-told .given .1) (c .put-state .ensures) (c .before .before .before .before .before .before .before .before .before .before .before .place-of .ensures)
+returns c =
+    let told = c .before .before .before .before .before .before .before .before .before .before in
+    let opens = told .before .before .before .«open» in
+    opened-at _ _ _ (opens .result) _ (opens .ensures) (told .enum-told .given .1) (c .put-state .ensures) (told .before .before .place-of .ensures)
 
 returns-2 : tie.Need-returns-2
 returns-2 c =

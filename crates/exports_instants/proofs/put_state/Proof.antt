@@ -20,12 +20,12 @@ put-registers-requires-2 c κs = search needs
 
 returns : tie.Need-returns
 returns c =
-    let d = c .before .before .before .before .before .before .before .before .before .before .args .d in
+    let d = c .before .before .before .before .before .before .before .before .before .before .before .args .d in
     kept-put (d .registers) (memory-of d) 0 0 (c .put-registers .ensures .0) (c .put-registers .ensures .1 .0) (c .put-registers .ensures .1 .1) (sym (c .before .before .before .before .enum-told .given .1))
 
 returns-2 : tie.Need-returns-2
 returns-2 c =
-    let d = c .before .before .before .before .before .before .before .before .before .before .before .args .d in
+    let d = c .before .before .before .before .before .before .before .before .before .before .before .before .args .d in
     kept-put (d .registers) (memory-of d) _ 1 (c .put-registers2 .ensures .0) (c .put-registers2 .ensures .1 .0) (c .put-registers2 .ensures .1 .1) (sym (c .before .before .before .before .before .clock .given .1))
 
 pub put-state-spec : {M : Type 1} → statement M

@@ -7,7 +7,7 @@ use lib.ListN.{length, length-drop}
 use lib.Seq.{length-take-le}
 use Rattle.words.proofs.Laws.{rest-whole}
 use Rattle.rules.specs.declared.Clock.the-variants.{Unset}
-use Rattle.rules.specs.Registers.{arrays}
+use Rattle.rules.specs.Registers.{arrays, waits as waiting-releases}
 use Rattle.run.proofs.Advancing.{read-most, size-most, same-size}
 use borrow.Author.Needs.{needs}
 use Rattle.gateway.proofs.print_run.Statement.{statement}
@@ -20,10 +20,10 @@ use Rattle.rules.proofs.empty.Reads as empty-reads
 use Rattle.run.proofs.advance.Reads as advance-reads
 
 abbrev Inv-loop : tie.InvT-loop
-Inv-loop input out₀ part release₀ blocked₀ entries₀ r₀ at₀ len₀ left₀ out release blocked entries r at len left = (len ≤ length out) × (at ≤ length input) × (length out ≡ length out₀) × (length entries ≡ 371) × (length input ≤ 2 ^ 64 - 1)
+Inv-loop input out₀ part release₀ blocked₀ waiting₀ waits₀ entries₀ r₀ at₀ len₀ left₀ out release blocked waiting waits entries r at len left = (len ≤ length out) × (at ≤ length input) × (length out ≡ length out₀) × (length entries ≡ 371) × (length input ≤ 2 ^ 64 - 1)
 
 abbrev μ-loop : tie.MeasureT-loop
-μ-loop input out₀ part release₀ blocked₀ entries₀ r₀ at₀ len₀ left₀ out release blocked entries r at len left = left
+μ-loop input out₀ part release₀ blocked₀ waiting₀ waits₀ entries₀ r₀ at₀ len₀ left₀ out release blocked waiting waits entries r at len left = left
 
 empty-requires : tie.Need-empty-requires Inv-loop μ-loop
 empty-requires c κs = search needs
@@ -47,31 +47,31 @@ advance-requires : tie.Need-advance-requires Inv-loop μ-loop
 advance-requires c κs = search needs
 
 array-share-prefix-entries : tie.Need-array-share-prefix-entries Inv-loop μ-loop
-array-share-prefix-entries c = omega (arith, size-most (c .before .before .before .advance .ensures (record { table = c .before .before .before .before .before .before .before .before .before .before .before .before .before .before .before .before .args .t2 .table; clock = Unset; arrays = arrays (c .before .before .before .before .before .before .before .before .before .before .before .before .loop .release) (c .before .before .before .before .before .before .before .before .before .before .before .before .loop .blocked) }) refl refl refl))
+array-share-prefix-entries c = omega (arith, size-most (c .before .before .before .advance .ensures (record { table = c .before .before .before .before .before .before .before .before .before .before .before .before .before .before .before .before .before .before .args .t2 .table; clock = Unset; arrays = arrays (c .before .before .before .before .before .before .before .before .before .before .before .before .before .before .loop .release) (c .before .before .before .before .before .before .before .before .before .before .before .before .before .before .loop .blocked); waiting = waiting-releases (c .before .before .before .before .before .before .before .before .before .before .before .before .before .before .loop .waiting) (c .before .before .before .before .before .before .before .before .before .before .before .before .before .before .loop .waits) }) refl refl refl))
 
 slice-aggregate-gather : tie.Need-slice-aggregate-gather Inv-loop μ-loop
-slice-aggregate-gather c = sym (length-take-le _ _ (omega (arith, size-most (c .before .before .before .before .advance .ensures (record { table = c .before .before .before .before .before .before .before .before .before .before .before .before .before .before .before .before .before .args .t2 .table; clock = Unset; arrays = arrays (c .before .before .before .before .before .before .before .before .before .before .before .before .before .loop .release) (c .before .before .before .before .before .before .before .before .before .before .before .before .before .loop .blocked) }) refl refl refl))))
+slice-aggregate-gather c = sym (length-take-le _ _ (omega (arith, size-most (c .before .before .before .before .advance .ensures (record { table = c .before .before .before .before .before .before .before .before .before .before .before .before .before .before .before .before .before .before .before .args .t2 .table; clock = Unset; arrays = arrays (c .before .before .before .before .before .before .before .before .before .before .before .before .before .before .before .loop .release) (c .before .before .before .before .before .before .before .before .before .before .before .before .before .before .before .loop .blocked); waiting = waiting-releases (c .before .before .before .before .before .before .before .before .before .before .before .before .before .before .before .loop .waiting) (c .before .before .before .before .before .before .before .before .before .before .before .before .before .before .before .loop .waits) }) refl refl refl))))
 
 gather-requires : tie.Need-gather-requires Inv-loop μ-loop
-gather-requires c κs = c .before .before .before .before .before .before .before .before .before .before .before .before .before .before .loop .inv .0
+gather-requires c κs = c .before .before .before .before .before .before .before .before .before .before .before .before .before .before .before .before .loop .inv .0
 
 add-at : tie.Need-add-at Inv-loop μ-loop
-add-at c = omega (arith, c .before .before .before .before .before .before .before .before .before .before .before .before .before .before .before .before .before .before .before .before .before .loop .inv .4, c .before .before .before .before .before .before .before .before .before .before .before .before .before .before .before .before .before .before .before .before .before .loop .inv .1, read-most (c .before .before .before .before .before .before .before .before .before .before .before .before .advance .ensures (record { table = c .before .before .before .before .before .before .before .before .before .before .before .before .before .before .before .before .before .before .before .before .before .before .before .before .before .args .t2 .table; clock = Unset; arrays = arrays (c .before .before .before .before .before .before .before .before .before .before .before .before .before .before .before .before .before .before .before .before .before .loop .release) (c .before .before .before .before .before .before .before .before .before .before .before .before .before .before .before .before .before .before .before .before .before .loop .blocked) }) refl refl refl), ap length (rest-whole (c .before .before .before .before .before .before .before .before .before .before .before .before .before .before .before .before .before .before .before .before .before .loop .at) (c .before .before .before .before .before .before .before .before .before .before .before .before .before .before .before .before .before .before .before .before .before .before .before .before .before .args .input .now)), length-drop (c .before .before .before .before .before .before .before .before .before .before .before .before .before .before .before .before .before .before .before .before .before .loop .at) (c .before .before .before .before .before .before .before .before .before .before .before .before .before .before .before .before .before .before .before .before .before .before .before .before .before .args .input .now))
+add-at c = omega (arith, c .before .before .before .before .before .before .before .before .before .before .before .before .before .before .before .before .before .before .before .before .before .before .before .loop .inv .4, c .before .before .before .before .before .before .before .before .before .before .before .before .before .before .before .before .before .before .before .before .before .before .before .loop .inv .1, read-most (c .before .before .before .before .before .before .before .before .before .before .before .before .advance .ensures (record { table = c .before .before .before .before .before .before .before .before .before .before .before .before .before .before .before .before .before .before .before .before .before .before .before .before .before .before .before .args .t2 .table; clock = Unset; arrays = arrays (c .before .before .before .before .before .before .before .before .before .before .before .before .before .before .before .before .before .before .before .before .before .before .before .loop .release) (c .before .before .before .before .before .before .before .before .before .before .before .before .before .before .before .before .before .before .before .before .before .before .before .loop .blocked); waiting = waiting-releases (c .before .before .before .before .before .before .before .before .before .before .before .before .before .before .before .before .before .before .before .before .before .before .before .loop .waiting) (c .before .before .before .before .before .before .before .before .before .before .before .before .before .before .before .before .before .before .before .before .before .before .before .loop .waits) }) refl refl refl), ap length (rest-whole (c .before .before .before .before .before .before .before .before .before .before .before .before .before .before .before .before .before .before .before .before .before .before .before .loop .at) (c .before .before .before .before .before .before .before .before .before .before .before .before .before .before .before .before .before .before .before .before .before .before .before .before .before .before .before .args .input .now)), length-drop (c .before .before .before .before .before .before .before .before .before .before .before .before .before .before .before .before .before .before .before .before .before .before .before .loop .at) (c .before .before .before .before .before .before .before .before .before .before .before .before .before .before .before .before .before .before .before .before .before .before .before .before .before .before .before .args .input .now))
 
 sub-left : tie.Need-sub-left Inv-loop μ-loop
-sub-left c = omega (arith, c .before .before .before .before .before .before .before .before .before .before .before .before .before .before .before .before .before .before .before .before .loop-test .taken)
+sub-left c = omega (arith, c .before .before .before .before .before .before .before .before .before .before .before .before .before .before .before .before .before .before .before .before .before .before .loop-test .taken)
 
 loop-less : tie.Need-loop-less Inv-loop μ-loop
-loop-less c = omega (arith, c .before .before .before .before .before .before .before .before .before .before .before .before .before .before .before .before .before .before .before .before .loop-test .taken)
+loop-less c = omega (arith, c .before .before .before .before .before .before .before .before .before .before .before .before .before .before .before .before .before .before .before .before .before .before .loop-test .taken)
 
 loop-again : tie.Need-loop-again Inv-loop μ-loop
-loop-again c = (search needs, omega (arith, c .before .before .before .before .before .before .before .before .before .before .before .before .before .before .before .before .before .before .before .before .before .loop .inv .1, read-most (c .before .before .before .before .before .before .before .before .before .before .before .before .advance .ensures (record { table = c .before .before .before .before .before .before .before .before .before .before .before .before .before .before .before .before .before .before .before .before .before .before .before .before .before .args .t2 .table; clock = Unset; arrays = arrays (c .before .before .before .before .before .before .before .before .before .before .before .before .before .before .before .before .before .before .before .before .before .loop .release) (c .before .before .before .before .before .before .before .before .before .before .before .before .before .before .before .before .before .before .before .before .before .loop .blocked) }) refl refl refl), ap length (rest-whole (c .before .before .before .before .before .before .before .before .before .before .before .before .before .before .before .before .before .before .before .before .before .loop .at) (c .before .before .before .before .before .before .before .before .before .before .before .before .before .before .before .before .before .before .before .before .before .before .before .before .before .args .input .now)), length-drop (c .before .before .before .before .before .before .before .before .before .before .before .before .before .before .before .before .before .before .before .before .before .loop .at) (c .before .before .before .before .before .before .before .before .before .before .before .before .before .before .before .before .before .before .before .before .before .before .before .before .before .args .input .now)), c .before .before .before .before .before .out .given ∙ c .before .before .before .before .before .before .before .before .before .before .before .before .before .before .before .before .before .before .before .before .before .loop .inv .2, same-size (c .before .before .before .before .before .before .before .before .before .before .before .before .advance .ensures (record { table = c .before .before .before .before .before .before .before .before .before .before .before .before .before .before .before .before .before .before .before .before .before .before .before .before .before .args .t2 .table; clock = Unset; arrays = arrays (c .before .before .before .before .before .before .before .before .before .before .before .before .before .before .before .before .before .before .before .before .before .loop .release) (c .before .before .before .before .before .before .before .before .before .before .before .before .before .before .before .before .before .before .before .before .before .loop .blocked) }) refl refl refl) ∙ c .before .before .before .before .before .before .before .before .before .before .before .before .before .before .before .before .before .before .before .before .before .loop .inv .3, c .before .before .before .before .before .before .before .before .before .before .before .before .before .before .before .before .before .before .before .before .before .loop .inv .4)
+loop-again c = (search needs, omega (arith, c .before .before .before .before .before .before .before .before .before .before .before .before .before .before .before .before .before .before .before .before .before .before .before .loop .inv .1, read-most (c .before .before .before .before .before .before .before .before .before .before .before .before .advance .ensures (record { table = c .before .before .before .before .before .before .before .before .before .before .before .before .before .before .before .before .before .before .before .before .before .before .before .before .before .before .before .args .t2 .table; clock = Unset; arrays = arrays (c .before .before .before .before .before .before .before .before .before .before .before .before .before .before .before .before .before .before .before .before .before .before .before .loop .release) (c .before .before .before .before .before .before .before .before .before .before .before .before .before .before .before .before .before .before .before .before .before .before .before .loop .blocked); waiting = waiting-releases (c .before .before .before .before .before .before .before .before .before .before .before .before .before .before .before .before .before .before .before .before .before .before .before .loop .waiting) (c .before .before .before .before .before .before .before .before .before .before .before .before .before .before .before .before .before .before .before .before .before .before .before .loop .waits) }) refl refl refl), ap length (rest-whole (c .before .before .before .before .before .before .before .before .before .before .before .before .before .before .before .before .before .before .before .before .before .before .before .loop .at) (c .before .before .before .before .before .before .before .before .before .before .before .before .before .before .before .before .before .before .before .before .before .before .before .before .before .before .before .args .input .now)), length-drop (c .before .before .before .before .before .before .before .before .before .before .before .before .before .before .before .before .before .before .before .before .before .before .before .loop .at) (c .before .before .before .before .before .before .before .before .before .before .before .before .before .before .before .before .before .before .before .before .before .before .before .before .before .before .before .args .input .now)), c .before .before .before .before .before .out .given ∙ c .before .before .before .before .before .before .before .before .before .before .before .before .before .before .before .before .before .before .before .before .before .before .before .loop .inv .2, same-size (c .before .before .before .before .before .before .before .before .before .before .before .before .advance .ensures (record { table = c .before .before .before .before .before .before .before .before .before .before .before .before .before .before .before .before .before .before .before .before .before .before .before .before .before .before .before .args .t2 .table; clock = Unset; arrays = arrays (c .before .before .before .before .before .before .before .before .before .before .before .before .before .before .before .before .before .before .before .before .before .before .before .loop .release) (c .before .before .before .before .before .before .before .before .before .before .before .before .before .before .before .before .before .before .before .before .before .before .before .loop .blocked); waiting = waiting-releases (c .before .before .before .before .before .before .before .before .before .before .before .before .before .before .before .before .before .before .before .before .before .before .before .loop .waiting) (c .before .before .before .before .before .before .before .before .before .before .before .before .before .before .before .before .before .before .before .before .before .before .before .loop .waits) }) refl refl refl) ∙ c .before .before .before .before .before .before .before .before .before .before .before .before .before .before .before .before .before .before .before .before .before .before .before .loop .inv .3, c .before .before .before .before .before .before .before .before .before .before .before .before .before .before .before .before .before .before .before .before .before .before .before .loop .inv .4)
 
 print-requires : tie.Need-print-requires Inv-loop μ-loop
 print-requires c κs = c .before .before .loop .inv .0
 
 same-length : tie.Need-same-length Inv-loop μ-loop
-same-length c = c .before .before .before .out .given ∙ c .before .before .before .before .before .before .before .before .before .before .before .before .before .before .before .before .before .before .before .loop .inv .2
+same-length c = c .before .before .before .out .given ∙ c .before .before .before .before .before .before .before .before .before .before .before .before .before .before .before .before .before .before .before .before .before .loop .inv .2
 
 same-length-2 : tie.Need-same-length-2 Inv-loop μ-loop
 same-length-2 c = c .before .before .before .loop .inv .2

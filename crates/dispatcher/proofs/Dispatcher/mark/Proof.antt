@@ -18,13 +18,13 @@ with-mark-requires c κs = search needs
 returns : tie.Need-returns
 unfolding mark state-in
 returns c =
-    let n = c .before .before .mark-refusal .ensures (state-of (c .before .before .before .args .self)) refl refl in
+    let n = c .before .before .mark-refusal .ensures (state-of (c .before .before .before .args .self)) refl refl refl in
     mark-answered _ _ _ _ (simp (← n, eq-eqb _ _ (c .before .if1 .taken), c .with-mark .ensures)) (λ f. absurd (f (sym n ∙ c .before .if1 .taken)))
 
 returns-2 : tie.Need-returns-2
 unfolding mark state-in
 returns-2 c =
-    let n = c .before .mark-refusal .ensures (state-of (c .before .before .args .self)) refl refl in
+    let n = c .before .mark-refusal .ensures (state-of (c .before .before .args .self)) refl refl refl in
     mark-answered _ _ _ _ (simp (← n, ne-eqb _ _ (c .if1 .left))) (λ f. refl)
 
 pub mark-spec : {M : Type 1} → statement M

@@ -18,7 +18,7 @@ steps-a-to-g-requires c κs = search needs
 returns : tie.Need-returns
 returns c =
     let steps = c .before .before .before in
-    let s = steps .before .before .before .before .before .before .before .before .before .args in
+    let s = steps .before .before .before .before .before .before .before .before .before .before .before .before .args in
     let x = steps .steps-a-to-g .ensures (memory-of (s .t1)) refl refl refl in
     is-served (state-of (s .t1)) (s .t) (s .set) (x .state) (x .occurs)
 

@@ -1,7 +1,7 @@
 -- `dispatcher::instant::steps_c_to_f` meets its contract: steps c to e, and the test of step f on what they leave. Assumes nothing.
 use Rattle.dispatcher.specs.Types.{sym, _∙_}
 use borrow.Author.Needs.{needs}
-use Rattle.rules.specs.Registers.{arrays, with-arrays, with-counts}
+use Rattle.rules.specs.Registers.{arrays, waits, with-kept, with-counts}
 use Rattle.rules.proofs.ClosingTest.{f-stays, f-closes}
 use Rattle.dispatcher.proofs.instant.steps_c_to_f.Statement.{statement}
 use Rattle.dispatcher.proofs.instant.steps_c_to_f.Tie as tie
@@ -33,12 +33,11 @@ returns c m tasks p e =
     let test = promotes .before in
     let chooses = test .before .before in
     let x = chooses .before .steps-c-d in
-    let s = chooses .before .before .before .before .args in
-    let before = with-arrays m (arrays (s .release .now) (s .blocked .now)) in
-    let a = arrays (x .last .1 .1 .1 .1 .0) (x .last .1 .1 .1 .1 .1 .0) in
-    let now = with-arrays m a in
+    let s = chooses .before .before .before .before .before .before .args in
+    let before = with-kept m (arrays (s .release .now) (s .blocked .now)) (waits (s .waiting .now) (s .waits .now)) in
+    let now = with-kept m (arrays (x .last .1 .1 .1 .1 .1 .0) (x .last .1 .1 .1 .1 .1 .1 .0)) (waits (x .last .1 .1 .1 .1 .1 .1 .1 .0) (x .last .1 .1 .1 .1 .1 .1 .1 .1 .0)) in
     let counts = c .before .before .count-blocked in
-    f-closes before (s .t) (s .new) (s .r) a (x .result) (chooses .chosen .result)
+    f-closes before now (s .t) (s .new) (s .late) (s .r) (x .result) (chooses .chosen .result)
     (x .ensures m p) (chooses .chosen .ensures now p e)
     (promotes .promoted .result) (record {
       ends-now = sym (test .before .is-over .ensures) ∙ test .if1 .taken;
@@ -52,11 +51,11 @@ returns-2 : tie.Need-returns-2
 returns-2 c m tasks p e =
     let chooses = c .before .before in
     let x = chooses .before .steps-c-d in
-    let s = chooses .before .before .before .before .args in
-    let before = with-arrays m (arrays (s .release .now) (s .blocked .now)) in
-    let a = arrays (x .last .1 .1 .1 .1 .0) (x .last .1 .1 .1 .1 .1 .0) in
-    f-stays before (s .t) (s .new) (s .r) a (x .result) (chooses .chosen .result)
-    (x .ensures m p) (chooses .chosen .ensures (with-arrays m a) p e)
+    let s = chooses .before .before .before .before .before .before .args in
+    let before = with-kept m (arrays (s .release .now) (s .blocked .now)) (waits (s .waiting .now) (s .waits .now)) in
+    let now = with-kept m (arrays (x .last .1 .1 .1 .1 .1 .0) (x .last .1 .1 .1 .1 .1 .1 .0)) (waits (x .last .1 .1 .1 .1 .1 .1 .1 .0) (x .last .1 .1 .1 .1 .1 .1 .1 .1 .0)) in
+    f-stays before now (s .t) (s .new) (s .late) (s .r) (x .result) (chooses .chosen .result)
+    (x .ensures m p) (chooses .chosen .ensures now p e)
     (sym (c .before .is-over .ensures) ∙ c .if1 .left)
 
 pub steps-c-to-f-spec : {M : Type 1} → statement M

@@ -9,7 +9,7 @@ marked-with-requires c κs = search needs
 
 returns : tie.Need-returns
 unfolding state-in phase-in interval-in
-returns c = simp (c .before .before .before .marked-with .ensures)
+returns c = simp (c .before .before .before .before .marked-with .ensures)
 
 pub with-mark-spec : {M : Type 1} → statement M
 with-mark-spec = tie.close (tie.spec marked-with-requires returns)

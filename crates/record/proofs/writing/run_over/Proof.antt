@@ -7,7 +7,7 @@ use Prim.Native.Nat.{ℕ, _-_, _≤_}
 use native.Mathlib.Omega.{arith}
 use lib.ListN.{length, take, drop}
 use Rattle.sets.proofs.Laws.{clash}
-use Rattle.rules.specs.Registers.{arrays, first-memory}
+use Rattle.rules.specs.Registers.{arrays, waits as waiting-releases, first-memory}
 use Rattle.record.specs.Cursor.{run-bytes, Ran, start}
 use Rattle.record.proofs.Going.{Going, memory-in, cursor-in, rest-same, sets-out, fits, arrives, spent, place-fits, stops, within, grows, moves}
 use borrow.Author.Needs.{needs}
@@ -15,11 +15,11 @@ use Rattle.record.proofs.writing.run_over.Statement.{statement}
 use Rattle.record.proofs.writing.run_over.Tie as tie
 
 abbrev Inv-loop : tie.InvT-loop
-Inv-loop s budget out₀ keep part release₀ blocked₀ r₀ at₀ size₀ left₀ out release blocked r at size left =
-    Going s (part .table) (run-bytes s (cursor-in (first-memory (part .table)) r₀ at₀) budget) out₀ keep (arrays release blocked) r at size left out
+Inv-loop s budget out₀ keep part release₀ blocked₀ waiting₀ waits₀ r₀ at₀ size₀ left₀ out release blocked waiting waits r at size left =
+    Going s (part .table) (run-bytes s (cursor-in (first-memory (part .table)) r₀ at₀) budget) out₀ keep (arrays release blocked) (waiting-releases waiting waits) r at size left out
 
 abbrev μ-loop : tie.MeasureT-loop
-μ-loop s budget out₀ keep part release₀ blocked₀ r₀ at₀ size₀ left₀ out release blocked r at size left = left
+μ-loop s budget out₀ keep part release₀ blocked₀ waiting₀ waits₀ r₀ at₀ size₀ left₀ out release blocked waiting waits r at size left = left
 
 empty-requires : tie.Need-empty-requires Inv-loop μ-loop
 empty-requires c κs = search needs
@@ -38,23 +38,23 @@ part-advance-end c = search needs
 
 sub-advance-2 : tie.Need-sub-advance-2 Inv-loop μ-loop
 sub-advance-2 c =
-    let v = c .before .before .before .before .before .before .before .before .before .loop in
-    let f = c .before .before .before .before .before .before .before .before .before .before .before .before .before in
-    let empty = c .before .before .before .before .before .before .before .before .before .before .empty in
+    let v = c .before .before .before .before .before .before .before .before .before .before .before .loop in
+    let f = c .before .before .before .before .before .before .before .before .before .before .before .before .before .before .before in
+    let empty = c .before .before .before .before .before .before .before .before .before .before .before .before .empty in
     ⊎-elim
     (λ w. rw (w .1) (place-fits (v .inv) (fits (f .args .t2) (empty .result) (empty .ensures) (f .pre)) (w .0 .taken)))
     (λ w. omega (arith, w .1))
-    (c .before .before .before .before .before .before .before .if1 .came)
+    (c .before .before .before .before .before .before .before .before .before .if1 .came)
 
 part-advance-start-2 : tie.Need-part-advance-start-2 Inv-loop μ-loop
 part-advance-start-2 c =
-    let v = c .before .before .before .before .before .before .before .before .before .loop in
-    let f = c .before .before .before .before .before .before .before .before .before .before .before .before .before in
-    let empty = c .before .before .before .before .before .before .before .before .before .before .empty in
+    let v = c .before .before .before .before .before .before .before .before .before .before .before .loop in
+    let f = c .before .before .before .before .before .before .before .before .before .before .before .before .before .before .before in
+    let empty = c .before .before .before .before .before .before .before .before .before .before .before .before .empty in
     ⊎-elim
     (λ w. rw (w .1) (place-fits (v .inv) (fits (f .args .t2) (empty .result) (empty .ensures) (f .pre)) (w .0 .taken)))
     (λ w. omega (arith, w .1))
-    (c .before .before .before .before .before .before .before .if1 .came)
+    (c .before .before .before .before .before .before .before .before .before .if1 .came)
 
 part-advance-end-2 : tie.Need-part-advance-end-2 Inv-loop μ-loop
 part-advance-end-2 c = search needs
@@ -64,31 +64,31 @@ advance-requires c κs = search needs
 
 add-size : tie.Need-add-size Inv-loop μ-loop
 add-size c =
-    let v = c .before .before .before .before .before .before .before .before .before .before .before .before .before .before .before .before .before .loop in
-    let f = c .before .before .before .before .before .before .before .before .before .before .before .before .before .before .before .before .before .before .before .before .before in
-    omega (arith, grows (v .inv) (c .before .before .before .before .before .before .advance .ensures (memory-in (f .args .t2 .table) (v .inv .clock) (arrays (v .release) (v .blocked))) refl refl refl) (c .before .before .before .before .before .before .before .before .before .before .before .before .before .before .before .before .loop-test .taken) (c .before .before .if2 .left))
+    let v = c .before .before .before .before .before .before .before .before .before .before .before .before .before .before .before .before .before .before .before .loop in
+    let f = c .before .before .before .before .before .before .before .before .before .before .before .before .before .before .before .before .before .before .before .before .before .before .before in
+    omega (arith, grows (v .inv) (c .before .before .before .before .before .before .advance .ensures (memory-in (f .args .t2 .table) (v .inv .clock) (arrays (v .release) (v .blocked)) (waiting-releases (v .waiting) (v .waits))) refl refl refl) (c .before .before .before .before .before .before .before .before .before .before .before .before .before .before .before .before .before .before .loop-test .taken) (c .before .before .if2 .left))
 
 add-at : tie.Need-add-at Inv-loop μ-loop
 add-at c =
-    let v = c .before .before .before .before .before .before .before .before .before .before .before .before .before .before .before .before .before .before .loop in
-    let f = c .before .before .before .before .before .before .before .before .before .before .before .before .before .before .before .before .before .before .before .before .before .before in
-    omega (arith, v .inv .served .within, within (v .inv) (c .before .before .before .before .before .before .before .advance .ensures (memory-in (f .args .t2 .table) (v .inv .clock) (arrays (v .release) (v .blocked))) refl refl refl) (c .before .before .before .before .before .before .before .before .before .before .before .before .before .before .before .before .before .loop-test .taken) (c .before .before .before .if2 .left))
+    let v = c .before .before .before .before .before .before .before .before .before .before .before .before .before .before .before .before .before .before .before .before .loop in
+    let f = c .before .before .before .before .before .before .before .before .before .before .before .before .before .before .before .before .before .before .before .before .before .before .before .before in
+    omega (arith, v .inv .served .within, within (v .inv) (c .before .before .before .before .before .before .before .advance .ensures (memory-in (f .args .t2 .table) (v .inv .clock) (arrays (v .release) (v .blocked)) (waiting-releases (v .waiting) (v .waits))) refl refl refl) (c .before .before .before .before .before .before .before .before .before .before .before .before .before .before .before .before .before .before .before .loop-test .taken) (c .before .before .before .if2 .left))
 
 sub-left : tie.Need-sub-left Inv-loop μ-loop
-sub-left c = omega (arith, c .before .before .before .before .before .before .before .before .before .before .before .before .before .before .before .before .before .loop-test .taken)
+sub-left c = omega (arith, c .before .before .before .before .before .before .before .before .before .before .before .before .before .before .before .before .before .before .before .loop-test .taken)
 
 loop-less : tie.Need-loop-less Inv-loop μ-loop
-loop-less c = omega (arith, c .before .before .before .before .before .before .before .before .before .before .before .before .before .before .before .before .before .loop-test .taken)
+loop-less c = omega (arith, c .before .before .before .before .before .before .before .before .before .before .before .before .before .before .before .before .before .before .before .loop-test .taken)
 
 loop-again : tie.Need-loop-again Inv-loop μ-loop
 loop-again c =
-    let v = c .before .before .before .before .before .before .before .before .before .before .before .before .before .before .before .before .before .before .loop in
-    let f = c .before .before .before .before .before .before .before .before .before .before .before .before .before .before .before .before .before .before .before .before .before .before in
-    let empty = c .before .before .before .before .before .before .before .before .before .before .before .before .before .before .before .before .before .before .before .empty in
-    let joined = c .before .before .before .before .before .before .before .before .before .before .before .before .before .before .before .before .if1 in
+    let v = c .before .before .before .before .before .before .before .before .before .before .before .before .before .before .before .before .before .before .before .before .loop in
+    let f = c .before .before .before .before .before .before .before .before .before .before .before .before .before .before .before .before .before .before .before .before .before .before .before .before in
+    let empty = c .before .before .before .before .before .before .before .before .before .before .before .before .before .before .before .before .before .before .before .before .before .empty in
+    let joined = c .before .before .before .before .before .before .before .before .before .before .before .before .before .before .before .before .before .before .if1 in
     let keep = f .args .keep in
-    moves (v .inv) (c .before .before .before .before .before .before .before .advance .ensures (memory-in (f .args .t2 .table) (v .inv .clock) (arrays (v .release) (v .blocked))) refl refl refl)
-    (c .before .before .before .before .before .before .before .before .before .before .before .before .before .before .before .before .before .loop-test .taken) (c .before .before .before .if2 .left) (joined .place) refl refl
+    moves (v .inv) (c .before .before .before .before .before .before .before .advance .ensures (memory-in (f .args .t2 .table) (v .inv .clock) (arrays (v .release) (v .blocked)) (waiting-releases (v .waiting) (v .waits))) refl refl refl)
+    (c .before .before .before .before .before .before .before .before .before .before .before .before .before .before .before .before .before .before .before .loop-test .taken) (c .before .before .before .if2 .left) (joined .place) refl refl
     (λ e. ⊎-elim (λ w. w .1) (λ w. clash keep e (w .0 .left)) (joined .came))
     (λ e. ⊎-elim (λ w. clash keep (w .0 .taken) e) (λ w. w .1) (joined .came))
     (fits (f .args .t2) (empty .result) (empty .ensures) (f .pre))
@@ -101,18 +101,18 @@ returns c = arrives (c .before .before .before .before .before .args .t2) (c .be
 
 same-length-2 : tie.Need-same-length-2 Inv-loop μ-loop
 same-length-2 c =
-    let v = c .before .before .before .before .before .before .before .before .before .before .before .before .before .before .before .loop in
-    let made = c .before .before .before .before .advance .ensures (memory-in (c .before .before .before .before .before .before .before .before .before .before .before .before .before .before .before .before .before .before .before .args .t2 .table) (v .inv .clock) (arrays (v .release) (v .blocked))) refl refl refl in
-    ap length (rest-same (c .before .before .before .before .before .before .before .before .before .before .before .before .before .if1 .place) (v .out) _ (made .ended (c .if2 .taken) .slice-is)) ∙ v .inv .progress .same
+    let v = c .before .before .before .before .before .before .before .before .before .before .before .before .before .before .before .before .before .loop in
+    let made = c .before .before .before .before .advance .ensures (memory-in (c .before .before .before .before .before .before .before .before .before .before .before .before .before .before .before .before .before .before .before .before .before .args .t2 .table) (v .inv .clock) (arrays (v .release) (v .blocked)) (waiting-releases (v .waiting) (v .waits))) refl refl refl in
+    ap length (rest-same (c .before .before .before .before .before .before .before .before .before .before .before .before .before .before .before .if1 .place) (v .out) _ (made .ended (c .if2 .taken) .slice-is)) ∙ v .inv .progress .same
 
 returns-2 : tie.Need-returns-2 Inv-loop μ-loop
 returns-2 c =
-    let v = c .before .before .before .before .before .before .before .before .before .before .before .before .before .before .before .loop in
-    let f = c .before .before .before .before .before .before .before .before .before .before .before .before .before .before .before .before .before .before .before in
-    let empty = c .before .before .before .before .before .before .before .before .before .before .before .before .before .before .before .before .empty in
-    let place = c .before .before .before .before .before .before .before .before .before .before .before .before .before .if1 .place in
+    let v = c .before .before .before .before .before .before .before .before .before .before .before .before .before .before .before .before .before .loop in
+    let f = c .before .before .before .before .before .before .before .before .before .before .before .before .before .before .before .before .before .before .before .before .before in
+    let empty = c .before .before .before .before .before .before .before .before .before .before .before .before .before .before .before .before .before .before .empty in
+    let place = c .before .before .before .before .before .before .before .before .before .before .before .before .before .before .before .if1 .place in
     let x = c .before .before .before .before .advance in
-    let made = x .ensures (memory-in (f .args .t2 .table) (v .inv .clock) (arrays (v .release) (v .blocked))) refl refl refl in
+    let made = x .ensures (memory-in (f .args .t2 .table) (v .inv .clock) (arrays (v .release) (v .blocked)) (waiting-releases (v .waiting) (v .waits))) refl refl refl in
     subst (λ (y : List ℕ). Ran (f .args .s .now) (start (f .args .t2)) (f .args .budget) (f .args .out .now) (f .args .keep) (v .size) y)
     (sym (rest-same place (v .out) _ (made .ended (c .if2 .taken) .slice-is)))
     (arrives (f .args .t2) (empty .result) (empty .ensures) (stops (v .inv) made (c .if2 .taken)))

@@ -17,9 +17,9 @@ union-requires-3 : tie.Need-union-requires-3
 union-requires-3 c κs = search needs
 
 returns : tie.Need-returns
-returns c m t =
+returns c m t late =
     let a = c .before .before .before .before .args in
-    taken-with m (a .r) t (a .new) (c .before .before .before .union .result) (c .before .before .union2 .result) (c .before .intersection .result) (c .union3 .result)
+    taken-with m (a .r) t (a .new) late (c .before .before .before .union .result) (c .before .before .union2 .result) (c .before .intersection .result) (c .union3 .result)
     (c .before .before .before .union .ensures) (c .before .before .union2 .ensures) (c .before .intersection .ensures) (c .union3 .ensures)
 
 pub taken-spec : {M : Type 1} → statement M

@@ -4,7 +4,7 @@ use native.Mathlib.Omega.{arith}
 use Prim.Native.Nat.{ℕ}
 use mathlib.Core.List.{List}
 use Rattle.rules.specs.Instant.{at-g, occurred}
-use Rattle.rules.specs.Registers.{arrays, with-arrays, at-tick, state-in}
+use Rattle.rules.specs.Registers.{arrays, waits, with-kept, at-tick, state-in}
 use Rattle.run.specs.Putting.{moment-entries, Puts}
 use borrow.Author.Needs.{needs}
 use Rattle.run.proofs.instant.advance.Statement.{statement}
@@ -22,7 +22,7 @@ returns : tie.Need-returns
 returns c m tasks p e =
     record {
       time-is = c .before .next-tick .ensures;
-      ended = λ h. record { registers-are = refl; arrays-are = refl; none-read = refl; none-put = refl; slice-is = refl };
+      ended = λ h. record { registers-are = refl; memory-is = refl; none-read = refl; none-put = refl; slice-is = refl };
       made = λ h. absurd (h (c .if1 .taken));
     }
 
@@ -38,20 +38,20 @@ same-length c = search needs
 returns-2 : tie.Need-returns-2
 returns-2 c m tasks p e =
     let x = c .before .before .before .steps-a-to-g in
-    let gather = c .before .before .before .before .before .before .before .gather in
-    let next = c .before .before .before .before .before .before .before .before .before .next-tick in
-    let s = c .before .before .before .before .before .before .before .before .before .before .before .before .args in
+    let gather = c .before .before .before .before .before .before .before .before .before .gather in
+    let next = c .before .before .before .before .before .before .before .before .before .before .before .next-tick in
+    let s = c .before .before .before .before .before .before .before .before .before .before .before .before .before .before .args in
     let g = gather .ensures in
     let made = x .ensures m tasks p e in
     let t = next .result in
-    let at = with-arrays m (arrays (s .release .now) (s .blocked .now)) in
-    let after = arrays (x .last .1 .1 .1 .1 .1 .1 .1 .0) (x .last .1 .1 .1 .1 .1 .1 .1 .1 .0) in
+    let at = with-kept m (arrays (s .release .now) (s .blocked .now)) (waits (s .waiting .now) (s .waits .now)) in
+    let after = with-kept m (arrays (x .last .1 .1 .1 .1 .1 .1 .1 .0) (x .last .1 .1 .1 .1 .1 .1 .1 .1 .0)) (waits (x .last .1 .1 .1 .1 .1 .1 .1 .1 .1 .0) (x .last .1 .1 .1 .1 .1 .1 .1 .1 .1 .1 .0)) in
     record {
       time-is = next .ensures;
-      ended = λ h. absurd (c .before .before .before .before .before .before .before .before .if1 .left h);
+      ended = λ h. absurd (c .before .before .before .before .before .before .before .before .before .before .if1 .left h);
       made = λ h. record {
         gathered = (gather .result, refl, g);
-        state = subst (λ (set : ℕ). state-in (with-arrays (at-tick at t) after) (x .result .registers) ≡ at-g (state-in at (s .r)) t set) (g .set-is) (made .state);
+        state = subst (λ (set : ℕ). state-in (at-tick after t) (x .result .registers) ≡ at-g (state-in at (s .r)) t set) (g .set-is) (made .state);
         puts = subst (λ (set : ℕ). Puts 0 (moment-entries (record { time = t; occurred = occurred (state-in at (s .r)) t set })) (s .out .now) (x .result .end) (x .last .0)) (g .set-is) (made .puts);
       };
     }

@@ -1,6 +1,6 @@
 -- `run::steps_c_to_f` meets its contract: the releases are taken, and the interval that ends is put. Assumes nothing.
 use mathlib.Core.Path.{sym, _∙_}
-use Rattle.rules.specs.Registers.{arrays, with-arrays, with-counts}
+use Rattle.rules.specs.Registers.{arrays, waits, with-kept, with-counts}
 use Rattle.rules.proofs.ClosingTest.{f-stays, f-closes}
 use Rattle.run.proofs.Stages.{f-none, f-span}
 use borrow.Author.Needs.{needs}
@@ -42,12 +42,11 @@ returns c m tasks p e =
     let test = promotes .before in
     let chooses = test .before .before in
     let x = chooses .before .steps-c-d in
-    let s = chooses .before .before .before .before .before .args in
-    let before = with-arrays m (arrays (s .release .now) (s .blocked .now)) in
-    let a = arrays (x .last .1 .1 .1 .1 .0) (x .last .1 .1 .1 .1 .1 .0) in
-    let now = with-arrays m a in
+    let s = chooses .before .before .before .before .before .before .before .args in
+    let before = with-kept m (arrays (s .release .now) (s .blocked .now)) (waits (s .waiting .now) (s .waits .now)) in
+    let now = with-kept m (arrays (x .last .1 .1 .1 .1 .1 .0) (x .last .1 .1 .1 .1 .1 .1 .0)) (waits (x .last .1 .1 .1 .1 .1 .1 .1 .0) (x .last .1 .1 .1 .1 .1 .1 .1 .1 .0)) in
     let after = counts .last .1 .1 .1 .0 in
-    let ends = f-closes before (s .t) (s .new) (s .r) a (x .result) (chooses .chosen .result)
+    let ends = f-closes before now (s .t) (s .new) (s .late) (s .r) (x .result) (chooses .chosen .result)
     (x .ensures m p) (chooses .chosen .ensures now p e)
     (promotes .promoted .result) (record {
       ends-now = sym (test .before .is-over .ensures) ∙ test .if1 .taken;
@@ -56,19 +55,19 @@ returns c m tasks p e =
       closed-is = c .close .ensures (with-counts now after);
       entry-is = put .before .interval-entry .ensures;
     }) in
-    f-span before (s .t) (s .new) (s .r) (s .at) (s .out .now) (arrays (a .release) after)
+    f-span before (with-counts now after) (s .t) (s .new) (s .late) (s .r) (s .at) (s .out .now)
     (c .close .result) (put .before .interval-entry .result) ends (put .interval-at .result) (put .interval-at .last .0) (put .interval-at .ensures)
 
 returns-2 : tie.Need-returns-2
 returns-2 c m tasks p e =
     let chooses = c .before .before in
     let x = chooses .before .steps-c-d in
-    let s = chooses .before .before .before .before .before .args in
-    let before = with-arrays m (arrays (s .release .now) (s .blocked .now)) in
-    let a = arrays (x .last .1 .1 .1 .1 .0) (x .last .1 .1 .1 .1 .1 .0) in
-    f-none before (s .t) (s .new) (s .r) (s .at) (s .out .now) a (chooses .chosen .result)
-    (f-stays before (s .t) (s .new) (s .r) a (x .result) (chooses .chosen .result)
-    (x .ensures m p) (chooses .chosen .ensures (with-arrays m a) p e)
+    let s = chooses .before .before .before .before .before .before .before .args in
+    let before = with-kept m (arrays (s .release .now) (s .blocked .now)) (waits (s .waiting .now) (s .waits .now)) in
+    let now = with-kept m (arrays (x .last .1 .1 .1 .1 .1 .0) (x .last .1 .1 .1 .1 .1 .1 .0)) (waits (x .last .1 .1 .1 .1 .1 .1 .1 .0) (x .last .1 .1 .1 .1 .1 .1 .1 .1 .0)) in
+    f-none before now (s .t) (s .new) (s .late) (s .r) (s .at) (s .out .now) (chooses .chosen .result)
+    (f-stays before now (s .t) (s .new) (s .late) (s .r) (x .result) (chooses .chosen .result)
+    (x .ensures m p) (chooses .chosen .ensures now p e)
     (sym (c .before .is-over .ensures) ∙ c .if1 .left))
 
 pub steps-c-to-f-spec : {M : Type 1} → statement M
