@@ -120,11 +120,6 @@ module _ (n : ℕ) where
   Alone last b [] = b ≡ last
   Alone last b (e ∷ es) = (defers-it e ≡ true → b ≡ false) × Alone last (waits-by b e) es
 
-  alone-in : (es : List Event) (last b : Bool) → Alone last b es → waits-in b es ≡ last
-  unfolding Alone after
-  alone-in [] last b h = h
-  alone-in (e ∷ es) last b h = alone-in es last (waits-by b e) (h .1)
-
   -- at some event
   alone-at : (before : List Event) (e : Event) (es : List Event) (last b : Bool) → Alone last b (before ++ (e ∷ es)) → Alone last (waits-in b before) (e ∷ es)
   unfolding Alone after
@@ -266,19 +261,7 @@ alone n small d cs =
     (λ d m e h g k. k)
     cs d
 
-pub waiting-same : (n : ℕ) → n < 32 → (d : State) (cs : List Call) → waits-in n (member n (d .waiting .tasks)) (history d cs) ≡ member n (after-calls d cs .waiting .tasks)
-waiting-same n small d cs = alone-in n (history d cs) (member n (after-calls d cs .waiting .tasks)) (member n (d .waiting .tasks)) (alone n small d cs)
-
--- each release that is set waiting is set where none of its task waits
-pub none-beside : (n : ℕ) → n < 32 → (d : State) (cs : List Call) (before after : List Event) (t : ℕ) → history d cs ≡ before ++ (Defers n t ∷ after)
-    → waits-in n (member n (d .waiting .tasks)) before ≡ false
-unfolding Alone
-none-beside n small d cs before after t e =
-    let last : Bool = member n (after-calls d cs .waiting .tasks) in
-    let b : Bool = member n (d .waiting .tasks) in
-    alone-at n before (Defers n t) after last b (subst (Alone n last b) e (alone n small d cs)) .0 (same-task n)
-
--- and where nothing waits after the calls it is taken later
+-- a release that is set waiting, where nothing waits after the calls, is taken later
 pub taken-later : (d : State) (calls : List Call) → after-calls d calls .waiting .tasks ≡ 0 → (before after : List Event) (n t : ℕ) → n < 32
     → history d calls ≡ before ++ (Defers n t ∷ after)
     → (between later : List Event) × (tick : ℕ) × (marked : Bool) × (after ≡ between ++ (Takes n tick marked ∷ later)) × (taking n between ≡ Never) × (deferring n between ≡ Never)

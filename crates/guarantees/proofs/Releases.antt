@@ -121,9 +121,6 @@ module _ (d : State) (set k : ℕ) where
   unfolding deferred
   deferred-task h = member-task k (deferred d set) (difference-small (intersection set (found-pending d)) (found-waiting d)) h
 
-  pub waits-task : member k (waits-after d set) ≡ true → k < 32
-  waits-task h = member-task k (waits-after d set) (union-small (difference (d .waiting .tasks) (taken d set)) (deferred d set)) h
-
   -- ---- what a member says
 
   -- a task whose release is taken has no pending job
@@ -152,15 +149,6 @@ module _ (d : State) (set k : ℕ) where
       go true w false e = e
       go false w true e = refl
       go false w false e = e
-
-  pub waits-from : member k (waits-after d set) ≡ true → (member k (d .waiting .tasks) ≡ true) ⊎ (member k set ≡ true)
-  waits-from h = go (member k (d .jobs .pending)) (member k (d .waiting .tasks)) (member k set) (sym (waits-member d set k (waits-task h)) ∙ h)
-    where
-      go : (p w s : Bool) → is-waiting p w s ≡ true → (w ≡ true) ⊎ (s ≡ true)
-      go true true s e = inl refl
-      go true false s e = inr e
-      go false true s e = inl refl
-      go false false s e = absurd (false≢true e)
 
 -- what waits after step c waits behind a job that is then pending: for any state before it
 pub waits-behind : (d : State) (set : ℕ) → Sub (waits-after d set) (union (d .jobs .pending) (taken d set))
