@@ -7,6 +7,7 @@ compares priorities goes through `highest` and `is_higher`.
 from dataclasses import dataclass, field, replace
 from typing import NamedTuple, Optional
 
+from sim import notes
 from sim.entries import Refused
 from sim.table import Task, read_table
 
@@ -44,6 +45,7 @@ class Phase:
 
 @dataclass(eq=False)
 class Interval:
+    number: int  # from 1, in the order in which they begin
     begin: int
     half: int
     executed: Optional[Job] = None
@@ -120,6 +122,9 @@ class Dispatcher:
     promoted: Optional[Job] = None
     executed: Optional[Job] = None  # to be copied out
 
+    begun: int = 0  # how many intervals
+    notes: Optional[list] = None  # where there is a list, what each step decided is noted in it (sim/notes.py); nothing goes by it
+
     @classmethod
     def open(cls, data):
         """Open from the task entries alone."""
@@ -188,10 +193,13 @@ class Dispatcher:
                 answer.job_done = self._complete(ended.job, now)
             else:
                 interval.fate = COPY_IN_DONE
+                self._note(notes.CopiedIn(now, ended.job))
         if interval.processor is not None and interval.processor.end == now:
             ended, interval.processor = interval.processor, None
             if ended.name == COPY_IN:
                 self._begin_execution(ended.job, now)
+            else:
+                self._note(notes.Stopped(now, ended.job))
 
     def _step_b(self, now, answer):
         """b. The open interval ends if both units are through with it (R6)."""
@@ -213,8 +221,10 @@ class Dispatcher:
                 taken.append(self._take(number, now))
             elif number not in self.waiting:
                 self.waiting[number] = now
+                self._note(notes.Waits(now, number, self.pending[number]))
             else:
                 answer.skipped |= 1 << number
+                self._note(notes.Skipped(now, number, self.waiting[number]))
         return taken
 
     def _step_d(self, taken):
@@ -223,10 +233,12 @@ class Dispatcher:
         if interval is None or interval.chosen is None or interval.fate not in GIVES_WAY:
             return
         victim = interval.chosen
-        if any(job.task.mark and is_higher(job, victim) for job in taken):
+        winner = highest(job for job in taken if job.task.mark and is_higher(job, victim))
+        if winner is not None:
             interval.engine = None
             interval.fate = GIVES_WAY[interval.fate]
             self.ready.add(victim)
+            self._note(notes.GaveWay(self.last, victim, winner, interval.fate))
 
     def _step_e(self, now):
         """e. A free engine's choice that has not been made in the open interval is made (R2)."""
@@ -246,7 +258,9 @@ class Dispatcher:
         if self.interval is not None or not work:
             return
         self.half = 1 - self.half
-        self.interval = Interval(begin=now, half=self.half)
+        self.begun += 1
+        self.interval = Interval(self.begun, begin=now, half=self.half)
+        self._note(notes.Began(now, self.interval))
         self._begin_engine(now)
         self._begin_processor(now)
 
@@ -254,14 +268,17 @@ class Dispatcher:
 
     def _complete(self, job, now):
         del self.pending[job.task.number]
+        self._note(notes.Done(now, job))
         return JobDone(job.task.number, job.release, job.start, now, job.blocked)
 
     def _begin_execution(self, job, now):
         job.start = now
+        self._note(notes.Started(now, job))
         self.interval.processor = Phase(EXECUTION, job, now + job.task.execution)
 
     def _take(self, number, release):
         job = Job(self.table[number], release)
+        self._note(notes.Taken(self.last, job, self.interval))
         self.pending[number] = job
         self.ready.add(job)
         self.arrivals.add(job)
@@ -272,6 +289,7 @@ class Dispatcher:
         interval = self.interval
         interval.choice_made = True
         job = highest(self.ready)
+        self._note(notes.Chose(now, job, interval))
         if job is not None:
             self.ready.remove(job)
             interval.chosen = job
@@ -313,6 +331,7 @@ class Dispatcher:
         else:
             self.promoted = self._promote()
         self.arrivals = set()
+        self._note(notes.Ended(now, interval, self.promoted))
         return IntervalClosed(interval.begin, now, interval.half, number_of(interval.executed), interval.work,
                               number_of(interval.copied_out), number_of(interval.chosen), interval.fate,
                               number_of(self.promoted))
@@ -334,3 +353,7 @@ class Dispatcher:
         for job in self.pending.values():
             if job.start is None and is_higher(job, interval.executed):
                 job.blocked += 1
+
+    def _note(self, note):
+        if self.notes is not None:
+            self.notes.append(note)

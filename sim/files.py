@@ -44,12 +44,12 @@ def released_sets(releases):
     return sorted(sets.items())
 
 
-def run(table, releases, kind=Dispatcher):
+def run(table, releases, kind=Dispatcher, notes=None):
     """Feed the releases and all due times by instants until nothing is pending; yield (time, answer).
 
-    The kind of dispatcher is another one where a run by other rules is wanted.
+    The kind of dispatcher is another one where a run by other rules is wanted. What its steps decide goes into a list of notes, if there is one.
     """
-    dispatcher = kind(dict(table))
+    dispatcher = kind(dict(table), notes=notes)
     sets = released_sets(releases)
     at = 0
     while at < len(sets) or dispatcher.due() is not None:
