@@ -21,7 +21,7 @@ try() {
     done
 }
 
-python3 tools/plan.py plans/a.plan >"$inputs/plan_a"
+./gateway input plans/a.plan >"$inputs/plan_a"
 head -c -3 "$inputs/plan_a" >"$inputs/cut"
 : >"$inputs/empty"
 try plan_a "$inputs/plan_a"

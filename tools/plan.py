@@ -1,131 +1,208 @@
-"""Turn a plan file into the bytes of an input.
-
-A plan file has a line for each entry, in the order of the input:
+"""Plan files: the one place that reads them. A plan file has a line for each entry, in the order of the input:
 
     task NUMBER PRIORITY MARK L C U
     release TIME TASK
 
-Blank lines and what stands behind a # do not count. A line that is no entry, or a number that does not fit its field, is named
-with its line number. Whether the entries make an admissible input is for the gateway to say: it refuses by number and place.
+Blank lines and what stands behind a # do not count. Every mistake is found in one reading, in the order in which the gateway looks for them:
+the first that has a number is the gateway's own refusal. Reading stops where no later line can matter: at one release more than there may be.
 """
 
-import argparse
-import io
-import os
-import sys
+from dataclasses import dataclass, field
+from typing import NamedTuple, Optional
 
-if __name__ == "__main__":  # as a program it is found by its path, and the packages beside it are not
-    sys.path.insert(0, os.path.dirname(os.path.dirname(os.path.abspath(__file__))))
-
-from tools import output
-
-# Each entry's kind byte, and the name and width in bytes of each field of its line.
-TASK = (1, (("number", 1), ("priority", 1), ("mark", 1), ("L", 4), ("C", 4), ("U", 4)))
-RELEASE = (2, (("time", 8), ("task", 1)))
-ENTRIES = {"task": TASK, "release": RELEASE}
+from sim.dispatcher import LAST_RELEASE_TIME
+from sim.entries import FIELDS, RELEASE, TASK, encode
+from sim.files import MOST_RELEASES
+from sim.table import LAST_TASK, LENGTH_LIMIT, Task
+from tools.files import lines_of
+from tools.output import Rejected, named, shown
 
 MOST_DIGITS = len(str(2**64 - 1))  # of the widest field
+LONGEST_LINE = 4_096
+MOST_MISTAKES = 1_000  # then the reading stops: a file of some other kind is not read to its end
+
+# Each line's first word, its entry's kind, and the names of its fields, as the line has them.
+SHAPES = {"task": (TASK, ("number", "priority", "mark", "L", "C", "U")), "release": (RELEASE, ("time", "task"))}
+
+# The fields of an entry whose line has them in another order, as the entry has them.
+BODY_ORDER = {RELEASE: ("task", "time")}
 
 
-class BadLine(Exception):
-    """A line that cannot be turned into an entry, with the reason."""
+class Mistake(NamedTuple):
+    line: Optional[int]
+    number: Optional[int]  # of the refusal; None where the line is no entry
+    text: str
+
+    def __str__(self):
+        where = "" if self.line is None else f"line {self.line}: "
+        return f"{where}{self.text}" + ("" if self.number is None else f" (refusal {self.number})")
 
 
-def field(name, width, word):
-    """One field's bytes, lowest first."""
+class Entry(NamedTuple):
+    line: int
+    kind: int
+    values: dict  # by the names of the line's fields
+    data: bytes
+    text: str  # the line without comment and needless blanks
+
+
+class NoEntry(Exception):
+    """Why a line is none."""
+
+
+def number_in(word, name, width):
+    """One field's value."""
     if not (word.isascii() and word.isdigit()):
-        raise BadLine(f"{name} is '{word}', not a whole number")
+        raise NoEntry(f"{name} is '{shown(word)}', not a whole number")
     if len(word) > MOST_DIGITS:  # Python itself takes no number of some thousand digits
-        raise BadLine(f"{name} has {len(word)} digits, over {MOST_DIGITS}")
-    value = int(word)
-    if value >= 256**width:
-        raise BadLine(f"{name} is {value}, over {256**width - 1}")
-    return value.to_bytes(width, "little")
+        raise NoEntry(f"{name} has {len(word)} digits, over {MOST_DIGITS}")
+    if int(word) >= 256**width:
+        raise NoEntry(f"{name} is {int(word)}, over {256**width - 1}")
+    return int(word)
 
 
-def entry(words):
-    """The bytes of one line's entry."""
-    if words[0] not in ENTRIES:
-        raise BadLine(f"'{words[0]}' is neither 'task' nor 'release'")
-    kind, fields = ENTRIES[words[0]]
-    if len(words) != len(fields) + 1:
-        names = " ".join(name for name, _ in fields)
-        raise BadLine(f"'{words[0]}' takes {len(fields)} numbers ({names}), and here are {len(words) - 1}")
-    parts = [field(name, width, word) for (name, width), word in zip(fields, words[1:])]
-    if kind == 2:  # the entry has the task before the time
-        parts.reverse()
-    return bytes([kind]) + b"".join(parts)
+def entry(line, words):
+    """The entry of one line's words."""
+    if words[0] not in SHAPES:
+        raise NoEntry(f"'{shown(words[0])}' is neither 'task' nor 'release'")
+    kind, names = SHAPES[words[0]]
+    if len(words) != len(names) + 1:
+        raise NoEntry(f"'{words[0]}' takes {len(names)} numbers ({' '.join(names)}), and here are {len(words) - 1}")
+    body = BODY_ORDER.get(kind, names)
+    widths = dict(zip(body, FIELDS[kind]))
+    values = {name: number_in(word, name, widths[name]) for name, word in zip(names, words[1:])}
+    return Entry(line, kind, values, encode(kind, *(values[name] for name in body)), " ".join(words))
 
 
-def numbered_entries(lines):
-    """Of each line that has an entry its number, its words and its bytes; a BadLine is raised with its line number in front."""
-    for number, line in enumerate(lines, 1):
-        words = line.split("#")[0].split()
-        if words:
-            try:
-                made = entry(words)
-            except BadLine as bad:
-                raise BadLine(f"line {number}: {bad}") from None
-            yield number, words, made
+@dataclass
+class Plan:
+    """What was read of a plan file: its entries, and what is wrong with them."""
+    path: str
+    entries: list = field(default_factory=list)
+    mistakes: list = field(default_factory=list)
+
+    @property
+    def data(self):
+        """The input that the entries make."""
+        return b"".join(each.data for each in self.entries)
+
+    def of_kind(self, kind):
+        return [each for each in self.entries if each.kind == kind]
+
+    @property
+    def tasks(self):
+        return self.of_kind(TASK)
+
+    @property
+    def table(self):
+        """The tasks by number, as the simulator has them."""
+        return {each.values["number"]: Task(*each.values.values()) for each in self.tasks}
+
+    @property
+    def releases(self):
+        """The releases (time, task)."""
+        return [tuple(each.values.values()) for each in self.of_kind(RELEASE)]
+
+    def line_at(self, place):
+        """The number of the line whose entry begins at a place of the input, or None."""
+        at = 0
+        for each in self.entries:
+            if at == place:
+                return each.line
+            at += len(each.data)
+        return None
+
+    def told(self, mistakes=None):
+        """The mistakes, a line each."""
+        return "\n".join(f"{named(self.path)}: {each}" for each in (self.mistakes if mistakes is None else mistakes))
+
+    def unreadable(self):
+        """Whether some line is no entry, so that there is no input."""
+        return any(mistake.number is None and mistake.line is not None for mistake in self.mistakes)
 
 
-def input_bytes(lines):
-    """The input of a plan's lines."""
-    return b"".join(made for _, _, made in numbered_entries(lines))
+# What is wrong with an entry, as (number, text), in the order of the gateway's checks.
+
+class Checks:
+    """The entries so far, as far as the next ones are held against them. Where the tasks alone are wanted, releases are passed over."""
+
+    def __init__(self, tasks_alone):
+        self.tasks_alone = tasks_alone
+        self.numbers, self.priorities = {}, {}  # with the line of each
+        self.first_release, self.last, self.count = None, None, 0
+
+    def of(self, each):
+        if each.kind == TASK:
+            return self.of_task(each)
+        return () if self.tasks_alone else self.of_release(each)
+
+    def of_task(self, each):
+        number, priority, mark, *lengths = each.values.values()
+        if self.first_release is not None:
+            yield 3, f"a task after a release: the first release is in line {self.first_release}"
+        if number > LAST_TASK:
+            yield 4, f"task number {number} is over {LAST_TASK}"
+        elif number in self.numbers:
+            yield 4, f"task number {number} is given before, in line {self.numbers[number]}"
+        if priority in self.priorities:
+            yield 5, f"priority {priority} is given before, in line {self.priorities[priority]}"
+        if mark > 1:
+            yield 6, f"mark is {mark}, over 1"
+        for name, length in zip(("L", "C", "U"), lengths):
+            if not 1 <= length <= LENGTH_LIMIT:
+                yield 7, f"{name} is {length}, outside 1 to {LENGTH_LIMIT}"
+        self.numbers.setdefault(number, each.line)
+        self.priorities.setdefault(priority, each.line)
+
+    def of_release(self, each):
+        time, task = each.values.values()
+        if task not in self.numbers:
+            yield 8, f"a release of task {task}, which is not in the table"
+        if time > LAST_RELEASE_TIME:
+            yield 10, f"release time {time} is over {LAST_RELEASE_TIME}"
+        if self.last is not None and (time, task) <= self.last[:2]:
+            yield 9, f"the release of task {task} at {time} is not after that of task {self.last[1]} at {self.last[0]} in line {self.last[2]}"
+        self.count += 1
+        if self.count > MOST_RELEASES:
+            yield 11, f"a {MOST_RELEASES + 1}th release; nothing behind it is read"
+        self.last = (time, task, each.line)
+        if self.first_release is None:
+            self.first_release = each.line
 
 
-def line_of(lines, place):
-    """The number of the line whose entry begins at a place of the input."""
-    at = 0
-    for number, _, made in numbered_entries(lines):
-        if at == place:
-            return number
-        at += len(made)
-    raise ValueError(f"no entry begins at {place}")
+def read_plan(path, tasks_alone=False):
+    """A plan file, - for standard input, with every mistake in it, or in its tasks alone."""
+    plan, checks = Plan(path), Checks(tasks_alone)
+    for number, line in enumerate(lines_of(path, LONGEST_LINE), 1):
+        if len(line) > LONGEST_LINE + 1 and "#" not in line:
+            plan.mistakes.append(Mistake(number, None, f"it has more than {LONGEST_LINE} letters; nothing behind it is read"))
+            break
+        add_line(plan, checks, number, line)
+        if checks.count > MOST_RELEASES or len(plan.mistakes) >= MOST_MISTAKES:
+            break
+    if len(plan.mistakes) >= MOST_MISTAKES:
+        plan.mistakes.append(Mistake(None, None, f"so many mistakes that nothing behind line {number} is read"))
+    if not plan.mistakes and not (plan.tasks if tasks_alone else plan.entries):
+        plan.mistakes.append(Mistake(None, 12, f"the plan has no {'task' if tasks_alone else 'entry'}"))
+    return plan
 
 
-def read_bytes(path):
-    """A file's bytes, - for standard input. It is read piece by piece, so that a read that fails in the middle is an error and not the end."""
+def add_line(plan, checks, number, line):
+    words = line.split("#")[0].split()
+    if not words:
+        return
     try:
-        descriptor = 0 if path == "-" else os.open(path, os.O_RDONLY)
-        try:
-            pieces = list(iter(lambda: os.read(descriptor, 1 << 16), b""))
-        finally:
-            if path != "-":
-                os.close(descriptor)
-    except OSError as error:
-        raise OSError(error.errno, error.strerror, path) from None
-    return b"".join(pieces)
+        made = entry(number, words)
+    except NoEntry as reason:
+        plan.mistakes.append(Mistake(number, None, str(reason)))
+        return
+    plan.entries.append(made)
+    plan.mistakes.extend(Mistake(number, *wrong) for wrong in checks.of(made))
 
 
-def read_lines(path):
-    """A text file's lines; the mark that some editors put in front of a text is none of it."""
-    return io.StringIO(read_bytes(path).decode("utf-8-sig", errors="replace"), newline=None).readlines()
-
-
-def arguments(words):
-    parser = argparse.ArgumentParser(
-        description=__doc__, usage="python3 tools/plan.py PLAN > INPUT", formatter_class=argparse.RawDescriptionHelpFormatter,
-        epilog="status: 0 the input was written, 1 a line is no entry, 2 trouble with files")
-    parser.add_argument("plan", metavar="PLAN", help="a plan file, - for standard input")
-    return parser.parse_args(words)
-
-
-def main(words):
-    try:
-        path = arguments(words).plan
-    except SystemExit as usage:
-        return usage.code
-    try:
-        data = input_bytes(read_lines(path))
-    except OSError as error:
-        output.say(error.filename, error)
-        return output.TROUBLE
-    except BadLine as bad:
-        sys.stderr.write(f"{path}: {bad}\n")
-        return 1
-    return output.write(data)
-
-
-if __name__ == "__main__":
-    sys.exit(main(sys.argv[1:]))
+def sound_plan(path):
+    """A plan with no mistake; one that has some is rejected with all of them."""
+    plan = read_plan(path)
+    if plan.mistakes:
+        raise Rejected(plan.told())
+    return plan

@@ -1,8 +1,10 @@
-"""Refusals in words, as the tools tell them to people: with the line of the plan file that they are about, if there is one."""
+"""Refusals in words, as the commands tell them to people."""
 
-from tools.plan import line_of
+from sim.entries import Refused
+from tools.output import named
 
-# A plan file meets neither 1 nor 2, since what tools/plan.py writes is never cut short and of no other kind: these are a record's, as is 18.
+# A plan's own are told with the plan's values by tools/plan.py; what is here stands where the gateway refuses what was not found there, and for
+# records: what is written of a plan is never cut short and of no other kind.
 REFUSALS = {
     1: "an entry that is cut short",
     2: "an entry of another kind than a job's, an interval's or a skipped release's",
@@ -20,10 +22,23 @@ REFUSALS = {
 }
 
 
+def line_of(line):
+    """The refusal that a program's R line tells, without a place where it has none; None of another line."""
+    if not line.startswith("R "):
+        return None
+    number, place = map(int, line.split()[1:])
+    return Refused(number, None if number in (12, 18) else place)
+
+
 def in_words(number):
-    return f"{REFUSALS[number]} (refusal {number})"
+    return f"{REFUSALS.get(number, 'refused')} (refusal {number})"
 
 
-def of_plan(plan, number, place):
-    """A refusal of a plan's lines, by its number and its place, which is None where it has none."""
-    return in_words(number) if place is None else f"line {line_of(plan, place)}: {in_words(number)}"
+def of_plan(plan, refused):
+    """A refusal of a plan by the gateway: every mistake of the plan, the gateway's own first."""
+    line = None if refused.place is None else plan.line_at(refused.place)
+    first = next(iter(plan.mistakes), None)
+    if first is not None and (first.number, first.line) == (refused.number, line):
+        return plan.told()
+    where = "" if line is None else f"line {line}: "
+    return f"{named(plan.path)}: {where}{in_words(refused.number)}"

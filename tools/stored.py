@@ -1,122 +1,69 @@
-"""Read a stored record back: print a plan file with the tasks of PLAN and the releases that made RECORD, which ./run runs again.
+"""A stored record and the tasks that it was made with: which releases made it, by the proved reader, or what is wrong with it."""
 
-RECORD has a record's bytes, as target/bin/recorder writes them. Releases in PLAN are passed over, with a note on standard error: who has
-a record often has a plan whose tasks are right and whose releases are others, and those that are printed come from the record alone. A
-refusal is told in words on standard error. Only a proved program reads the record: the first run proves it, which takes a few minutes, and
-says on standard error what it is at.
-"""
-
-import argparse
-import os
-import signal
-import subprocess
-import sys
-import tempfile
-
-if __name__ == "__main__":  # as a program it is found by its path, and the packages beside it are not
-    sys.path.insert(0, os.path.dirname(os.path.dirname(os.path.abspath(__file__))))
-
-from sim.entries import FIELDS, TASK, entry_length, two_parts
-from tools import output
-from tools.plan import BadLine, numbered_entries, read_bytes, read_lines
-from tools.programs import Trouble, built, trouble_of
-from tools.refusals import in_words
+from sim.entries import FIELDS, RELEASE, TASK, entry_length, two_parts
+from tools import damage
+from tools.files import pieces_of
+from tools.output import Rejected, Trouble, named, tell
+from tools.plan import read_plan
+from tools.programs import printed
+from tools.refusals import in_words, line_of
 
 # By which numbers a task of the plan is refused, and not the record. Its entry is whole, so that 1 and 2 are the record's.
 OF_A_TASK = (4, 5, 6, 7)
 
-
-class Unreadable(Exception):
-    """Why there is no plan: the plan or the record, and what is wrong with it."""
+MOST = 1 << 26  # bytes of a record that are looked at; no list makes nearly so many
 
 
-def arguments(words):
-    parser = argparse.ArgumentParser(
-        prog="read", description=__doc__, formatter_class=argparse.RawDescriptionHelpFormatter,
-        epilog="status: 0 the plan was printed, 1 the plan or the record is refused, 2 trouble with files or with the build")
-    parser.add_argument("plan", metavar="PLAN", help="a plan file, - for standard input")
-    parser.add_argument("record", metavar="RECORD", help="a file with a record's bytes, - for standard input")
-    given = parser.parse_args(words)
-    if given.plan == given.record == "-":
-        parser.error("one of the two can be standard input")
-    return given
+def read_record(path):
+    """A record's bytes, as far as they are looked at, and whether that is all."""
+    found, size = [], 0
+    for piece in pieces_of(path):
+        found.append(piece)
+        size += len(piece)
+        if size > MOST:
+            break
+    return b"".join(found)[:MOST], size <= MOST
 
 
-def split_plan(path):
-    """The plan's lines with its tasks, and the numbers of those with a release."""
-    tasks, releases = [], []
-    try:
-        for number, words, made in numbered_entries(read_lines(path)):
-            if made[0] == TASK:
-                tasks.append((number, words, made))
-            else:
-                releases.append(number)
-    except BadLine as bad:
-        raise Unreadable(f"{path}: {bad}") from None
-    return tasks, releases
+def tasks_of(path):
+    """A plan of which the tasks alone count."""
+    plan = read_plan(path, tasks_alone=True)
+    passed = plan.of_kind(RELEASE)
+    if passed:
+        tell(f"{named(path)}: its releases, {len(passed)} from line {passed[0].line} on, are passed over: those of the record count\n")
+    if plan.mistakes:
+        raise Rejected(plan.told())
+    return plan
 
 
-def refusal(given, tasks, number, place):
+def refusal(plan, path, stored, whole, refused):
     """What the reader refused, in words: a line of the plan, or a place in the record."""
+    number, place = refused.number, refused.place
     if number == 12:
-        return f"{given.plan}: the plan has no task (refusal 12)"
+        return f"{named(plan.path)}: the plan has no task (refusal 12)"
     if number in OF_A_TASK:
-        line, _, _ = tasks[place // entry_length(FIELDS[TASK])]
-        return f"{given.plan}: line {line}: {in_words(number)}"
-    where = "" if number == 18 else f"byte {place}: "
-    return f"{given.record}: {where}{in_words(number)}"
+        return f"{named(plan.path)}: line {plan.tasks[place // entry_length(FIELDS[TASK])].line}: {in_words(number)}"
+    if not whole and number in (1, 18):  # what is cut short is cut here
+        return f"{named(path)}: it has more than {MOST} bytes, and no list of releases makes so many (refusal 18)"
+    if number == 18:
+        return f"{named(path)}: {in_words(18)}\n{named(path)}: {damage.where(plan.table, stored)}"
+    return f"{named(path)}: byte {place}: {in_words(number)}"
 
 
-def release_line(line):
-    """A line of the reader's as a line of a plan, which has the time first."""
+def listed(line):
+    """A release (time, task) of the reader's lines."""
     letter, *fields = line.split()
     if letter != "L" or len(fields) != 2:
-        raise Trouble(f"the reader printed '{line}'")
-    task, time = fields
-    return f"release {time} {task}"
+        raise Trouble(f"gateway: the reader printed '{line}'")
+    return int(fields[1]), int(fields[0])
 
 
-def proved_reader(data):
-    """What the proved program prints for its input."""
-    with tempfile.TemporaryDirectory() as folder:
-        done = subprocess.run([built("read", "reader", folder)], input=data, capture_output=True, check=False)
-    said = trouble_of("read", done.stderr.decode(errors="replace"), done.returncode)
-    if said:
-        raise Trouble(said.rstrip("\n"))
-    return done.stdout.decode()
-
-
-def plan_text(given, reader):
-    """A plan that makes the record."""
-    tasks, releases = split_plan(given.plan)
-    data = two_parts(b"".join(made for _, _, made in tasks), read_bytes(given.record))
-    if releases:
-        sys.stderr.write(f"{given.plan}: its releases, {len(releases)} from line {releases[0]} on, are passed over: those of the record are printed\n")
-    lines = reader(data).splitlines()
-    if lines and lines[0].startswith("R "):
-        raise Unreadable(refusal(given, tasks, *map(int, lines[0].split()[1:])))
-    return "".join(f"{line}\n" for line in [*(" ".join(words) for _, words, _ in tasks), *map(release_line, lines)])
-
-
-def main(words, reader=proved_reader):
-    try:
-        given = arguments(words)
-    except SystemExit as usage:
-        return usage.code
-    try:
-        plan = plan_text(given, reader)
-    except OSError as error:
-        output.say(error.filename, error)
-        return output.TROUBLE
-    except Trouble as trouble:
-        sys.stderr.write(f"{trouble}\n")
-        return output.TROUBLE
-    except Unreadable as unreadable:
-        sys.stderr.write(f"{unreadable}\n")
-        return 1
-    return output.write(plan.encode())
-
-
-if __name__ == "__main__":
-    signal.signal(signal.SIGINT, signal.SIG_DFL)  # an interrupted run ends without a traceback
-    sys.exit(main(sys.argv[1:]))
+def stored_releases(plan_path, record_path):
+    """The plan's tasks, the releases (time, task) that made the record, and its bytes."""
+    plan = tasks_of(plan_path)
+    stored, whole = read_record(record_path)
+    lines = printed("reader", two_parts(b"".join(each.data for each in plan.tasks), stored)).decode().splitlines()
+    refused = line_of(lines[0]) if lines else None
+    if refused is not None:
+        raise Rejected(refusal(plan, record_path, stored, whole, refused))
+    return plan, [listed(line) for line in lines], stored

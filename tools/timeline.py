@@ -9,6 +9,8 @@ from typing import NamedTuple, Optional
 
 from sim.dispatcher import COPY_IN_CANCELLED, COPY_IN_DONE, COPY_IN_THROWN_OUT, NO_COPY_IN
 from sim.dispatcher import COPY_IN, COPY_IN_AND_EXECUTE, COPY_OUT, EXECUTION, IDLE, IntervalClosed, JobDone
+from tools.events import Skip
+from tools.output import shown
 
 PROCESSOR, ENGINE = "processor", "engine"
 LAST_TICK = 2**64 - 1
@@ -23,11 +25,6 @@ TAKEN, WAITS, SKIPPED = "taken", "waits", "skipped"
 
 class BadLines(Exception):
     """Lines that do not parse or do not fit the plan, with the reason."""
-
-
-class Skip(NamedTuple):
-    task: int
-    time: int
 
 
 class Band(NamedTuple):
@@ -97,7 +94,7 @@ def parse_field(name, word, table):
     if word == "-" and name in TASKS and name != "task":
         return None
     if not (word.isascii() and word.isdigit() and len(word) <= len(str(LAST_TICK))):
-        raise BadLines(f"{name} is '{word}', not a number of the record")
+        raise BadLines(f"{name} is '{shown(word)}', not a number of the record")
     value = int(word)
     if name in TASKS and value not in table:
         raise BadLines(f"{name} is {value}, and the plan has no such task")
@@ -110,9 +107,9 @@ def parse_line(line, table):
     """A line's fields by name."""
     words = line.split()
     if words[:1] == ["R"]:
-        raise BadLines(f"the input was refused ({' '.join(words)}), there is no run to draw")
+        raise BadLines(f"the input was refused ({shown(' '.join(words))}), there is no run to draw")
     if not words or words[0] not in SHAPES:
-        raise BadLines(f"'{line.strip()}' is no J, I or S line")
+        raise BadLines(f"'{shown(line.strip())}' is no J, I or S line")
     shape = SHAPES[words[0]]
     if len(words) != len(shape._fields) + 1:
         raise BadLines(f"{words[0]} takes {len(shape._fields)} fields, and here are {len(words) - 1}")

@@ -2,7 +2,7 @@
 //!
 //!     driver TASKS < RELEASES
 //!
-//! TASKS is a file with the task entries of every core (python3 tools/plan.py makes it of a plan with tasks alone). A line of RELEASES is
+//! TASKS is a file with the task entries of every core (./gateway input makes it of a plan with tasks alone). A line of RELEASES is
 //! `CORE TIME TASK`, a release, or `CORE TIME mark TASK VALUE`, a mark call; the times do not fall. What occurs is printed as `gateway` prints it, with the
 //! core in front. Where the ticks of a core come near their end, it goes on with a new dispatcher at an idle moment.
 

@@ -16,10 +16,10 @@ from sim.entries import release_entry, two_parts
 from sim.files import record
 from sim.lines import record_lines, text
 from sim.reading import read_lines
-from tools.plan import input_bytes
+from tools.plan import sound_plan
 
 ROOT = pathlib.Path(__file__).resolve().parents[2]
-PLAN = input_bytes((ROOT / "plans/a.plan").read_text(encoding="utf-8").splitlines())
+PLAN = sound_plan(str(ROOT / "plans/a.plan")).data
 TASKS = PLAN[:48]
 CALLS = bytes([64]) + (0).to_bytes(8, "little") + (2).to_bytes(4, "little") + bytes([64]) + (2).to_bytes(8, "little") + bytes(4)
 SESSION = len(TASKS).to_bytes(4, "little") + TASKS + CALLS

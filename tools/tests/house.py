@@ -4,26 +4,35 @@ import os
 import pathlib
 import shutil
 import subprocess
-import sys
 
 ROOT = pathlib.Path(__file__).resolve().parents[2]
 
-# Proves a crate of its own each time it has not been run before, and writes the program; a second one that runs meanwhile is noted.
-TOOLCHAIN = f"""#!/usr/bin/env bash
+# Proves a crate of its own each time it has not been run before, and writes the program, unless its stamp says that there is nothing to do. A second
+# one that runs meanwhile is noted, and each build. Where there is a file 'slow', it takes a while.
+TOOLCHAIN = """#!/usr/bin/env bash
 if ! mkdir target/at-work 2>/dev/null; then echo "two at once" >>target/trouble; fi
+echo "$2" >>target/builds
 [ -e target/bin ] && old=1 || old=
-mkdir -p target/bin
+mkdir -p target/bin target/stamp
 if [ "$old" ]; then echo "rt: words proved (unchanged since it was last proved)"; else echo "rt: words proved (3 s)"; sleep 0.3; fi
-if [ -e fails ]; then echo "words: not proved"; exit 1; fi
-[ "$2" = reader ] && kind=read || kind=file
+[ -e slow ] && sleep 2
+if [ -e fails ]; then echo "words: not proved"; rmdir target/at-work; exit 1; fi
+if [ ! -e "target/stamp/$2" ]; then
+case $2 in reader) kind=read ;; recorder) kind=record ;; *) kind=file ;; esac
 cat >"target/bin/$2" <<END
 #!/usr/bin/env bash
 if [ -e "$PWD/says" ]; then echo "$2: standard input: it fails" >&2; exit; fi
-cd "$PWD" && exec {sys.executable} -m sim $kind
+cd "$PWD"
+if [ $kind = record ]; then python3 -m sim record 2> >(sed "s/^/recorder: the input is refused: /" >&2); exit 0; fi
+exec python3 -m sim $kind
 END
 chmod +x "target/bin/$2"
+echo "$2" >"target/stamp/$2"
+fi
 rmdir target/at-work
 """
+
+CRATES = "words:\ngateway: words io\nrecorder: words\nreader: words\n"
 
 
 class House:
@@ -34,8 +43,11 @@ class House:
         self.folder.mkdir()
         for name in ("tools", "sim", "plans"):
             shutil.copytree(ROOT / name, self.folder / name, ignore=shutil.ignore_patterns("tests", "__pycache__"))
-        for name in ("run", "read"):
-            shutil.copy(ROOT / name, self.folder)
+        shutil.copy(ROOT / "gateway", self.folder)
+        (self.folder / "crates.txt").write_text(CRATES, encoding="utf-8")
+        for name in ("words", "gateway", "recorder", "reader"):
+            (self.folder / "crates" / name / "src").mkdir(parents=True)
+            (self.folder / "crates" / name / "src/lib.rt").write_text(f"// {name}\n", encoding="utf-8")
         tools = pathlib.Path(folder, "bin")
         tools.mkdir()
         (tools / "rt").write_text(TOOLCHAIN)
@@ -43,18 +55,23 @@ class House:
         self.environment = {**os.environ, "PATH": f"{tools}:{os.environ['PATH']}"}
 
     def start(self, *arguments, command=None, where=None, more=(), **streams):
-        """Start ./run, or another command."""
+        """Start ./gateway, or another command."""
         streams = {"stdin": subprocess.PIPE, "stdout": subprocess.PIPE, "stderr": subprocess.PIPE, **streams}
-        return subprocess.Popen([command or str(self.folder / "run"), *arguments], cwd=where or self.folder.parent,
+        return subprocess.Popen([command or str(self.folder / "gateway"), *arguments], cwd=where or self.folder.parent,
                                 env={**self.environment, **dict(more)}, **streams)
 
     def run(self, *arguments, text="", **how):
         """The status, and what was printed and said."""
         process = self.start(*arguments, **how)
         printed, said = process.communicate(text.encode())
-        return process.returncode, (printed or b"").decode(), said.decode()
+        return process.returncode, (printed or b"").decode(), (said or b"").decode()
 
     def plan(self, text, name="x.plan"):
         path = self.folder.parent / name
         path.write_text(text, encoding="utf-8")
         return str(path)
+
+    def builds(self):
+        """The programs that the toolchain was asked for, in their order."""
+        path = self.folder / "target/builds"
+        return path.read_text(encoding="utf-8").split() if path.exists() else []

@@ -1,76 +1,77 @@
-"""The tools used like Unix filters: a full disk, a reader that went away, a closed output, an input that fails in the middle."""
+"""The commands used like Unix filters: a full disk, a reader that went away, a closed output, an input that fails in the middle."""
 
 import os
 import pathlib
 import subprocess
-import sys
 import tempfile
 import unittest
 
-ROOT = pathlib.Path(__file__).resolve().parents[2]
-PLAN = str(ROOT / "plans/a.plan")
-TOOLS = ("plan.py", "picture.py")
+from tools.tests.house import House
+
+COMMANDS = (("input",), ("record",), ("run",), ("picture",), ("summary",), ("why", "1", "3"))
 
 
-def run(tool, *arguments, **streams):
-    """The status and what was said, in any folder."""
-    streams = {"stdin": subprocess.DEVNULL, "stdout": subprocess.PIPE, "cwd": tempfile.gettempdir(), **streams}
-    done = subprocess.run([sys.executable, str(ROOT / "tools" / tool), *arguments], stderr=subprocess.PIPE, check=False, **streams)
-    return done.returncode, done.stderr.decode()
+class Filters(unittest.TestCase):
+    @classmethod
+    def setUpClass(cls):
+        folder = tempfile.TemporaryDirectory()
+        cls.addClassCleanup(folder.cleanup)
+        cls.house = House(folder.name)
+        cls.house.run("build")
+        cls.plan = str(cls.house.folder / "plans/a.plan")
 
+    def run_each(self, plan, **streams):
+        """The status and what was said, of each command."""
+        for name, *more in COMMANDS:
+            streams = {"stdin": subprocess.DEVNULL, "stdout": subprocess.PIPE, **streams}
+            status, _, said = self.house.run(name, plan, *more, **streams)
+            yield name, (status, said)
 
-class Outputs(unittest.TestCase):
     def test_a_full_disk(self):
-        for tool in TOOLS:
-            with open("/dev/full", "wb") as full:
-                self.assertEqual(run(tool, PLAN, stdout=full), (2, "standard output: No space left on device\n"), tool)
+        with open("/dev/full", "wb") as full:
+            for name, outcome in self.run_each(self.plan, stdout=full):
+                self.assertEqual(outcome, (2, "standard output: No space left on device\n"), name)
 
     def test_a_reader_that_went_away(self):
-        for tool in TOOLS:
-            reader, writer = os.pipe()
-            os.close(reader)
-            self.assertEqual(run(tool, PLAN, stdout=writer), (2, ""), tool)
-            os.close(writer)
+        reader, writer = os.pipe()
+        os.close(reader)
+        for name, outcome in self.run_each(self.plan, stdout=writer):
+            self.assertEqual(outcome, (2, ""), name)
+        os.close(writer)
 
     def test_a_closed_output(self):
-        for tool in TOOLS:
-            command = f"exec {sys.executable} {ROOT}/tools/{tool} {PLAN} >&-"
-            done = subprocess.run(["bash", "-c", command], stderr=subprocess.PIPE, check=False)
-            self.assertEqual((done.returncode, done.stderr), (2, b"standard output: it is closed\n"), tool)
+        for name, *more in COMMANDS:
+            command = f"exec '{self.house.folder}/gateway' {name} '{self.plan}' {' '.join(more)} >&-"
+            done = subprocess.run(["bash", "-c", command], stderr=subprocess.PIPE, env=self.house.environment, check=False)
+            self.assertEqual((done.returncode, done.stderr), (2, b"standard output: it is closed\n"), name)
 
-
-class Inputs(unittest.TestCase):
     def test_a_directory(self):
-        for tool in TOOLS:
-            self.assertEqual(run(tool, "/"), (2, "/: Is a directory\n"), tool)
+        for name, outcome in self.run_each("/"):
+            self.assertEqual(outcome, (2, "/: Is a directory\n"), name)
 
     def test_an_input_that_stops_in_the_middle(self):
         """What came before a read that fails is no plan."""
-        for tool in TOOLS:
+        for name, *more in COMMANDS:
             reader, writer = os.pipe()
             os.set_blocking(reader, False)
             os.write(writer, b"task 1 1 1 2 3 1\n")
-            self.assertEqual(run(tool, "-", stdin=reader), (2, "-: Resource temporarily unavailable\n"), tool)
+            status, printed, said = self.house.run(name, "-", *more, stdin=reader)
+            self.assertEqual((status, printed, said), (2, "", "standard input: Resource temporarily unavailable\n"), name)
             os.close(reader)
             os.close(writer)
 
+    def test_a_closed_input(self):
+        for name, *more in COMMANDS:
+            command = f"exec '{self.house.folder}/gateway' {name} - {' '.join(more)} <&-"
+            done = subprocess.run(["bash", "-c", command], capture_output=True, env=self.house.environment, check=False)
+            self.assertEqual((done.returncode, done.stdout, done.stderr), (2, b"", b"standard input: Bad file descriptor\n"), name)
+
     def test_standard_input(self):
-        with open(PLAN, "rb") as plan:
-            done = subprocess.run([sys.executable, str(ROOT / "tools/plan.py"), "-"], stdin=plan, capture_output=True, check=False)
-        named = subprocess.run([sys.executable, str(ROOT / "tools/plan.py"), PLAN], capture_output=True, check=False)
-        self.assertEqual((done.returncode, done.stdout), (0, named.stdout))
-
-    def test_a_byte_order_mark(self):
-        with tempfile.NamedTemporaryFile() as file:
-            file.write(b"\xef\xbb\xbftask 1 1 1 2 3 1\n")
-            file.flush()
-            self.assertEqual(run("plan.py", file.name), (0, ""))
-
-    def test_help(self):
-        for tool in TOOLS:
-            done = subprocess.run([sys.executable, str(ROOT / "tools" / tool), "--help"], capture_output=True, check=False)
-            self.assertEqual((done.returncode, done.stderr), (0, b""))
-            self.assertIn(b"status: 0", done.stdout)
+        for name, *more in COMMANDS:
+            text = pathlib.Path(self.plan).read_text(encoding="utf-8")
+            piped, named = (self.house.start(name, plan, *more) for plan in ("-", self.plan))
+            printed = piped.communicate(text.encode())[0]
+            self.assertEqual((piped.returncode, printed.replace(b"Run of -", b"Run of a.plan")), (0, named.communicate()[0]), name)
 
 
 if __name__ == "__main__":

@@ -1,11 +1,8 @@
 """The picture of a run: what is drawn and where, for document 01's plans A, B and F and for random runs."""
 
-import os
 import pathlib
 import random
 import re
-import subprocess
-import sys
 import tempfile
 import unittest
 from xml.etree import ElementTree
@@ -15,10 +12,12 @@ from sim.dispatcher import Dispatcher
 from sim.entries import release_entry
 from sim.files import read_file, record, released_sets
 from sim.lines import record_lines, text
-from tools import picture
+from tools.commands import picture
 from tools.drawing import MOST_WIDTH, draw, stack, tick_step
 from tools.shapes import RING
-from tools.tests.captured import run_main
+from tools.output import Rejected
+from tools.plan import sound_plan
+from tools.tests.captured import gateway
 from tools.timeline import timeline
 
 ROOT = pathlib.Path(__file__).resolve().parents[2]
@@ -67,7 +66,7 @@ class Drawn:
     @classmethod
     def of_plan(cls, plan, lines=None):
         with tempfile.TemporaryDirectory() as folder:
-            return cls(picture.picture(*written(folder, plan, lines)))
+            return cls(picture_of(*written(folder, plan, lines)))
 
     def having(self, name):
         return [element for element in self.root.iter() if element.get(name) is not None]
@@ -114,6 +113,13 @@ class Drawn:
             yield element.text, (left, base - 0.75 * size, left + width, base)
 
 
+def picture_of(path, lines_path=None, **part):
+    """The picture of a plan by the simulator's lines, or by those of a file."""
+    plan = sound_plan(path)
+    lines = record_lines(record(plan.data)) if lines_path is None else picture.stored_lines(lines_path)
+    return picture.picture(plan, lines, "lines", **part)
+
+
 def written(folder, plan, lines=None):
     """The paths of a plan and of lines, written into a folder."""
     paths = []
@@ -150,7 +156,7 @@ def first_path_x(element):
 class PlanA(unittest.TestCase):
     @classmethod
     def setUpClass(cls):
-        cls.drawn = Drawn(picture.picture(str(ROOT / "plans/a.plan")))
+        cls.drawn = Drawn(picture_of(str(ROOT / "plans/a.plan")))
 
     def test_bars(self):
         self.assertEqual(len(self.drawn.bars()), len(BARS_A))
@@ -254,7 +260,7 @@ class PlanA(unittest.TestCase):
 class PlanB(unittest.TestCase):
     @classmethod
     def setUpClass(cls):
-        cls.drawn = Drawn(picture.picture(str(ROOT / "plans/b.plan")))
+        cls.drawn = Drawn(picture_of(str(ROOT / "plans/b.plan")))
 
     def test_bars(self):
         self.assertEqual(len(self.drawn.bars()), len(BARS_B))
@@ -327,7 +333,7 @@ class ThrownOut(unittest.TestCase):
     def test_in_a_part(self):
         with tempfile.TemporaryDirectory() as folder:
             (path,) = written(folder, A.replace("release 3 1", "release 6 1"))
-            drawn = Drawn(picture.picture(path, first=3, last=6))
+            drawn = Drawn(picture_of(path, first=3, last=6))
         self.assertEqual(drawn.of_kind("throw-out", "task", "time", "by"), [(2, 6, 1)])
 
 
@@ -336,7 +342,7 @@ class PlanF(unittest.TestCase):
 
     @classmethod
     def setUpClass(cls):
-        cls.drawn = Drawn(picture.picture(str(ROOT / "plans/f.plan")))
+        cls.drawn = Drawn(picture_of(str(ROOT / "plans/f.plan")))
 
     def test_bars_and_intervals(self):
         self.assertEqual(set(self.drawn.bars()), {
@@ -412,7 +418,7 @@ class Waits(unittest.TestCase):
         """The interval 8 to 11 lies within the wait from 6 to 12, of which neither end is seen."""
         with tempfile.TemporaryDirectory() as folder:
             (path,) = written(folder, self.IN_TURN)
-            drawn = Drawn(picture.picture(path, first=9, last=10))
+            drawn = Drawn(picture_of(path, first=9, last=10))
         self.assertEqual(drawn.of_kind("wait", "task", "begin", "end"), [(1, 6, 12)])
         (wait,), x = drawn.elements("wait"), drawn.x_by_time()
         left, _, width, _ = first_rect(wait)
@@ -423,11 +429,13 @@ class Waits(unittest.TestCase):
     def test_a_part_without_them(self):
         with tempfile.TemporaryDirectory() as folder:
             (path,) = written(folder, self.IN_TURN + "release 40 1\n")
-            drawn = Drawn(picture.picture(path, first=40, last=50))
+            drawn = Drawn(picture_of(path, first=40, last=50))
         self.assertEqual(drawn.elements("wait"), [])
 
-    def test_where_the_lines_end_before_the_taking(self):
-        drawn = Drawn.of_plan(TASKS + "release 0 1\nrelease 3 1\n", "I 0 2 0 - 0 - 1 1 -\nI 2 5 1 1 1 - - 0 -\n")
+    def test_where_a_part_ends_before_the_taking(self):
+        with tempfile.TemporaryDirectory() as folder:
+            (path,) = written(folder, TASKS + "release 0 1\nrelease 3 1\n")
+            drawn = Drawn(picture_of(path, first=3, last=3))
         (wait,) = drawn.elements("wait")
         self.assertEqual(wait.find(f"{SVG}title").text, "the release of task 1 at 3 waits on")
 
@@ -562,7 +570,7 @@ class Labels(unittest.TestCase):
 
     def test_plans(self):
         for name in ("a", "b", "f"):
-            self.assert_apart(Drawn(picture.picture(str(ROOT / f"plans/{name}.plan"))))
+            self.assert_apart(Drawn(picture_of(str(ROOT / f"plans/{name}.plan"))))
 
     def test_long_and_crowded_runs(self):
         for data in (random_run(9), random_run(2, tasks=32, gap=2), random_run(3, tasks=32, releases=2000, gap=1),
@@ -637,38 +645,38 @@ class LongRuns(unittest.TestCase):
     def test_a_part(self):
         with tempfile.TemporaryDirectory() as folder:
             (path,) = written(folder, self.FIVE)
-            drawn = Drawn(picture.picture(path, first=250_000_001, last=500_000_000))
+            drawn = Drawn(picture_of(path, first=250_000_001, last=500_000_000))
         self.assertEqual([band[0] for band in drawn.intervals()], [4, 5, 6, 7])
         self.assertEqual(drawn.of_kind("release", "time", "task"), [(250_000_000, 2), (500_000_000, 3)])
         self.assertEqual(drawn.of_kind("completion", "task", "time"), [(2, 250_000_007)])
         with tempfile.TemporaryDirectory() as folder:
             (path,) = written(folder, A)
-            drawn = Drawn(picture.picture(path, first=13, last=13))
+            drawn = Drawn(picture_of(path, first=13, last=13))
         self.assertEqual(drawn.intervals(), [(4, 12, 16, 1)])
         self.assertEqual(drawn.of_kind("completion", "task", "time"), [(1, 13)])
 
     def test_a_promotion_in_a_part(self):
         with tempfile.TemporaryDirectory() as folder:
             (path,) = written(folder, A)
-            drawn = Drawn(picture.picture(path, first=3, last=7))
+            drawn = Drawn(picture_of(path, first=3, last=7))
         self.assertEqual(drawn.of_kind("promotion", "task", "time", "interval"), [(1, 7, 2)])
 
     def test_a_part_in_which_nothing_happens(self):
         with tempfile.TemporaryDirectory() as folder:
             (path,) = written(folder, self.FIVE)
-            with self.assertRaisesRegex(picture.Unusable, "nothing happens from tick 100 to 200"):
-                picture.picture(path, first=100, last=200)
+            with self.assertRaisesRegex(Rejected, "nothing happens from tick 100 to 200"):
+                picture_of(path, first=100, last=200)
 
 
 class Command(unittest.TestCase):
     def run_main(self, *arguments):
-        return run_main(picture.main, *arguments)
+        return gateway("picture", *arguments)
 
     def refused(self, plan, lines=None):
         """The message about a bad plan or bad lines, behind the file's name."""
         with tempfile.TemporaryDirectory() as folder:
             paths = written(folder, plan, lines)
-            status, drawn, message = self.run_main(*(["--lines"] if lines is not None else []), *paths)
+            status, drawn, message = self.run_main(paths[0], *(["--lines", paths[1]] if lines is not None else []))
         self.assertEqual((status, drawn), (1, b""))
         self.assertTrue(message.startswith(paths[-1] + ": "), message)
         return message.removeprefix(paths[-1] + ": ").rstrip("\n")
@@ -677,16 +685,16 @@ class Command(unittest.TestCase):
         task = "# a table\n\ntask 1 1 1 2 3 1\n"
         for plan, expected in (
                 (task + "tusk\n", "line 4: 'tusk' is neither 'task' nor 'release'"),
-                (task + f"release {'9' * 5000} 1\n", "line 4: time has 5000 digits, over 20"),
-                (task + "release 0 1\n# late\ntask 2 2 0 1 1 1\n", "line 6: a task after a release (refusal 3)"),
-                (task + "task 32 2 0 1 1 1\n", "line 4: a task number over 31 or given before (refusal 4)"),
-                (task + "task 2 1 0 1 1 1\n", "line 4: a priority given before (refusal 5)"),
-                (task + "task 2 2 2 1 1 1\n", "line 4: a mark over 1 (refusal 6)"),
-                (task + "task 2 2 0 0 1 1\n", "line 4: L, C or U outside 1 to 1000000 (refusal 7)"),
-                ("release 0 1\n", "line 1: a release of a task that is not in the table (refusal 8)"),
-                (task + "release 5 1\nrelease 5 1\n", "line 5: a release that is not after the one before (refusal 9)"),
-                (task + "release 1000000001 1\n", "line 4: a release time over 1000000000 (refusal 10)"),
-                (task + "".join(f"release {time} 1\n" for time in range(4097)), "line 4100: a 4097th release (refusal 11)"),
+                (task + f"release {'9' * 4000} 1\n", "line 4: time has 4000 digits, over 20"),
+                (task + "release 0 1\n# late\ntask 2 2 0 1 1 1\n", "line 6: a task after a release: the first release is in line 4 (refusal 3)"),
+                (task + "task 32 2 0 1 1 1\n", "line 4: task number 32 is over 31 (refusal 4)"),
+                (task + "task 2 1 0 1 1 1\n", "line 4: priority 1 is given before, in line 3 (refusal 5)"),
+                (task + "task 2 2 2 1 1 1\n", "line 4: mark is 2, over 1 (refusal 6)"),
+                (task + "task 2 2 0 0 1 1\n", "line 4: L is 0, outside 1 to 1000000 (refusal 7)"),
+                ("release 0 1\n", "line 1: a release of task 1, which is not in the table (refusal 8)"),
+                (task + "release 5 1\nrelease 5 1\n", "line 5: the release of task 1 at 5 is not after that of task 1 at 5 in line 4 (refusal 9)"),
+                (task + "release 1000000001 1\n", "line 4: release time 1000000001 is over 1000000000 (refusal 10)"),
+                (task + "".join(f"release {time} 1\n" for time in range(4097)), "line 4100: a 4097th release; nothing behind it is read (refusal 11)"),
                 ("# nothing\n", "the plan has no entry (refusal 12)")):
             self.assertEqual(self.refused(plan), expected)
 
@@ -698,7 +706,7 @@ class Command(unittest.TestCase):
                 ("S 1\n", "line 1: S takes 2 fields, and here are 1"),
                 ("S one 2\n", "line 1: task is 'one', not a number of the record"),
                 ("S - 2\n", "line 1: task is '-', not a number of the record"),
-                (f"S 1 {'9' * 5000}\n", f"line 1: time is '{'9' * 5000}', not a number of the record"),
+                (f"S 1 {'9' * 5000}\n", f"line 1: time is '{'9' * 60}.. (398 letters)', not a number of the record"),
                 ("I 0 2 2 - 0 - 3 1 -\n", "line 1: half is 2, over 1"),
                 ("I 0 2 0 - 0 - 9 1 -\n", "line 1: chosen is 9, and the plan has no such task"),
                 ("R 9 58\n", "line 1: the input was refused (R 9 58), there is no run to draw")):
@@ -731,6 +739,14 @@ class Command(unittest.TestCase):
                 ("J 1 3 8", "J 1 3 6", "line 7: the job starts at 6, and is taken at 6")):
             self.assertEqual(self.refused(plan, lines.replace(old, new)), expected)
 
+    def test_lines_that_are_not_whole(self):
+        """Each line that is left out, or added at the end, is missed."""
+        lines = LINES_A.splitlines(keepends=True)
+        for at in range(len(lines)):
+            self.assertIn(f"line {at + 1}: the run of this plan has '{lines[at].strip()}' here" if at else "line", self.refused(A, "".join(lines[:at] + lines[at + 1:])))
+        self.assertEqual(self.refused(A, ""), f"line 1: the run of this plan has '{lines[0].strip()}' here")
+        self.assertEqual(self.refused(A, LINES_A + "I 17 19 1 - 0 - 3 1 -\n"), "line 9: the run of this plan ends before it")
+
     def test_lines_of_the_rule_by_which_nothing_waited(self):
         lines = "I 0 2 0 - 0 - 1 1 -\nI 2 5 1 1 1 - - 0 -\nS 1 5\nJ 1 0 2 6 0\nI 5 6 0 - 0 1 - 0 -\n"
         self.assertEqual(self.refused(TASKS + "release 0 1\nrelease 5 1\n", lines),
@@ -751,7 +767,7 @@ class Command(unittest.TestCase):
         self.assertEqual(self.run_main("no.plan"), (2, b"", "no.plan: No such file or directory\n"))
 
     def test_usage(self):
-        for arguments in ((), ("--lines",), ("--lines", "a.plan"), ("a.plan", "b.plan"), ("--from", "x", "a.plan"),
+        for arguments in ((), ("--lines",), ("--lines", "a.plan"), ("a.plan", "b.plan"), ("-", "--lines", "-"), ("--from", "x", "a.plan"),
                           ("--from", "9", "--to", "8", "a.plan"), ("--from", str(2**64), "a.plan")):
             self.assertEqual(self.run_main(*arguments)[0], 2)
 
@@ -766,38 +782,24 @@ class Command(unittest.TestCase):
             path, lines = pathlib.Path(folder, "x.plan"), pathlib.Path(folder, "lines")
             path.write_text(A, encoding="utf-8-sig")
             lines.write_text(LINES_A, encoding="utf-8-sig")
-            self.assertEqual(set(Drawn(picture.picture(str(path), str(lines))).bars()), BARS_A)
+            self.assertEqual(set(Drawn(picture_of(str(path), str(lines))).bars()), BARS_A)
 
     def test_a_file_name_that_xml_cannot_hold(self):
         with tempfile.TemporaryDirectory() as folder:
             path = pathlib.Path(folder, "a\x01<&.plan")
             path.write_text(A, encoding="utf-8")
-            self.assertEqual(Drawn(picture.picture(str(path))).root.find(f"{SVG}title").text, "Run of a?<&.plan")
-
-    def test_as_a_program(self):
-        """From another folder, with lines from a pipe, and the same bytes each time."""
-        def run(seed, *arguments, lines=b""):
-            return subprocess.run([sys.executable, str(ROOT / "tools/picture.py"), *arguments], input=lines, capture_output=True,
-                                  cwd=tempfile.gettempdir(), env={**os.environ, "PYTHONHASHSEED": seed}, check=False)
-        plan = str(ROOT / "plans/a.plan")
-        one, other, piped = run("1", plan), run("2", plan), run("3", "--lines", plan, "-", lines=LINES_A.encode())
-        self.assertEqual((one.returncode, one.stderr), (0, b""))
-        self.assertEqual(one.stdout, other.stdout)
-        self.assertEqual(one.stdout, piped.stdout)
-        bad = run("4", "--lines", plan, "-", lines=b"I \xff\n")
-        self.assertEqual((bad.returncode, bad.stdout), (1, b""))
-        self.assertEqual(bad.stderr, b"-: line 1: I takes 9 fields, and here are 1\n")
+            self.assertEqual(Drawn(picture_of(str(path))).root.find(f"{SVG}title").text, "Run of a?<&.plan")
 
 
 class Documents(unittest.TestCase):
     def test_pictures_are_up_to_date(self):
         for name in ("a", "b", "f"):
             kept = (ROOT / f"docs/plan-{name}.svg").read_text(encoding="utf-8")
-            self.assertEqual(kept, picture.picture(str(ROOT / f"plans/{name}.plan")),
-                             f"python3 tools/picture.py plans/{name}.plan > docs/plan-{name}.svg makes it anew")
+            self.assertEqual(kept, picture_of(str(ROOT / f"plans/{name}.plan")),
+                             f"./gateway picture plans/{name}.plan > docs/plan-{name}.svg makes it anew")
 
     def lines(self, name):
-        return record_lines(record(picture.input_bytes((ROOT / f"plans/{name}.plan").read_text(encoding="utf-8").splitlines())))
+        return record_lines(record(sound_plan(str(ROOT / f"plans/{name}.plan")).data))
 
     def test_lines_of_document_01(self):
         self.assertEqual(text(self.lines("a")), LINES_A)

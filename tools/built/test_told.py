@@ -1,0 +1,67 @@
+"""What ./gateway tells of random plans, by the programs that were built: each run and each record is held against the proved lines as it is told,
+and here once more, figure by figure."""
+
+import json
+import os
+import pathlib
+import random
+import re
+import subprocess
+import tempfile
+import unittest
+
+from sim import generate
+from tools.tests.test_why import plan_text
+
+ROOT = pathlib.Path(__file__).resolve().parents[2]
+PLANS = 12
+
+
+def gateway(*words):
+    """What the command writes; it has to end well."""
+    done = subprocess.run([str(ROOT / "gateway"), *words], capture_output=True, check=False)
+    if done.returncode != 0:
+        raise AssertionError(f"{words}: status {done.returncode}, {done.stderr.decode()}")
+    return done.stdout
+
+
+class Told(unittest.TestCase):
+    def setUp(self):
+        folder = tempfile.TemporaryDirectory()
+        self.addCleanup(folder.cleanup)
+        self.plan, self.record = (os.path.join(folder.name, name) for name in ("x.plan", "record"))
+
+    def random_plan(self, rng):
+        data = generate.random_file(rng)
+        pathlib.Path(self.plan).write_text(plan_text(data), encoding="utf-8")
+        return gateway("run", self.plan).decode().splitlines()
+
+    def test_why_and_summary(self):
+        rng = random.Random(21)
+        for _ in range(PLANS):
+            jobs = [tuple(map(int, line.split()[1:])) for line in self.random_plan(rng) if line.startswith("J")]
+            for task, release, start, completion, blocked in rng.sample(jobs, min(3, len(jobs))):
+                text = gateway("why", self.plan, str(task), str(release)).decode()
+                sums = text.split("\nresponse ")[1].splitlines()[0]
+                self.assertEqual(sum(map(int, re.findall(r"(?:= |\+ )(\d+) ", sums))), completion - release)
+                self.assertRegex(text, rf"(?m)^  {start} to \d+ +execution$")
+                self.assertEqual(text.count("this job is blocked in it"), blocked)
+            rows = json.loads(gateway("summary", "--json", self.plan))
+            self.assertEqual(sum(row["done"] for row in rows), len(jobs))
+            self.assertEqual(max((row["worst_response"] for row in rows if row["done"]), default=0), max((job[3] - job[1] for job in jobs), default=0))
+
+    def test_records(self):
+        rng = random.Random(22)
+        for _ in range(PLANS):
+            lines = self.random_plan(rng)
+            stored = gateway("record", self.plan)
+            pathlib.Path(self.record).write_bytes(stored)
+            self.assertEqual(gateway("show", self.record).decode().splitlines(), lines)
+            self.assertEqual(gateway("summary", self.plan), gateway("summary", self.plan, "--record", self.record))
+            again = gateway("read", self.plan, self.record)
+            pathlib.Path(self.plan).write_bytes(again)
+            self.assertEqual(gateway("record", self.plan), stored)
+
+
+if __name__ == "__main__":
+    unittest.main()

@@ -1,0 +1,74 @@
+"""merge the plans of several desks into one, sorted
+
+The tasks of all, then their releases by time and task. A task may stand in several plans if its line is the same in each. What does not go
+together, as one release in two plans, is told with both places; nothing is printed then.
+"""
+
+from sim.entries import RELEASE
+from sim.files import MOST_RELEASES
+from tools import output
+from tools.output import Rejected, named
+from tools.plan import read_plan
+
+# What one desk's list alone may do here: tasks behind releases, releases in any order and of tasks in another list, no entry at all. What of this is
+# wrong in the whole, as two tasks of one priority, is found there.
+FOUND_IN_THE_WHOLE = (3, 5, 8, 9, 12)
+
+
+def arguments(parser):
+    parser.add_argument("plans", nargs="+", metavar="PLAN", help="plan files, - for standard input")
+
+
+def check(parser, given):
+    if given.plans.count("-") > 1:
+        parser.error("one of them can be standard input")
+
+
+class Merged:
+    """Tasks and releases so far, each with where it was first given, and what does not go together."""
+
+    def __init__(self):
+        self.tasks, self.priorities, self.releases, self.wrong = {}, {}, {}, []
+
+    def add(self, plan):
+        self.wrong += [f"{named(plan.path)}: {each}" for each in plan.mistakes if each.number not in FOUND_IN_THE_WHOLE]
+        for each in plan.tasks:
+            self.add_task(each, f"{named(plan.path)} line {each.line}")
+        for each in plan.of_kind(RELEASE):
+            self.add_release(each, f"{named(plan.path)} line {each.line}")
+
+    def add_task(self, each, where):
+        number, priority = each.values["number"], each.values["priority"]
+        text, before = self.tasks.setdefault(number, (each.text, where))
+        if text != each.text:
+            self.wrong.append(f"{where}: task {number} is another than in {before}")
+        owner, before = self.priorities.setdefault(priority, (number, where))
+        if owner != number:
+            self.wrong.append(f"{where}: priority {priority} is that of task {owner} in {before} (refusal 5)")
+
+    def add_release(self, each, where):
+        time, task = each.values["time"], each.values["task"]
+        before = self.releases.setdefault((time, task), where)
+        if before != where:
+            self.wrong.append(f"{where}: the release of task {task} at {time} is given before, in {before} (refusal 9)")
+
+    def finish(self):
+        """What only the whole shows."""
+        for (_, task), where in self.releases.items():
+            if task not in self.tasks:
+                self.wrong.append(f"{where}: a release of task {task}, which is in no plan (refusal 8)")
+        if len(self.releases) > MOST_RELEASES:
+            self.wrong.append(f"together they have {len(self.releases)} releases, over {MOST_RELEASES} (refusal 11)")
+        if not self.tasks:
+            self.wrong.append("the plans have no task (refusal 12)")
+
+
+def main(given):
+    merged = Merged()
+    for path in given.plans:
+        merged.add(read_plan(path))
+    merged.finish()
+    if merged.wrong:
+        raise Rejected("\n".join(dict.fromkeys(merged.wrong)))
+    lines = [text for _, (text, _) in sorted(merged.tasks.items())] + [f"release {time} {task}" for time, task in sorted(merged.releases)]
+    return output.write_text("".join(f"{line}\n" for line in lines))

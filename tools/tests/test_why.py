@@ -1,0 +1,266 @@
+"""why, summary and compare: their words for the plans, and their numbers against the record over random plans."""
+
+import csv
+import io
+import json
+import os
+import pathlib
+import random
+import re
+import tempfile
+import unittest
+from unittest import mock
+
+from sim import generate
+from sim.dispatcher import COPY_IN_CANCELLED, COPY_IN_THROWN_OUT
+from sim.entries import INTERVAL, JOB_DONE, SKIPPED, entries
+from sim.files import read_file, record
+from tools.lives import hold, lives
+from tools.output import Trouble
+from tools.tests.captured import gateway, simulated
+from tools.words import told
+
+ROOT = pathlib.Path(__file__).resolve().parents[2]
+A, B, F = (str(ROOT / f"plans/{name}.plan") for name in "abf")
+TASKS = "task 1 1 1 2 3 1\ntask 2 2 0 2 4 1\ntask 3 3 0 2 5 2\n"
+
+
+def command(*words, plan=None, stored=None):
+    """The status, what is printed and what is said, with a plan and a record in files."""
+    with tempfile.TemporaryDirectory() as folder:
+        paths = {"PLAN": os.path.join(folder, "plan"), "RECORD": os.path.join(folder, "record")}
+        for name, data in (("PLAN", plan), ("RECORD", stored)):
+            if data is not None:
+                pathlib.Path(paths[name]).write_bytes(data if isinstance(data, bytes) else data.encode())
+        status, printed, said = gateway(*(paths.get(word, word) for word in words))
+        return status, printed.decode(), said.replace(f"{folder}{os.sep}", "")
+
+
+def random_runs(count, seed=11):
+    """Random inputs with their runs and the entries of their records."""
+    rng = random.Random(seed)
+    for _ in range(count):
+        data = generate.random_file(rng)
+        table, releases = read_file(data)
+        yield data, lives(table, releases), [(kind, fields) for _, kind, fields in entries(record(data), kinds=(JOB_DONE, INTERVAL, SKIPPED))]
+
+
+class PlanA(unittest.TestCase):
+    def test_task_1_in_words(self):
+        self.assertEqual(command("why", A, "1", "3"), (0, """\
+The release of task 1 at 3 was done at 13: response 10 ticks.
+task 1: priority 1, latency-sensitive; copy-in L 2, execution C 3, copy-out U 1
+
+the release
+  3         released, and taken at once: no job of task 1 is pending (step c)
+            it belongs to interval 2, which is open
+
+interval 2, 2 to 7: the processor executes task 3 (priority 3, lower): this job is blocked in it
+  3         the engine's choice of this interval was made at 2, and is made once (R2): task 2 (priority 2, lower)
+  3         this release, latency-sensitive and higher, cancels the copy-in of task 2, which is under way (R3)
+  7         the interval ends. Its copy-in gave way, and this is the highest latency-sensitive job released in it: promoted (R4)
+
+interval 3, 7 to 12: the processor copies in and executes this job (R5)
+  7 to 9    copy-in by the processor
+  9 to 12   execution
+
+interval 4, 12 to 16: the engine copies this job out, first of all
+  12 to 13  copy-out; then the job is done
+
+response 10 = 4 ready + 2 copy-in by the processor + 3 execution + 1 copy-out
+blocked in 1 interval: interval 2 (2 to 7) by task 3
+""", ""))
+
+    def test_task_2_whose_copy_in_is_cancelled(self):
+        _, printed, _ = command("why", A, "2", "2")
+        for line in ("  2 to 3    copy-in by the engine, which is lost",
+                     "  3         the release of task 1 (priority 1, higher), latency-sensitive, cancels the copy-in of this job (R3); this job is ready again",
+                     "  7 to 9    the engine first copies out task 3, executed in the interval before (step g)",
+                     "  9         the engine chooses this job, the highest that is ready (R2)",
+                     "response 15 = 6 ready + 1 in copy-ins that gave way + 2 copy-in + 1 copied in, until the interval's end + 4 execution + 1 copy-out",
+                     "executed before it, not lower: task 1 (9)"):
+            self.assertIn(line, printed.splitlines())
+
+    def test_a_finished_copy_thrown_out(self):
+        _, printed, _ = command("why", B, "2", "2")
+        self.assertIn("throws out the finished copy of this job (R3); this job is ready again", printed)
+        _, printed, _ = command("why", B, "1", "4")
+        self.assertIn("this release, latency-sensitive and higher, throws out the finished copy of task 2 (R3)", printed)
+
+    def test_a_release_that_waits(self):
+        _, printed, _ = command("why", F, "1", "5")
+        self.assertIn("released. The job of task 1 released at 0 is pending, so that this release waits (step c)", printed)
+        self.assertIn("response 7 = 1 waiting for the job before + 2 copy-in + 3 execution + 1 copy-out", printed)
+
+    def test_a_skipped_release(self):
+        status, printed, _ = command("why", "PLAN", "1", "4", plan=TASKS + "release 0 1\nrelease 3 1\nrelease 4 1\n")
+        self.assertEqual(status, 0)
+        self.assertIn("The release of task 1 at 4 was skipped.", printed)
+        self.assertIn("Only one release of a task can wait, and the one at 3 did (step c)", printed)
+        self.assertIn("a release of task 1: it waited until 6", printed)
+
+    def test_a_job_that_meets_a_higher_choice(self):
+        plan = TASKS + "release 0 1\nrelease 0 2\nrelease 0 3\n"
+        _, printed, _ = command("why", "PLAN", "3", "0", plan=plan)
+        self.assertIn("the engine chooses task 1 (priority 1, higher), which is ready too (R2)", printed)
+        self.assertIn("executed before it, not lower: task 1 (2), task 2 (5)", printed)
+
+    def test_what_there_is_not(self):
+        self.assertEqual(command("why", A, "9", "3")[::2], (1, f"{A}: there is no task 9; the tasks are 1, 2, 3\n"))
+        self.assertEqual(command("why", F, "1", "3")[::2], (1, f"{F}: there is no release of task 1 at 3; the nearest: 0 and 5\n"))
+        self.assertEqual(command("why", "PLAN", "1", "3", plan=TASKS)[::2], (1, "plan: there is no release of task 1 at all\n"))
+
+    def test_of_a_record(self):
+        stored = record(gateway("input", A)[1])
+        status, printed, said = command("why", "PLAN", "1", "3", "--record", "RECORD", plan=TASKS + "release 9 9\n", stored=stored)
+        self.assertEqual((status, printed), (0, command("why", A, "1", "3")[1]))
+        self.assertEqual(said, "plan: its releases, 1 from line 4 on, are passed over: those of the record count\n")
+        status, printed, said = command("why", "PLAN", "1", "3", "--record", "RECORD", plan=TASKS, stored=stored[24:])
+        self.assertEqual((status, printed), (1, ""))
+        self.assertIn("the record has 'I 2 7 1 3 1 - 2 2 1'", said)
+
+
+class Held(unittest.TestCase):
+    """Against the record, whose numbers are the proved program's."""
+
+    def test_every_response_adds_up(self):
+        jobs = 0
+        for _, run, found in random_runs(300):
+            for kind, fields in found:
+                if kind == JOB_DONE:
+                    task, release, start, completion, blocked = fields
+                    life = run.lives[release, task]
+                    text = told(run, life)
+                    parts = [int(number) for number in re.findall(r"(?:= |\+ )(\d+) ", text.split("\nresponse ")[1].splitlines()[0])]
+                    self.assertEqual(sum(parts), completion - release)
+                    self.assertEqual((life.start, life.completion), (start, completion))
+                    self.assertEqual(len(re.findall(r"interval \d+ \(", text.split("\nblocked in ")[1])), blocked)
+                    self.assertEqual(text.count("this job is blocked in it"), blocked)
+                    jobs += 1
+        self.assertGreater(jobs, 5_000)
+
+    def test_phases_follow_each_other_from_the_release_to_the_completion(self):
+        for _, run, _ in random_runs(60, seed=3):
+            for life in run.done():
+                edges = [life.release, *(phase.end for phase in life.phases)]
+                self.assertEqual([phase.begin for phase in life.phases], edges[:-1])
+                lengths = {kind: number for kind, number in life.parts().items() if kind in ("execution", "copy-out")}
+                self.assertEqual(lengths, {"execution": life.task.execution, "copy-out": life.task.copy_out})
+
+    def test_every_release_is_told_of(self):
+        skipped = 0
+        for _, run, found in random_runs(80, seed=4):
+            for kind, fields in found:
+                if kind == SKIPPED:
+                    task, time = fields
+                    self.assertIn("was skipped", told(run, run.lives[time, task]))
+                    skipped += 1
+            self.assertEqual(len(run.lives), sum(kind != INTERVAL for kind, _ in found))
+        self.assertGreater(skipped, 50)
+
+    def test_another_run_is_not_told(self):
+        """A line of the proved program that differs, whichever, is noticed."""
+        for _, run, _ in random_runs(5, seed=6):
+            for at, line in enumerate(run.lines):
+                words = line.split()
+                words[-1] = "9"
+                with self.assertRaises(Trouble):
+                    hold(run, run.lines[:at] + [" ".join(words)] + run.lines[at + 1:])
+
+    def test_a_wrong_explanation_is_not_told(self):
+        """The lines agree, and yet a life that is made wrong is noticed."""
+        table, releases = read_file(gateway("input", A)[1])
+        for change in (lambda run: run.lives[3, 1].phases.pop(0), lambda run: setattr(run.lives[3, 1], "first", run.spells[2]),
+                       lambda run: setattr(run.lives[3, 1].job, "start", 8)):
+            run = lives(table, releases)
+            change(run)
+            with self.assertRaises(Trouble):
+                hold(run, run.lines)
+
+    def test_the_command_holds_it_too(self):
+        def other(name, pieces):
+            yield b"".join(simulated(name, pieces)).replace(b"J 3 0 2 9 0", b"J 3 0 2 9 1")
+        with mock.patch("tools.tests.captured.simulated", other):
+            status, printed, said = gateway("why", A, "1", "3", programs=other)
+        self.assertEqual((status, printed), (2, b""))
+        self.assertIn("another run than the proved one, from its line 3 on", said)
+
+
+class Summary(unittest.TestCase):
+    def test_plan_a(self):
+        status, printed, _ = command("summary", A)
+        self.assertEqual(status, 0)
+        self.assertEqual([line.split() for line in printed.splitlines()[1:]],
+                         ["1 1 1 1 1 0 0 10 3 10 3 1 3 3 0 0 1".split(), "2 2 0 1 1 0 0 15 2 15 2 1 2 3 1 0 0".split(),
+                          "3 3 0 1 1 0 0 9 0 9 0 0 - - 0 0 0".split()])
+
+    def test_csv_and_json_say_the_same(self):
+        rows = json.loads(command("summary", "--json", A)[1])
+        read = list(csv.DictReader(io.StringIO(command("summary", "--csv", A)[1])))
+        self.assertEqual([row["task"] for row in rows], [1, 2, 3])
+        for row, other in zip(rows, read):
+            self.assertEqual(list(row), list(other))
+            self.assertEqual((str(row["worst_response"]), str(row["promoted"])), (other["worst_response"], other["promoted"]))
+        self.assertEqual(rows[1]["blocked_by"], [3])
+
+    def test_no_release_at_all(self):
+        rows = json.loads(command("summary", "--json", "PLAN", plan=TASKS)[1])
+        self.assertEqual([(row["releases"], row["worst_response"]) for row in rows], [(0, None)] * 3)
+
+    def test_against_the_record(self):
+        """Each figure, counted from the record's entries."""
+        for data, _, found in random_runs(60, seed=9):
+            with tempfile.NamedTemporaryFile() as file:
+                file.write(plan_text(data).encode())
+                file.flush()
+                rows = json.loads(gateway("summary", "--json", file.name)[1])
+            jobs = [fields for kind, fields in found if kind == JOB_DONE]
+            intervals = [fields for kind, fields in found if kind == INTERVAL]
+            for row in rows:
+                own = [fields for fields in jobs if fields[0] == row["task"]]
+                self.assertEqual(row["done"], len(own))
+                self.assertEqual(row["skipped"], sum(kind == SKIPPED and fields[0] == row["task"] for kind, fields in found))
+                self.assertEqual(row["worst_response"], max((job[3] - job[1] for job in own), default=None))
+                self.assertEqual(row["worst_blocked"], max((job[4] for job in own), default=None))
+                self.assertEqual(row["cancelled"], sum(fields[6] == row["task"] and fields[7] == COPY_IN_CANCELLED for fields in intervals))
+                self.assertEqual(row["thrown_out"], sum(fields[6] == row["task"] and fields[7] == COPY_IN_THROWN_OUT for fields in intervals))
+                self.assertEqual(row["promoted"], sum(fields[8] == row["task"] for fields in intervals))
+
+
+def plan_text(data):
+    table, releases = read_file(data)
+    lines = [f"task {task.number} {task.priority} {task.mark} {task.copy_in} {task.execution} {task.copy_out}" for task in table.values()]
+    return "".join(f"{line}\n" for line in lines + [f"release {time} {task}" for time, task in releases])
+
+
+class Compare(unittest.TestCase):
+    def test_another_mark(self):
+        status, printed, _ = command("compare", A, "--mark", "1=0")
+        self.assertEqual(status, 0)
+        self.assertIn("task 2 released at 2: response 15 > 10 (-5), start 12 > 7, done 17 > 12, blocked 1\n", printed)
+        self.assertIn("task 1 released at 3: response 10 > 12 (+2), start 9 > 11, done 13 > 15, blocked 1 > 2\n", printed)
+        self.assertNotIn("task 3 released", printed)
+        self.assertIn("1  1 > 0     1       0        0  10 > 12", printed)
+
+    def test_two_plans(self):
+        printed = command("compare", A, B)[1]
+        self.assertIn("task 1 released at 3: only in the first run\ntask 1 released at 4: only in the second run\n", printed)
+        self.assertTrue(command("compare", A, A)[1].endswith("no job moved\n"))
+
+    def test_skipped_in_one(self):
+        plan = TASKS + "release 0 2\nrelease 1 2\nrelease 2 2\nrelease 3 1\n"
+        changed = json.loads(command("compare", "--json", "PLAN", "PLAN", "--mark", "1=0", plan=plan)[1])
+        self.assertEqual([row["mark"] for row in changed["tasks"]], [[1, 0], [0, 0], [0, 0]])
+        other = plan.replace("release 1 2\n", "")
+        with tempfile.NamedTemporaryFile(mode="w") as file:
+            file.write(other)
+            file.flush()
+            printed = command("compare", "PLAN", file.name, plan=plan)[1]
+        self.assertIn("task 2 released at 2: skipped, then done at ", printed)
+
+    def test_a_mark_of_no_task(self):
+        self.assertEqual(command("compare", A, "--mark", "9=1")[::2], (1, f"{A}: there is no task 9 to mark\n"))
+
+
+if __name__ == "__main__":
+    unittest.main()
