@@ -2,10 +2,13 @@
 
 import argparse
 import importlib
+import mmap
 
 from tools import output
 from tools.commands import NAMES
 from tools.output import REJECTED, TROUBLE, Rejected, Trouble
+
+MEMORY = 64  # megabytes that a command takes at most beside Python itself, where it names no other number
 
 USAGE = "gateway COMMAND [WORDS..]"
 ABOUT = """Run plans of the gateway dispatcher, store and read records, and tell why a job waited.
@@ -62,11 +65,21 @@ def given_words(words):
     return module, given
 
 
+def take_room(module):
+    """See that there is the memory that a command takes at most. Where Python runs out of it in the middle, it may not even come to an end."""
+    room = getattr(module, "MEMORY", MEMORY) << 20
+    try:
+        mmap.mmap(-1, room).close()
+    except OSError:
+        raise Trouble(f"gateway: out of memory: this takes up to {room >> 20} MB") from None
+
+
 def main(words):
-    """The status of a command; the one place where trouble is turned into words."""
+    """The status of a command; the one place where trouble is turned into words, but for what tools/gateway.py tells."""
     output.hold_streams()
     try:
         module, given = given_words(words)
+        take_room(module)
         return module.main(given)
     except SystemExit as usage:
         return usage.code
@@ -77,6 +90,4 @@ def main(words):
         output.tell(f"{trouble}\n")
     except OSError as error:
         output.say(output.named(error.filename) if isinstance(error.filename, str) else error.filename or "gateway", error)
-    except MemoryError:
-        output.tell("gateway: out of memory\n")
     return TROUBLE

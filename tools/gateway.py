@@ -11,24 +11,27 @@ sys.unraisablehook = lambda _: None  # what fails while memory runs out is told 
 sys.path[0] = os.path.dirname(os.path.dirname(os.path.abspath(__file__)))
 
 
-def tell(text):
-    try:
-        os.write(2, text.encode())
-    except OSError:
-        pass
+OUT_OF_MEMORY = b"gateway: out of memory\n"
 
 
 def main(words):
-    """Front's status; also where there is too little memory to load it."""
+    """Front's status. Where memory runs out there may be none to end in order: what is written by then is written, and nothing else is done."""
     try:
         from tools import front
         return front.main(words)
-    except MemoryError:
-        tell("gateway: out of memory\n")
     except ImportError as error:  # a library that cannot be mapped is told so
-        tell(f"gateway: {error}\n")
-    return 2
+        os.write(2, f"gateway: {error}\n".encode())
+        return 2
+    except MemoryError:
+        try:
+            os.write(2, OUT_OF_MEMORY)
+        finally:
+            os._exit(2)
 
 
 if __name__ == "__main__":
-    sys.exit(main(sys.argv[1:]))
+    try:
+        status = main(sys.argv[1:])
+    except OSError:  # of standard error
+        status = 2
+    sys.exit(status)

@@ -17,6 +17,8 @@ from tools.plan import sound_plan
 from tools.runs import proved_lines
 from tools.timeline import LAST_TICK, BadLines, part, timeline
 
+MEMORY = 256
+
 LONGEST_LINE = 400  # no line of a run is nearly so long
 MOST_LINES = 1 << 20
 

@@ -273,14 +273,15 @@ class StandardError(Housed):
 
 class Memory(Housed):
     def limited(self, megabytes, words):
-        return subprocess.run(["bash", "-c", f"ulimit -v {megabytes * 1024}; exec {words}"], capture_output=True, env=self.house.environment, check=False)
+        return subprocess.run(["bash", "-c", f"ulimit -v {megabytes * 1024}; exec {words}"], capture_output=True, env=self.house.environment, check=False,
+                              timeout=60)
 
     def test_too_little_is_trouble_and_no_traceback(self):
         """Whatever the limit is, as far as Python itself starts with it."""
         tasks = "".join(f"task {number} {number} 0 1 1 1\n" for number in range(32))
         plan = self.house.plan(tasks + "".join(f"release {time} {time % 32}\n" for time in range(4096)))
         seen = set()
-        for megabytes in (*range(14, 42, 3), 2048):
+        for megabytes in (*range(14, 100, 7), 2048):
             if self.limited(megabytes, "python3 -c pass").returncode == 0:
                 done = self.limited(megabytes, f"'{self.house.folder}/gateway' why '{plan}' 1 1")
                 self.assertNotIn(b"Traceback", done.stderr, megabytes)

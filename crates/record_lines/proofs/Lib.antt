@@ -1,4 +1,2 @@
 pub mod Laws
 pub mod Filling
-pub mod EntryLines
-pub mod FileLines

@@ -1,8 +1,8 @@
 -- The lines of the record of every input that is accepted are those of its run. Assumes nothing.
 use Rattle.run.specs.Run.{moments-of}
 use Rattle.record.proofs.FileFits.{file-fits}
-use Rattle.record_lines.specs.RecordLines.{FilePrinted}
-use Rattle.record_lines.proofs.EntryLines.{record-printed}
+use Rattle.file_lines.specs.FileLines.{FilePrinted}
+use Rattle.file_lines.proofs.EntryLines.{record-printed}
 
 pub file-printed : FilePrinted
 unfolding FilePrinted

@@ -20,10 +20,10 @@ use Rattle.rules.specs.declared.Closing.the-variants.{Unclosed, BeforeReleases,
 use Rattle.lines.specs.Lines.{job-line, interval-line, skipped-line, done-lines}
 use Rattle.record.specs.Fits.{DoneFits, ClosedFits, MomentsFit}
 use Rattle.run.specs.Run.{Moment, done-bytes, skips-bytes, closed-bytes, moment-bytes, record-bytes}
 use Rattle.record_lines.specs.Types.{JobEntry, IntervalEntry, RecordEntry, JobDone, IntervalEnded}
 use Rattle.record_lines.specs.Lines.{line-of, entry-line, entry-size, lines-from, lines-behind, record-lines}
 use Rattle.record_lines.proofs.Laws.{none-left, one-more, entry-first}
-use Rattle.record_lines.specs.RecordLines.{skips-lines, closed-lines, moment-lines, moments-lines}
+use Rattle.file_lines.specs.FileLines.{skips-lines, closed-lines, moment-lines, moments-lines}
 
 -- ---- bytes in front move the place
 
