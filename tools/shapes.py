@@ -1,6 +1,5 @@
 """The shapes of a run's picture, as SVG elements: one function for each, used by the timeline and by its legend."""
 
-import colorsys
 from xml.etree import ElementTree
 
 from tools.timeline import CANCELLED, DONE, SKIPPED, TAKEN, THROWN_OUT
@@ -65,17 +64,23 @@ def longest_fitting(texts, width, size=11):
 
 # Colours.
 
-def hex_colour(hue, lightness, saturation):
-    return "#" + "".join(f"{round(255 * part):02x}" for part in colorsys.hls_to_rgb(hue, lightness, saturation))
+# Far apart, as people see them: each is the one that is farthest from all before it, so that few tasks have the farthest.
+PALETTE = (
+    "#6eaae1", "#f0d25a", "#f05a78", "#2df0b4", "#96785a", "#a55ab4", "#4b871e", "#0f8778", "#ffc3e1", "#f0874b", "#b4d296", "#00e1f0", "#3c78e1",
+    "#96780f", "#a56987", "#ffc3a5", "#ff78c3", "#c3a5f0", "#96e178", "#2da569", "#c3695a", "#87c3b4", "#69875a", "#a5b44b", "#ff96a5", "#96e1ff",
+    "#0087a5", "#f0b469", "#7878a5", "#d2d2ff", "#ffa5ff", "#b4a569")
+
+
+def blended(colour, other, share):
+    """A colour with a share of another one in it."""
+    pairs = ((int(colour[at:at + 2], 16), int(other[at:at + 2], 16)) for at in (1, 3, 5))
+    return "#" + "".join(f"{round((1 - share) * one + share * two):02x}" for one, two in pairs)
 
 
 def task_colours(table):
-    """Each task's full, pale and edge colours. Steps of the golden angle keep the hues of few tasks far apart."""
-    colours = {}
-    for rank, number in enumerate(sorted(table)):
-        hue = (0.56 + 0.381966 * rank) % 1
-        colours[number] = (hex_colour(hue, 0.66, 0.62), hex_colour(hue, 0.88, 0.60), hex_colour(hue, 0.30, 0.60))
-    return colours
+    """Each task's full, pale and edge colours."""
+    full = {number: PALETTE[rank % len(PALETTE)] for rank, number in enumerate(sorted(table))}
+    return {number: (colour, blended(colour, "#ffffff", 0.62), blended(colour, "#101820", 0.62)) for number, colour in full.items()}
 
 
 # Shapes.

@@ -124,7 +124,7 @@ class Words(Housed):
     def test_help_lists_every_command(self):
         status, printed, said = self.house.run("--help")
         self.assertEqual((status, said), (0, ""))
-        for name in ("run", "record", "read", "show", "why", "summary", "compare", "picture", "merge", "input", "build"):
+        for name in ("run", "record", "read", "show", "why", "summary", "compare", "picture", "page", "merge", "input", "build"):
             self.assertRegex(printed, rf"(?m)^  {name} +\S")
             status, more, said = self.house.run(name, "--help")
             self.assertEqual((status, said), (0, ""), name)
