@@ -1,20 +1,22 @@
 """A run's timeline as SVG.
 
-From the top: title, legend, the releases, those that wait, a head for each interval, the processor's row, the promotions, the engine's row, the
-jobs done, the axis. Each thing drawn says in data attributes what it is and when, and has a title, which viewers show on pointing at it:
-where there is no room for a label, nothing is lost. Where no interval is open for long, the axis breaks: the time between is not drawn to scale.
+From the top: title, legend, the releases, those that wait, the jobs that are ready, a head for each interval, the processor's row, the promotions,
+the engine's row, the jobs done, the axis; of a long run, below it, the worst responses by task and time. Each thing drawn says in data attributes what it is and when, and has a title, which viewers show on pointing at it:
+where there is no room for a label, nothing is lost. Where no interval is open for long, the axis breaks: the time between is not drawn to scale. A wide
+picture has legend and row names again and again.
 """
 
 from bisect import bisect_right
 from collections import Counter, defaultdict
 from xml.etree import ElementTree
 
-from tools import legend, shapes, waits
+from tools import legend, responses, shapes, waits
 from tools.shapes import add, group, longest_fitting, width_of, words
 from tools.timeline import CANCELLED, ENGINE, PROCESSOR, SKIPPED, TAKEN, THROWN_OUT, WAITS
 
 # Widths in pixels.
 LEFT, RIGHT = 84, 30
+PAGE = 1_700     # behind so many the row names stand again, in a gap of the drawing
 LEAST_WIDTH, MOST_WIDTH = 862, 20_000
 MOST_LEGEND = 1_600
 SHORTEST_PHASE = 44    # what the shortest phase gets, where the limits below allow it
@@ -44,7 +46,8 @@ class Layout:
         self.right = self.x(self.end)
         highest = max((len(at_once) for at_once in by_time(run.releases).values()), default=1)
         self.waits = top + STACKED * min(MOST_STACKED, highest) + 22
-        self.heads = self.waits + waits.height(run.waits)
+        self.readies = self.waits + waits.height(run.waits)
+        self.heads = self.readies + waits.height(run.readies)
         self.processor = self.heads + HEAD
         self.promotions = self.processor + ROW
         self.engine = self.promotions + BETWEEN
@@ -54,21 +57,50 @@ class Layout:
 
     def place(self, run):
         """The spans of time that are drawn, the pixels for each tick and where each span begins."""
-        wanted = scale(run)
-        self.breaks = [(end, begin) for end, begin in idle(run) if (begin - end) * wanted > LONGEST_IDLE]
-        edges = [self.start, *(time for gap in self.breaks for time in gap), max(self.end, self.start + 1)]
+        room = MOST_WIDTH - LEFT - 2 * RIGHT - LEFT * (MOST_WIDTH // PAGE)
+        self.breaks, self.scale, self.gap = broken(idle(run), scale(run), max(1, self.end - self.start), room)
+        cuts = self.with_names(run.bands)
+        edges = [self.start, *(time for end, begin, _ in cuts for time in (end, begin)), max(self.end, self.start + 1)]
         self.spans = list(zip(edges[::2], edges[1::2]))
-        room = MOST_WIDTH - LEFT - RIGHT
-        self.gap = min(BREAK, room / 2 / max(1, len(self.breaks)))
-        ticks = sum(end - begin for begin, end in self.spans)
-        self.scale = min(wanted, (room - self.gap * len(self.breaks)) / max(1, ticks))
         self.lefts = [LEFT]
-        for begin, end in self.spans[:-1]:
-            self.lefts.append(self.lefts[-1] + (end - begin) * self.scale + self.gap)
+        for (begin, end), (_, _, gap) in zip(self.spans, cuts):
+            self.lefts.append(self.lefts[-1] + (end - begin) * self.scale + gap)
+
+    def with_names(self, bands):
+        """The cuts of the time that is drawn, each with its width: the breaks, and before some intervals the room for the row names."""
+        self.names, found, breaks = [LEFT], [], dict(reversed(each) for each in self.breaks)
+        x, at = LEFT, self.start
+        for band in bands:
+            x += (breaks.get(band.begin, band.begin) - at) * self.scale + (self.gap if band.begin in breaks else 0)
+            wide = x - self.names[-1] > PAGE
+            if wide:
+                x += LEFT
+                self.names.append(x)
+            if wide or band.begin in breaks:
+                found.append((breaks.get(band.begin, band.begin), band.begin, (self.gap if band.begin in breaks else 0) + (LEFT if wide else 0)))
+            at = band.begin
+        return found
+
+    def ticks(self):
+        """Each span as a first and a last tick; one on which the next begins is that one's."""
+        nexts = [begin for begin, _ in self.spans[1:]] + [None]
+        return [(begin, min(end, self.end) - (end == after)) for (begin, end), after in zip(self.spans, nexts)]
+
+    def lines(self):
+        """Where each span begins and ends."""
+        return [(left, left + (min(end, self.end) - begin) * self.scale) for left, (begin, end) in zip(self.lefts, self.spans)]
 
     def x(self, time):
         span = max(0, bisect_right(self.spans, (time, 2 * self.end + 2)) - 1)
         return self.lefts[span] + (time - self.spans[span][0]) * self.scale
+
+    def pieces(self, begin, end):
+        """Where a time that reaches over several spans is drawn: a left and a right edge in each. What is outside the picture is left out."""
+        found = []
+        for left, (first, last) in zip(self.lefts, self.spans):
+            if first < end and begin < last:
+                found.append((left + (max(begin, first) - first) * self.scale, left + (min(end, last, self.end) - first) * self.scale))
+        return found
 
     def width(self, begin, end):
         return (end - begin) * self.scale
@@ -79,6 +111,18 @@ def scale(run):
     shortest = min((bar.end - bar.begin for bar in run.bars), default=1)
     busy = sum(band.end - band.begin for band in run.bands) or 1
     return min(SHORTEST_PHASE / shortest, AVERAGE_INTERVAL * max(1, len(run.bands)) / busy)
+
+
+def broken(gaps, wanted, ticks, room):
+    """The idle times that are left out, the pixels for each tick and for each break: one is left out where it would take more than its break does."""
+    left_out, least = [gap for gap in gaps if (gap[1] - gap[0]) * wanted > LONGEST_IDLE], LONGEST_IDLE
+    while True:
+        gap = min(BREAK, room / 2 / max(1, len(left_out)))
+        found = min(wanted, (room - gap * len(left_out)) / (ticks - sum(begin - end for end, begin in left_out)))
+        fewer = [(end, begin) for end, begin in left_out if (begin - end) * found > (gap if found < wanted else least)]
+        if len(fewer) == len(left_out):
+            return left_out, found, gap
+        left_out = fewer
 
 
 def idle(run):
@@ -120,7 +164,7 @@ def draw_bar(parent, layout, bar, colours):
     y = {PROCESSOR: layout.processor, ENGINE: layout.engine}[bar.unit] + BAR_TOP
     box = group(parent, f"task {bar.task}, {bar.kind} on the {bar.unit}, {bar.begin} to {bar.end}, {bar.fate}", unit=bar.unit,
                 kind=bar.kind, task=bar.task, begin=bar.begin, end=bar.end, interval=bar.interval, fate=bar.fate)
-    shapes.bar(box, x, y, width, bar.kind, colours[bar.task], bar.fate)
+    shapes.bar(box, x, y, max(shapes.LEAST, width), bar.kind, colours[bar.task], bar.fate)
     room = width - (4 if bar.winner is None else 12)  # the mark of a copy-in that gave way may stand over its end
     text = longest_fitting((f"{SHORT_NAMES[bar.kind]} {bar.task}", str(bar.task)), room)
     if text:
@@ -215,8 +259,8 @@ def axis_numbers(layout, step):
     """The ticks that have their number: the multiples of a step, and the begin of each span behind a break, as far as there is room."""
     found, free = [], 0
     half = width_of(str(layout.end)) / 2 + 4
-    for place, (begin, end) in enumerate(layout.spans):
-        for time in ([begin] if place else []) + list(range(-(-(begin + bool(place)) // step) * step, min(end, layout.end) + 1, step)):
+    for place, (begin, end) in enumerate(layout.ticks()):
+        for time in ([begin] if place else []) + list(range(-(-(begin + bool(place)) // step) * step, end + 1, step)):
             if layout.x(time) - half >= free or not place:
                 found.append(time)
                 free = layout.x(time) + half
@@ -226,13 +270,11 @@ def axis_numbers(layout, step):
 def draw_axis(parent, layout):
     y, step = layout.axis, tick_step(layout.scale, layout.end)
     axis = add(parent, "g", data_kind="axis", data_begin=str(layout.start), data_end=str(layout.end))
-    lines = ((layout.x(begin), layout.x(min(end, layout.end))) for begin, end in layout.spans)
-    add(axis, "path", class_="line", d="".join(f"M{shapes.places(left)} {shapes.places(y)}H{shapes.places(right)}" for left, right in lines))
-    words(axis, LEFT - 12, y + 4, "ticks", "end")
+    add(axis, "path", class_="line", d="".join(f"M{shapes.places(left)} {shapes.places(y)}H{shapes.places(right)}" for left, right in layout.lines()))
     fine = next(step // parts for parts in (10, 5, 2, 1) if step % parts == 0 and step // parts * layout.scale >= 6)
     numbers = axis_numbers(layout, step)
-    for begin, end in layout.spans:
-        marks = set(range(-(-begin // fine) * fine, min(end, layout.end) + 1, fine))
+    for begin, end in layout.ticks():
+        marks = set(range(-(-begin // fine) * fine, end + 1, fine))
         for time in sorted(marks | {number for number in numbers if begin <= number <= end}):
             whole = time in numbers
             add(axis, "path", class_="line", d=f"M{shapes.places(layout.x(time))} {shapes.places(y)}v{6 if whole else 3}")
@@ -243,7 +285,7 @@ def draw_axis(parent, layout):
 def draw_breaks(parent, layout):
     """A zigzag where the axis breaks, with how many ticks it passes over."""
     for end, begin in layout.breaks:
-        left = layout.x(end)
+        left = layout.x(begin) - layout.gap - (LEFT if layout.x(begin) in layout.names else 0)
         mark = group(parent, f"idle from {end} to {begin}, {begin - end} ticks", kind="break", begin=end, end=begin)
         middle = left + layout.gap / 2
         shapes.axis_break(mark, middle, layout.axis, layout.gap)
@@ -253,9 +295,13 @@ def draw_breaks(parent, layout):
 
 
 def draw_row_names(parent, layout):
-    for y, name in ((layout.waits - 6, "releases"), *([(layout.waits + 10, "waiting")] if layout.heads > layout.waits else []), (layout.processor + 36, PROCESSOR), (layout.promotions + 15, "promoted"),
-                    (layout.engine + 36, ENGINE), (layout.done + 12, "jobs done")):
-        words(parent, LEFT - 12, y, name, "end strong" if name in (PROCESSOR, ENGINE) else "end")
+    rows = [(layout.waits - 6, "releases"), (layout.processor + 36, PROCESSOR), (layout.promotions + 15, "promoted"), (layout.engine + 36, ENGINE),
+            (layout.done + 12, "jobs done"), (layout.axis + 4, "ticks")]
+    rows += [(layout.waits + 10, "waiting")] if layout.readies > layout.waits else []
+    rows += [(layout.readies + 10, "ready")] if layout.heads > layout.readies else []
+    for x in layout.names:
+        for y, name in rows:
+            words(parent, x - 12, y, name, "end strong" if name in (PROCESSOR, ENGINE) else "end")
 
 
 def count(number, one, several=None):
@@ -282,9 +328,14 @@ def draw(run, title):
     shapes.definitions(root)
     paper = add(root, "rect", x=0, y=0, fill="#ffffff")
     colours = shapes.task_colours(run.table)
-    width = max(LEAST_WIDTH, Layout(run, 0).right + RIGHT)
+    first = Layout(run, 0)
+    width = max(LEAST_WIDTH, first.right + max(RIGHT, width_of(str(first.end)) / 2 + 8))
     key = add(root, "g")
-    top = 66 + legend.draw(key, 20, 60, min(width, MOST_LEGEND) - 40, legend.items(run, colours))
+    across = min(width, MOST_LEGEND) - 40
+    top = 66 + legend.draw(key, 20, 60, across, legend.items(run, colours))
+    for x in first.names[1:]:  # again where the row names are
+        if x + across <= width:
+            legend.draw(key, x - LEFT + 20, 60, across, legend.items(run, colours))
     layout = Layout(run, top)
     description.text = f"Timeline of the processor and the copy engine: {summary(run, layout)}."
     words(root, 20, 28, title, "heading")
@@ -300,14 +351,15 @@ def draw(run, title):
     bands = {band.number: band for band in run.bands}
     for promotion in run.promotions:
         draw_promotion(root, layout, promotion, bands[promotion.interval])
-    waits.draw(root, layout, run.waits, colours)
+    waits.draw(root, layout, run, colours)
     draw_releases(root, layout, run.releases)
     draw_completions(root, layout, run.completions)
     draw_axis(root, layout)
     draw_breaks(root, layout)
+    bottom = layout.bottom + responses.draw(root, layout, run, colours)
     for element in (root, paper):
         element.set("width", shapes.places(width))
-        element.set("height", shapes.places(layout.bottom))
+        element.set("height", shapes.places(bottom))
     root.set("viewBox", f"0 0 {root.get('width')} {root.get('height')}")
     ElementTree.indent(root, " ")
     return ElementTree.tostring(root, encoding="unicode") + "\n"

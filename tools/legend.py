@@ -39,6 +39,10 @@ def wait_sample(parent, x, y):
     shapes.wait(parent, x + 10, y - 5, 18, 10, GREY, True)
 
 
+def ready_sample(parent, x, y):
+    shapes.ready(parent, x, y - 5, 26, 10, GREY)
+
+
 def task_sample(colours):
     def draw(parent, x, y):
         add(parent, "rect", x=x, y=y - 7, width=26, height=14, fill=colours[0], stroke=colours[2])
@@ -59,6 +63,9 @@ GAVE_WAY = (
 
 # A release that waits: shown where one does.
 WAITING = ((wait_sample, "release waits"),)
+
+# A job that is ready: shown where one is.
+READY = ((ready_sample, "job ready"),)
 
 PROMOTED = ((lambda parent, x, y: shapes.promotion_mark(parent, x + 13, y), "job promoted"),)
 
@@ -82,7 +89,7 @@ def items(run, colours):
     fates = {bar.fate for bar in run.bars}
     gave_way = tuple(item for fate, item in GAVE_WAY if fate in fates)
     tasks = tuple((task_sample(colours[number]), task_text(run.table[number])) for number in sorted(run.table))
-    return PHASES + gave_way + PROMOTED + RELEASED + (WAITING if run.waits else ()) + MARKS, tasks
+    return PHASES + gave_way + PROMOTED + RELEASED + (WAITING if run.waits else ()) + (READY if run.readies else ()) + MARKS, tasks
 
 
 def draw(parent, left, top, width, groups, row=24):

@@ -5,6 +5,7 @@ from xml.etree import ElementTree
 from tools.timeline import CANCELLED, DONE, SKIPPED, TAKEN, THROWN_OUT
 
 BAR_HEIGHT = 30
+LEAST = 1  # pixels: nothing that takes time is narrower
 RING = 6  # the radius of the mark of a copy that was thrown out
 HALF_COLOURS = ("#e6effb", "#fbf0dc")
 MARK_COLOUR = "#b00020"  # cancelled, thrown out and promoted: what a latency-sensitive release brought about
@@ -91,6 +92,8 @@ def definitions(root):
     pattern = add(add(root, "defs"), "pattern", id="hatch", width=6, height=6, patternUnits="userSpaceOnUse",
                   patternTransform="rotate(45)")
     add(pattern, "line", x1=0, y1=0, x2=0, y2=6, stroke=MARK_COLOUR, stroke_width=1.6, stroke_opacity=0.55)
+    pattern = add(root.find("defs"), "pattern", id="ready", width=5, height=5, patternUnits="userSpaceOnUse", patternTransform="rotate(-45)")
+    add(pattern, "line", x1=0, y1=0, x2=0, y2=5, stroke="#6a6a6a", stroke_width=1, stroke_opacity=0.6)
 
 
 def bar(parent, x, y, width, kind, colours, fate=DONE):
@@ -129,6 +132,13 @@ def release_arrow(parent, x, y, state):
         add(parent, "path", class_="line", d=f"M{places(x)} {places(y - 14)}v14")
         head = {"fill": "#1a1a1a"} if state == TAKEN else {"fill": "#ffffff", "stroke": "#1a1a1a"}
         add(parent, "path", d=f"M{places(x - 3.5)} {places(y - 6)}h7l-3.5 6z", **head)
+
+
+def ready(parent, x, y, width, height, colours):
+    """A job that is ready: a hatched bar in its task's pale colour."""
+    _, pale, edge = colours
+    add(parent, "rect", x=x, y=y, width=width, height=height, fill=pale, stroke=edge, stroke_width=min(0.5, width / 4))
+    add(parent, "rect", x=x, y=y, width=width, height=height, fill="url(#ready)")
 
 
 def wait(parent, x, y, width, height, colours, taken):

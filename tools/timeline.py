@@ -66,6 +66,13 @@ class Wait(NamedTuple):
     end: int = LAST_TICK
 
 
+class Ready(NamedTuple):
+    """A job that is ready, from its taking, or from the tick on which its copy-in gave way, until a copy-in begins."""
+    task: int
+    begin: int
+    end: int
+
+
 class Promotion(NamedTuple):
     task: int
     time: int
@@ -78,6 +85,7 @@ class Timeline(NamedTuple):
     bars: list
     releases: list
     waits: list
+    readies: list
     promotions: list
     completions: list
 
@@ -235,6 +243,27 @@ def check_skips(parsed, waits):
             raise BadLines(f"line {number}: the release of task {fields.task} at {fields.time} is skipped, and none of its task waits")
 
 
+# Jobs that are ready.
+
+def readies(taken, bars):
+    """When each job was ready: between its takings, in their order, a task's copy-ins give way or are done, and then the next job's come."""
+    since, copies = {}, {}
+    for time, task in taken:
+        since.setdefault(task, []).append(time)
+    for bar in bars:
+        if bar.kind == COPY_IN:
+            copies.setdefault(bar.task, []).append(bar)
+    found = []
+    for task, times in since.items():
+        left = iter(times)
+        begin = next(left)
+        for bar in sorted(copies.get(task, ()), key=lambda bar: bar.begin):
+            if begin < bar.begin:
+                found.append(Ready(task, begin, bar.begin))
+            begin = next(left, LAST_TICK) if bar.winner is None else bar.winner.time
+    return sorted(found, key=lambda ready: (ready.begin, ready.task))
+
+
 # The whole run.
 
 def check_release(fields, releases):
@@ -280,13 +309,14 @@ def timeline(table, releases, lines):
     taken = sorted((taking, task) for (_, task), taking in times.items())
     states = {(wait.begin, wait.task): WAITS for wait in waits}
     shown = [Release(task, time, states.get((time, task), TAKEN if (time, task) in times else SKIPPED)) for time, task in releases]
-    run = Timeline(table, [], [], shown, waits, [], [fields for _, fields in parsed if isinstance(fields, JobDone)])
+    run = Timeline(table, [], [], shown, waits, [], [], [fields for _, fields in parsed if isinstance(fields, JobDone)])
     for number, fields in parsed:
         if isinstance(fields, IntervalClosed):
             try:
                 add_interval(run, fields, taken)
             except BadLines as bad:
                 raise BadLines(f"line {number}: {bad}") from None
+    run.readies.extend(readies(taken, run.bars))
     return run
 
 
@@ -305,5 +335,6 @@ def part(run, first, last):
         bands=bands, bars=[bar for bar in run.bars if bar.interval in numbers],
         releases=[release for release in run.releases if shown(release.time)],
         waits=[wait for wait in run.waits if any(wait.begin < end and begin < wait.end for begin, end in within)],
+        readies=[ready for ready in run.readies if any(ready.begin < end and begin < ready.end for begin, end in within)],
         promotions=[promotion for promotion in run.promotions if promotion.interval in numbers],
         completions=[job for job in run.completions if shown(job.completion)])

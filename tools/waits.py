@@ -1,4 +1,5 @@
-"""The releases that wait, between the row of releases and the intervals: a bar for each from its release to its taking.
+"""The releases that wait and the jobs that are ready, between the row of releases and the intervals: a bar for each, from a release to its taking, and
+from the taking to the copy-in.
 
 Bars that overlap in time stand below each other, as many as there are tasks; where they are many they are thin.
 """
@@ -34,21 +35,36 @@ def height(waits):
     return (1 + max(lane for _, lane in placed)) * lane_height(placed) + BELOW
 
 
-def draw(parent, layout, waits, colours):
-    placed = lanes(waits)
-    each = lane_height(placed)
-    for wait, lane in placed:
-        draw_wait(parent, layout, wait, layout.waits + lane * each, each, colours[wait.task])
+def draw(parent, layout, run, colours):
+    for top, bars, draw_one in ((layout.waits, run.waits, draw_wait), (layout.readies, run.readies, draw_ready)):
+        placed = lanes(bars)
+        each = lane_height(placed)
+        for bar, lane in placed:
+            draw_one(parent, layout, bar, top + lane * each, each, colours[bar.task])
 
 
 def draw_wait(parent, layout, wait, y, each, colours):
     """As much of it as lies in the picture; its head only where its taking does."""
-    left, right = layout.x(max(wait.begin, layout.start)), layout.x(min(wait.end, layout.end))
     taken = wait.end <= layout.end
     until = f"until {wait.end}" if taken else "on"
     box = group(parent, f"the release of task {wait.task} at {wait.begin} waits {until}", kind="wait", task=wait.task, begin=wait.begin, end=wait.end)
-    bar = each * 0.8
-    shapes.wait(box, left, y + each * 0.1, right - left, bar, colours, taken)
-    text = longest_fitting((f"{wait.task} waits", str(wait.task)), right - left - bar)
+    bar, pieces = each * 0.8, layout.pieces(wait.begin, wait.end)
+    for left, right in pieces:
+        shapes.wait(box, left, y + each * 0.1, max(shapes.LEAST, right - left), bar, colours, taken and (left, right) == pieces[-1])
+    label(box, pieces, bar, (f"{wait.task} waits", str(wait.task)), y, each)
+
+
+def draw_ready(parent, layout, ready, y, each, colours):
+    box = group(parent, f"task {ready.task} is ready from {ready.begin} to {ready.end}", kind="ready", task=ready.task, begin=ready.begin, end=ready.end)
+    pieces = layout.pieces(ready.begin, ready.end)
+    for left, right in pieces:
+        shapes.ready(box, left, y + each * 0.1, max(shapes.LEAST, right - left), each * 0.8, colours)
+    label(box, pieces, 4, (f"{ready.task} ready", str(ready.task)), y, each)
+
+
+def label(box, pieces, less, texts, y, each):
+    """One of some texts in the widest piece, if it fits."""
+    left, right = max(pieces, key=lambda piece: piece[1] - piece[0])
+    text = longest_fitting(texts, right - left - less)
     if text and each == LANE:
-        words(box, left + (right - left - bar / 2) / 2, y + 11, text, "middle")
+        words(box, left + (right - left - less / 2) / 2, y + 11, text, "middle")

@@ -1,5 +1,7 @@
 """The picture of a run: what is drawn and where, for document 01's plans A, B and F and for random runs."""
 
+import itertools
+import math
 import pathlib
 import random
 import re
@@ -13,8 +15,9 @@ from sim.entries import release_entry
 from sim.files import read_file, record, released_sets
 from sim.lines import record_lines, text
 from tools.commands import picture
-from tools.drawing import MOST_WIDTH, draw, stack, tick_step
-from tools.shapes import RING
+from tools.drawing import LEFT, MOST_WIDTH, PAGE, draw, stack, tick_step
+from tools.shapes import LEAST, RING, task_colours
+from tools.lives import READY, lives
 from tools.output import Rejected
 from tools.plan import sound_plan
 from tools.tests.captured import gateway
@@ -101,6 +104,10 @@ class Drawn:
         numbers = [(int(tick.get("data-time")), float(tick.get("x"))) for tick in self.elements("tick")]
         (first, x_first), (last, x_last) = numbers[0], numbers[-1]
         return lambda time: x_first + (time - first) * (x_last - x_first) / (last - first)
+
+    def name_columns(self):
+        """Where the row names stand, by the place behind them at which the rows go on."""
+        return [float(element.get("x")) + 12 - LEFT for element in self.root.iter(f"{SVG}text") if element.text == "processor"]
 
     def texts(self):
         """Each text with the box that it takes, about: left, top, right, bottom."""
@@ -217,6 +224,9 @@ class PlanA(unittest.TestCase):
         ((one, other),), ((other_too, one_too),) = colours["0"], colours["1"]
         self.assertEqual((one, other), (one_too, other_too))
         self.assertNotEqual(one, other)
+
+    def test_ready_time_is_shown(self):
+        self.assertEqual(self.drawn.of_kind("ready", "task", "begin", "end"), [(1, 3, 7), (2, 3, 9)])
 
     def test_each_task_has_its_colour(self):
         fills = {}
@@ -535,11 +545,13 @@ class RandomRuns(unittest.TestCase):
         self.assertEqual(sorted(drawn.of_kind("wait", "task", "begin", "end")), observed_waits(data))
         self.assertEqual(sorted(drawn.of_kind("waiting", "task", "time")), sorted(wait[:2] for wait in drawn.of_kind("wait", "task", "begin")))
         self.assertEqual(sorted(bar[:5] for bar in drawn.bars()), observed_phases(data))
+        ready = [(life.task.number, phase.begin, phase.end) for life in lives(*read_file(data)).done() for phase in life.phases if phase.kind == READY]
+        self.assertEqual(sorted(drawn.of_kind("ready", "task", "begin", "end")), sorted(ready))
         boxes = {band.get("data-number"): first_rect(band) for band in drawn.elements("interval")}
         for bar in drawn.having("data-unit"):
             (left, _, width, _), (box_left, _, box_width, _) = first_rect(bar), boxes[bar.get("data-interval")]
             self.assertGreaterEqual(left, box_left - 0.02)
-            self.assertLessEqual(left + width, box_left + box_width + 0.04)
+            self.assertLessEqual(left + width, box_left + box_width + (0.04 if width > LEAST else LEAST + 0.02))
         self.assertLessEqual(drawn.width, MOST_WIDTH)
         return drawn
 
@@ -593,6 +605,7 @@ class Labels(unittest.TestCase):
             (axis,) = drawn.elements("axis")
             marks = [float(re.match(r"M([\d.]+) ", path.get("d")).group(1)) for path in axis.findall(f"{SVG}path")[1:]]
             breaks = [first_path_x(mark) for mark in drawn.elements("break")]
+            breaks = sorted(breaks + [x for x in drawn.name_columns() if x > LEFT])  # the row names are a break too
             for begin, end in zip([0, *breaks], [*breaks, drawn.width]):  # between two breaks all marks are equally far apart, but the first number
                 gaps = [right - left for left, right in zip(marks, marks[1:]) if begin < left and right <= end + 0.02]
                 gaps = gaps[1:] if begin else gaps
@@ -635,6 +648,56 @@ class LongRuns(unittest.TestCase):
 
     def test_short_idle_time_is_drawn(self):
         self.assertEqual(Drawn.of_plan(TASKS + "release 0 1\nrelease 9 1\n").elements("break"), [])
+
+    def test_row_names_and_legend_again_and_again(self):
+        """In a gap of their own: nothing else is drawn there, and no part of the rows is without them for long."""
+        drawn = drawn_input(random_run(9))
+        columns = drawn.name_columns()
+        self.assertGreater(len(columns), 5)
+        self.assertLess(max(right - left for left, right in zip(columns, columns[1:])), 1.3 * PAGE)
+        self.assertLess(drawn.width - columns[-1], 1.3 * PAGE)
+        labels = [label for label, _ in drawn.texts()]
+        for label in ("engine", "releases", "ready", "jobs done", "ticks"):
+            self.assertEqual(labels.count(label), len(columns), label)
+        self.assertGreaterEqual(labels.count("copy-in (in)"), len(columns) - 1)
+        for bar in drawn.having("data-unit"):
+            left, _, width, _ = first_rect(bar)
+            self.assertFalse(any(left < column + LEFT - 1 and column + 1 < left + width for column in columns), left)
+
+    def test_the_last_number_of_the_axis_is_whole(self):
+        for end in (0, 9_999_990, 999_999_990):
+            drawn = Drawn.of_plan(f"task 1 1 1 5 5 5\nrelease {end} 1\n")
+            for tick in drawn.elements("tick"):
+                self.assertLessEqual(float(tick.get("x")) + 0.62 * 11 * len(tick.text) / 2, drawn.width)
+
+    def test_a_phase_of_one_tick_is_never_invisible(self):
+        drawn = Drawn.of_plan("task 1 1 1 1 1000000 1\ntask 2 2 0 1 1 1\n" + "".join(f"release {at * 1_000_002} 1\n" for at in range(60)) + "release 70000000 2\n")
+        for bar in drawn.having("data-unit"):
+            self.assertGreaterEqual(first_rect(bar)[2], 1)
+
+    def test_idle_time_is_left_out_only_where_that_saves_room(self):
+        drawn = drawn_input(random_run(3, tasks=8, releases=4000, gap=7))
+        (axis,) = drawn.elements("axis")
+        for gap in drawn.elements("break"):
+            ticks = int(gap.get("data-end")) - int(gap.get("data-begin"))
+            self.assertGreater(ticks, 50)
+
+    def test_a_day_of_32_tasks_shows_something(self):
+        """The worst response of each task by time, in a table: every job is in a cell of it."""
+        rng = random.Random(2)
+        tasks = "".join(f"task {number} {number} {number % 3 == 0:d} {rng.randint(1, 30)} {rng.randint(1, 90)} {rng.randint(1, 20)}\n" for number in range(32))
+        releases = sorted({(rng.randrange(86_400_000), rng.randrange(32)) for _ in range(4096)})
+        drawn = Drawn.of_plan(tasks + "".join(f"release {time} {task}\n" for time, task in releases))
+        cells = drawn.of_kind("worst", "task", "response", "jobs", "skipped")
+        self.assertEqual({cell[0] for cell in cells}, set(range(32)))
+        self.assertEqual(sum(cell[2] for cell in cells), len(drawn.elements("completion")))
+        worst = max(int(job.get("data-time")) - int(job.get("data-release")) for job in drawn.elements("completion"))
+        self.assertEqual(max(cell[1] for cell in cells), worst)
+        self.assertIn(str(worst), [label for label, _ in drawn.texts()])
+        self.assertLessEqual(drawn.width, MOST_WIDTH)
+
+    def test_a_short_run_has_no_such_table(self):
+        self.assertEqual(Drawn.of_plan(A).elements("worst"), [])
 
     def test_thousands_of_breaks(self):
         tasks = "task 1 1 1 2 3 1\n"
@@ -789,6 +852,20 @@ class Command(unittest.TestCase):
             path = pathlib.Path(folder, "a\x01<&.plan")
             path.write_text(A, encoding="utf-8")
             self.assertEqual(Drawn(picture_of(str(path))).root.find(f"{SVG}title").text, "Run of a?<&.plan")
+
+
+class Colours(unittest.TestCase):
+    def test_32_tasks_are_told_apart(self):
+        """By the distance of colours as people see them (CIE L*a*b*): 2.3 is just noticeable."""
+        def seen(colour):
+            red, green, blue = (((part / 255 + 0.055) / 1.055)**2.4 if part > 10 else part / 255 / 12.92
+                                for part in (int(colour[at:at + 2], 16) for at in (1, 3, 5)))
+            x, y, z = (0.4124 * red + 0.3576 * green + 0.1805 * blue) / 0.9505, 0.2126 * red + 0.7152 * green + 0.0722 * blue, \
+                (0.0193 * red + 0.1192 * green + 0.9505 * blue) / 1.089
+            x, y, z = (part**(1 / 3) if part > 0.008856 else 7.787 * part + 16 / 116 for part in (x, y, z))
+            return 116 * y - 16, 500 * (x - y), 200 * (y - z)
+        colours = [seen(full) for full, _, _ in task_colours(range(32)).values()]
+        self.assertGreater(min(math.dist(one, other) for one, other in itertools.combinations(colours, 2)), 20)
 
 
 class Documents(unittest.TestCase):
