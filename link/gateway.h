@@ -17,7 +17,7 @@ extern "C" {
  * It answers 0 where that was written; *told is then its length, and what stands behind it in `out` is as it was.
  * It answers 13 where `out` is too short; *told is then the length needed.
  * It answers another number where what it was handed is refused; *told is then the place of the refused entry, or 0 where
- * the refusal has no place. The README lists the numbers. On a refusal, 13 among them, `out` is as it was.
+ * the refusal has no place. docs/FORMATS.md lists the numbers. On a refusal, 13 among them, `out` is as it was.
  *
  * Nothing is asked of the bytes. Each pointer points to as many bytes as the length behind it says, and `told` to a size_t;
  * none is null, not even at length 0, and neither `out` nor `told` overlaps another of them. */
@@ -34,7 +34,7 @@ uint8_t gateway_read(const uint8_t *tasks, size_t tasks_length, const uint8_t *r
 /* ---- The dispatcher by instants: one for each core.
  *
  * A dispatcher is plain memory with no pointer in it: it is kept, copied and moved freely. Nothing is asked of what it holds: memory that
- * no call made gets an answer too. Each call answers 0, or the number of a refusal (the README lists them); one that is refused leaves
+ * no call made gets an answer too. Each call answers 0, or the number of a refusal (docs/FORMATS.md lists them); one that is refused leaves
  * *d and *answer as they were. The pointers are not null, and what they point to does not overlap. Calls on one dispatcher come one after
  * the other; calls on different ones may run at once. */
 

@@ -26,7 +26,7 @@ for plan in plans/*.plan; do
         ! grep -q "cut: byte $(stat -c %s "$made/cut"): the record ends" "$made/why"; then
         fail "the record of $plan without its last entry is not refused by 18, or not where it ends"
     fi
-    for words in summary "summary --json" picture "compare --mark 1=0"; do
+    for words in summary "summary --json" picture page "compare --mark 1=0"; do
         # shellcheck disable=SC2086
         ./gateway $words "$plan" >"$made/told" || fail "$words $plan does not end well"
         [ -s "$made/told" ] || fail "$words $plan writes nothing"

@@ -881,11 +881,25 @@ class Documents(unittest.TestCase):
     def test_lines_of_document_01(self):
         self.assertEqual(text(self.lines("a")), LINES_A)
 
-    def test_lines_in_the_readme(self):
-        """All of plans A and F, and of plan B those that are not plan A's."""
-        readme, lines_a = (ROOT / "README.md").read_text(encoding="utf-8"), self.lines("a")
-        for lines in (lines_a, [line for line in self.lines("b") if line not in lines_a], self.lines("f")):
-            self.assertIn("\n\n" + "".join(f"    {line}\n" for line in lines) + "\n", readme)
+    def test_lines_in_the_documents(self):
+        """Plan A in the README; of plan B what is not plan A's, and plan F, in RULES."""
+        readme, rules = ((ROOT / name).read_text(encoding="utf-8") for name in ("README.md", "docs/RULES.md"))
+        lines_a = self.lines("a")
+        for text_of, lines in ((readme, lines_a), (rules, [line for line in self.lines("b") if line not in lines_a]), (rules, self.lines("f"))):
+            self.assertIn("\n\n" + "".join(f"    {line}\n" for line in lines) + "\n", text_of)
+
+    def test_what_is_told_in_the_documents(self):
+        desks = (ROOT / "docs/DESKS.md").read_text(encoding="utf-8")
+        plan = str(ROOT / "plans/a.plan")
+        for words in (("why", plan, "1", "3"), ("summary", plan)):
+            told = gateway(*words)[1].decode()
+            self.assertIn("\n\n" + "".join(f"    {line}".rstrip() + "\n" for line in told.splitlines()) + "\n", desks)
+
+    def test_the_readme_is_short_and_its_links_lead_somewhere(self):
+        self.assertLessEqual(len((ROOT / "README.md").read_text(encoding="utf-8").splitlines()), 150)
+        for path in [ROOT / "README.md", ROOT / "CONTRIBUTING.md", *ROOT.glob("docs/*.md")]:
+            for link in re.findall(r"\]\(([^)#]+)\)", path.read_text(encoding="utf-8")):
+                self.assertTrue((path.parent / link).exists(), f"{path.name}: {link}")
 
 
 if __name__ == "__main__":
