@@ -73,7 +73,8 @@ class Browser:
             self.ask(f"{domain}.enable")
         self.ask("Emulation.setDeviceMetricsOverride", width=WIDTH, height=HEIGHT, deviceScaleFactor=1, mobile=False)
         self.ask("Page.navigate", url=pathlib.Path(path).resolve().as_uri())
-        self.value("new Promise(done => { const go = () => window.page ? requestAnimationFrame(() => requestAnimationFrame(done)) : setTimeout(go, 20); go(); })")
+        self.value("new Promise(done => { const go = () => window.page ? done() : setTimeout(go, 20); go(); })")
+        self.settle()
 
     def value(self, expression):
         """What an expression of the page's is, once what was asked before is drawn."""

@@ -1,9 +1,10 @@
 """A run's timeline as SVG.
 
-From the top: title, legend, the releases, those that wait, the jobs that are ready, a head for each interval, the processor's row, the promotions,
-the engine's row, the jobs done, the axis; of a long run, below it, the worst responses by task and time. Each thing drawn says in data attributes what it is and when, and has a title, which viewers show on pointing at it:
-where there is no room for a label, nothing is lost. Where no interval is open for long, the axis breaks: the time between is not drawn to scale. A wide
-picture has legend and row names again and again.
+From the top: title, legend, the releases, those that wait, the jobs that are ready, a head for each interval, the processor's row, the
+promotions, the engine's row, the jobs done, the axis; of a long run, below it, the worst responses by task and time. Each thing drawn says in
+data attributes what it is and when, and has a title, which viewers show on pointing at it: where there is no room for a label, nothing is
+lost. Where no interval is open for long, the axis breaks: the time between is not drawn to scale. A wide picture has legend and row names
+again and again.
 """
 
 from bisect import bisect_right

@@ -1,5 +1,5 @@
-"""The releases that wait and the jobs that are ready, between the row of releases and the intervals: a bar for each, from a release to its taking, and
-from the taking to the copy-in.
+"""The releases that wait and the jobs that are ready, between the row of releases and the intervals: a bar for each, from a release to its
+taking, and from the taking to the copy-in.
 
 Bars that overlap in time stand below each other, as many as there are tasks; where they are many they are thin.
 """
@@ -55,7 +55,8 @@ def draw_wait(parent, layout, wait, y, each, colours):
 
 
 def draw_ready(parent, layout, ready, y, each, colours):
-    box = group(parent, f"task {ready.task} is ready from {ready.begin} to {ready.end}", kind="ready", task=ready.task, begin=ready.begin, end=ready.end)
+    title = f"task {ready.task} is ready from {ready.begin} to {ready.end}"
+    box = group(parent, title, kind="ready", task=ready.task, begin=ready.begin, end=ready.end)
     pieces = layout.pieces(ready.begin, ready.end)
     for left, right in pieces:
         shapes.ready(box, left, y + each * 0.1, max(shapes.LEAST, right - left), each * 0.8, colours)

@@ -51,7 +51,8 @@ class Story:
 def title(life):
     task = life.task
     mark = "latency-sensitive" if task.mark else "not latency-sensitive"
-    about = f"task {task.number}: priority {task.priority}, {mark}; copy-in L {task.copy_in}, execution C {task.execution}, copy-out U {task.copy_out}"
+    lengths = f"copy-in L {task.copy_in}, execution C {task.execution}, copy-out U {task.copy_out}"
+    about = f"task {task.number}: priority {task.priority}, {mark}; {lengths}"
     if life.skipped:
         return f"The release of task {task.number} at {life.release} was skipped.\n{about}\n"
     return f"The release of task {task.number} at {life.release} was done at {life.completion}: response {ticks(life.response)}.\n{about}\n"
@@ -64,8 +65,9 @@ def tell_skipped(run, life, story):
     other = run.lives[since, life.task.number]
     behind = other.waits.behind
     story.head(f"Only one release of a task can wait, and the one at {since} did (step c):")
-    story.add(behind.release, f"the release behind whose job it waited; that job was done at {run.lives[behind.release, behind.task.number].completion}")
-    story.add(since, f"a release of task {life.task.number}: it waited until {other.taken}")
+    number = life.task.number
+    story.add(behind.release, f"a release of task {number}: its job was pending until {run.lives[behind.release, number].completion}")
+    story.add(since, f"the next release of task {number}: it waited for that, until {other.taken}")
     story.add(life.release, "this release: skipped. It has no job and changes nothing else")
 
 
@@ -140,7 +142,8 @@ def tell_giving_way(given, life, story):
     """A lower copy-in gives way to this job, or to another."""
     done = f"cancels the copy-in of task {given.job.task.number}, which is under way" if given.fate == COPY_IN_CANCELLED else \
         f"throws out the finished copy of task {given.job.task.number}"
-    who = "this release, latency-sensitive and higher," if given.winner is life.job else f"the release of {job_name(given.winner, life.job)}, latency-sensitive,"
+    other = f"the release of {job_name(given.winner, life.job)}, latency-sensitive,"
+    who = "this release, latency-sensitive and higher," if given.winner is life.job else other
     story.add(given.time, f"{who} {done} (R3)")
 
 
@@ -154,10 +157,13 @@ def tell_end(spell, life, story):
     """What the end of an interval brings to a job that is not executed yet."""
     if spell.promoted is life.job:
         reason = "its copy-in gave way" if spell.gave_way else "nobody was chosen in it"
-        story.add(spell.end, f"the interval ends. {reason.capitalize()}, and this is the highest latency-sensitive job released in it: promoted (R4)")
+        story.add(spell.end, f"the interval ends. {reason.capitalize()}, and this is the highest latency-sensitive job released in it: "
+                             "promoted (R4)")
     elif spell.promoted is not None:
-        own = "this job is not latency-sensitive" if not life.task.mark else "this job was not released in it" if life.first is not spell else "it is the highest"
-        story.add(spell.end, f"the interval ends; {job_name(spell.promoted, life.job)}, latency-sensitive and released in it, is promoted: {own} (R4)")
+        late = "this job was not released in it" if life.first is not spell else "it is the highest"
+        why = late if life.task.mark else "this job is not latency-sensitive"
+        other = job_name(spell.promoted, life.job)
+        story.add(spell.end, f"the interval ends; {other}, latency-sensitive and released in it, is promoted: {why} (R4)")
     elif spell in life.chosen and not any(where is spell for where, _ in life.gave_way):
         story.add(spell.end, "the interval ends; this job is copied in, and is executed next (R5)")
     elif spell.choice.job is not None and spell.gave_way is None:
@@ -189,7 +195,8 @@ def tell_execution(life, story):
         if phase.kind in (OWN_COPY_IN, EXECUTION):
             story.add(span_of(phase.begin, phase.end), phase.kind)
         if phase.kind == EXECUTED:
-            story.add(span_of(phase.begin, phase.end), "executed; the engine is not through yet, and the interval ends with the later of the two (R6)")
+            story.add(span_of(phase.begin, phase.end), "executed; the engine is not through yet, and the interval ends with the later of the two "
+                                                       "(R6)")
     out = life.out
     story.head(f"interval {out.number}, {span_of(out.begin, out.end)}: the engine copies this job out, first of all")
     story.add(span_of(life.phases[-1].begin, life.completion), "copy-out; then the job is done")
@@ -199,7 +206,7 @@ def tell_execution(life, story):
 
 def sum_of(life):
     parts = life.parts()
-    return f"response {life.response} = " + " + ".join(f"{number} {PARTS[kind]}" for kind, number in sorted(parts.items(), key=lambda part: tuple(PARTS).index(part[0])))
+    return f"response {life.response} = " + " + ".join(f"{parts[kind]} {text}" for kind, text in PARTS.items() if kind in parts)
 
 
 def blocked_by(run, life):

@@ -1,7 +1,7 @@
 """write a run as a page for a browser, with zoom, search and the reasons
 
-One file with all that it needs: ./gateway page PLAN > run.html. A row for each task from release to completion, rows for the processor and the engine;
-pointing at a job tells what ./gateway why says of it.
+One file with all that it needs: ./gateway page PLAN > run.html. A row for each task from release to completion, rows for the processor and
+the engine; pointing at a job tells what ./gateway why says of it.
 """
 
 import os

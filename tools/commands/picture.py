@@ -1,7 +1,7 @@
 """draw a run as an SVG picture
 
-The run of a plan, as the proved program prints it; or, with --lines, a run that was printed before, which has to be whole. Long idle time is left out:
-the axis breaks there and says how many ticks it passes over.
+The run of a plan, as the proved program prints it; or, with --lines, a run that was printed before, which has to be whole. Long idle time
+is left out: the axis breaks there and says how many ticks it passes over.
 """
 
 import argparse
@@ -62,8 +62,8 @@ def run_of_lines(plan, lines, name):
     whole = lives(plan.table, plan.releases).lines
     number = differing(whole, [line.strip() for line in lines])
     if number is not None:
-        there = f"line {number}: the run of this plan has '{whole[number - 1]}' here" if number <= len(whole) else f"line {number}: the run of this plan ends before it"
-        raise Rejected(f"{name}: {there}")
+        there = f"has '{whole[number - 1]}' here" if number <= len(whole) else "ends before it"
+        raise Rejected(f"{name}: line {number}: the run of this plan {there}")
     return run
 
 

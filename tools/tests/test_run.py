@@ -9,7 +9,7 @@ import tempfile
 import time
 import unittest
 
-from tools.tests.house import House
+from tools.tests.house import ROOT, House
 
 TASK = "task 1 1 1 2 3 1\n"
 LINES_C = "I 0 2 0 - 0 - 1 1 -\nI 2 5 1 1 1 - - 0 -\nJ 1 0 2 6 0\nI 5 6 0 - 0 1 - 0 -\n"
@@ -61,6 +61,12 @@ class Run(Housed):
                 ("# nothing\n", "R 12 0\n", "the plan has no entry (refusal 12)")):
             plan = self.house.plan(text)
             self.assertEqual(self.run_plan(plan), (1, printed, f"{plan}: {words}\n"))
+
+    def test_a_plan_without_end(self):
+        """No more of it is read than the release too many."""
+        words = f"{{ echo {TASK.strip()}; seq -f 'release %.0f 1' 0 999999999999; }} | '{self.house.folder}/gateway' run -"
+        done = subprocess.run(["bash", "-c", words], capture_output=True, env=self.house.environment, timeout=20, check=False)
+        self.assertEqual((done.returncode, done.stdout), (1, b"R 11 40976\n"))
 
     def test_a_line_that_is_no_entry(self):
         plan = self.house.plan(TASK + "tusk\n")
@@ -143,6 +149,16 @@ class Words(Housed):
             status, printed, said = self.house.run(*words)
             self.assertEqual((status, printed), (2, ""), words)
             self.assertIn("usage: gateway", said)
+
+
+class Gate(unittest.TestCase):
+    def test_its_help(self):
+        """It runs nothing; nor does a word that it does not know."""
+        for words, status in ((("--help",), 0), (("-h",), 0), (("--fly",), 2)):
+            done = subprocess.run([str(ROOT / "test"), *words], capture_output=True, timeout=20, check=False)
+            self.assertEqual(done.returncode, status)
+            self.assertIn(b"COUNT=N ./test", done.stdout if status == 0 else done.stderr)
+            self.assertNotIn(b"== ", done.stdout)
 
 
 class Record(Housed):

@@ -97,7 +97,7 @@ blocked in 1 interval: interval 2 (2 to 7) by task 3
         self.assertEqual(status, 0)
         self.assertIn("The release of task 1 at 4 was skipped.", printed)
         self.assertIn("Only one release of a task can wait, and the one at 3 did (step c)", printed)
-        self.assertIn("a release of task 1: it waited until 6", printed)
+        self.assertIn("the next release of task 1: it waited for that, until 6", printed)
 
     def test_a_job_that_meets_a_higher_choice(self):
         plan = TASKS + "release 0 1\nrelease 0 2\nrelease 0 3\n"
