@@ -321,27 +321,17 @@ def summary(run, layout):
         count(len(run.completions), "job done", "jobs done")))
 
 
-def draw(run, title):
-    """The whole picture as text."""
-    root = ElementTree.Element("svg", {"xmlns": "http://www.w3.org/2000/svg", "role": "img", "aria-labelledby": "title desc"})
-    add(root, "title", title, id="title")
-    description = add(root, "desc", id="desc")
-    shapes.definitions(root)
-    paper = add(root, "rect", x=0, y=0, fill="#ffffff")
-    colours = shapes.task_colours(run.table)
-    first = Layout(run, 0)
-    width = max(LEAST_WIDTH, first.right + max(RIGHT, width_of(str(first.end)) / 2 + 8))
-    key = add(root, "g")
-    across = min(width, MOST_LEGEND) - 40
-    top = 66 + legend.draw(key, 20, 60, across, legend.items(run, colours))
-    for x in first.names[1:]:  # again where the row names are
+def draw_legends(root, run, colours, width, names):
+    """The legend, and again wherever the row names are; the height that it takes comes back."""
+    key, across = add(root, "g"), min(width, MOST_LEGEND) - 40
+    for x in names[1:]:
         if x + across <= width:
             legend.draw(key, x - LEFT + 20, 60, across, legend.items(run, colours))
-    layout = Layout(run, top)
-    description.text = f"Timeline of the processor and the copy engine: {summary(run, layout)}."
-    words(root, 20, 28, title, "heading")
-    words(root, 20, 48, summary(run, layout))
-    draw_row_names(root, layout)
+    return legend.draw(key, 20, 60, across, legend.items(run, colours))
+
+
+def draw_run(root, layout, run, colours):
+    """All that happens, each thing over those that it may lie on."""
     for band in run.bands:
         draw_band(root, layout, band)
     for bar in run.bars:
@@ -355,6 +345,23 @@ def draw(run, title):
     waits.draw(root, layout, run, colours)
     draw_releases(root, layout, run.releases)
     draw_completions(root, layout, run.completions)
+
+
+def draw(run, title):
+    """The whole picture as text."""
+    root = ElementTree.Element("svg", {"xmlns": "http://www.w3.org/2000/svg", "role": "img", "aria-labelledby": "title desc"})
+    add(root, "title", title, id="title")
+    description = add(root, "desc", id="desc")
+    shapes.definitions(root)
+    paper = add(root, "rect", x=0, y=0, fill="#ffffff")
+    colours, wide = shapes.task_colours(run.table), Layout(run, 0)
+    width = max(LEAST_WIDTH, wide.right + max(RIGHT, width_of(str(wide.end)) / 2 + 8))
+    layout = Layout(run, 66 + draw_legends(root, run, colours, width, wide.names))
+    description.text = f"Timeline of the processor and the copy engine: {summary(run, layout)}."
+    words(root, 20, 28, title, "heading")
+    words(root, 20, 48, summary(run, layout))
+    draw_row_names(root, layout)
+    draw_run(root, layout, run, colours)
     draw_axis(root, layout)
     draw_breaks(root, layout)
     bottom = layout.bottom + responses.draw(root, layout, run, colours)

@@ -5,6 +5,7 @@ the toolchain and nothing is written, so that a checkout that cannot be written 
 """
 
 import contextlib
+import errno
 import fcntl
 import hashlib
 import os
@@ -17,6 +18,7 @@ from tools.output import Trouble, tell
 
 ROOT = pathlib.Path(__file__).resolve().parents[1]
 NAMES = ("gateway", "recorder", "reader")  # those that a command runs
+CANNOT_WRITE = (errno.EACCES, errno.EPERM, errno.EROFS)
 PIECE = 1 << 16
 
 
@@ -52,6 +54,15 @@ def ready(name):
         return program if (ROOT / "target/proved" / name).read_text(encoding="utf-8") == noted(name, program) else None
     except OSError:
         return None
+
+
+def is_lost(name):
+    """Whether a program is not there, or is another than the one that was proved of these sources: then it is built again."""
+    try:
+        (ROOT / "target/bin" / name).read_bytes()
+        return (ROOT / "target/proved" / name).read_text(encoding="utf-8").startswith(sum_of(name))
+    except OSError:
+        return not (ROOT / "target/bin" / name).exists()
 
 
 # Building it.
@@ -101,7 +112,7 @@ def build(name):
         program = ready(name)  # another may have built it meanwhile
         if program is not None:
             return program
-        if not path.exists():
+        if is_lost(name):
             tell(f"gateway: {name} is proved before it is run, which takes a few minutes\n")
             (ROOT / "target/stamp" / name).unlink(missing_ok=True)  # without it the toolchain would find nothing to do
         prove(name, held)
@@ -121,10 +132,9 @@ def proved(name):
         return build(name)
     except FileNotFoundError as error:
         raise Trouble(f"gateway: {error.filename}: {error.strerror}; is the Rattle toolchain installed?") from None
-    except PermissionError as error:
-        raise Trouble(f"gateway: {error.filename}: {error.strerror}; {name} is not built here yet: ./gateway build does it") from None
     except OSError as error:
-        raise Trouble(f"gateway: {error.filename}: {error.strerror}") from None
+        hint = f"; {name} is not built here yet: ./gateway build does it" if error.errno in CANNOT_WRITE else ""
+        raise Trouble(f"gateway: {error.filename}: {error.strerror}{hint}") from None
 
 
 # Running it.

@@ -23,7 +23,7 @@ def ticks(number):
 
 def job_name(job, beside):
     """Another job, and whether it is higher or lower than the one of which is told."""
-    rank = "higher" if is_higher(job, beside) else "lower"
+    rank = "higher" if is_higher(job, beside) else "lower" if is_higher(beside, job) else "equal"
     return f"task {job.task.number} (priority {job.task.priority}, {rank})"
 
 
