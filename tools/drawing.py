@@ -98,8 +98,11 @@ class Layout:
     def pieces(self, begin, end):
         """Where a time that reaches over several spans is drawn: a left and a right edge in each. What is outside the picture is left out."""
         found = []
-        for left, (first, last) in zip(self.lefts, self.spans):
-            if first < end and begin < last:
+        for at in range(max(0, bisect_right(self.spans, (begin, 2 * self.end + 2)) - 1), len(self.spans)):
+            left, (first, last) = self.lefts[at], self.spans[at]
+            if first >= end:
+                break
+            if begin < last:
                 found.append((left + (max(begin, first) - first) * self.scale, left + (min(end, last, self.end) - first) * self.scale))
         return found
 

@@ -1,8 +1,8 @@
 """The worst response of each task in each span of time, as a table below the picture of a long run: where its phases are too many to be told apart,
 this tells when which task had to wait.
 
-A cell has the worst response of the jobs released in it, darker where it comes nearer to the task's worst of all; a skipped release shows as an edge
-in red. Time goes evenly through the whole run here, idle time too.
+A cell has the worst response of the jobs released in it: white where that is L + C + U, as of a job alone, and darker where it comes nearer to
+the task's worst of all; a skipped release shows as an edge in red. Time goes evenly through the whole run here, idle time too.
 """
 
 from collections import defaultdict
@@ -48,9 +48,11 @@ def draw(parent, layout, run, colours):
         y = top + at * ROW
         add(parent, "rect", x=8, y=y + 4, width=10, height=10, fill=colours[task.number][0], stroke=colours[task.number][2], stroke_width=0.5)
         words(parent, LEFT - 8, y + 13, f"task {task.number}", "end")
-        worst = max((job.completion - job.release for job in run.completions if job.task == task.number), default=1)
+        alone = task.copy_in + task.execution + task.copy_out
+        worst = max((job.completion - job.release for job in run.completions if job.task == task.number), default=alone)
         for column in range(COLUMNS):
-            draw_cell(parent, LEFT + column * CELL, y, task.number, jobs[task.number, column], skipped[task.number, column], worst)
+            here = jobs[task.number, column], skipped[task.number, column]
+            draw_cell(parent, LEFT + column * CELL, y, task.number, *here, (alone, max(worst, alone + 1)))
     y = top + len(tasks) * ROW + 14
     for column in range(0, COLUMNS + 1, 2):
         words(parent, LEFT + column * CELL, y, str(start + (end - start) * column // COLUMNS), "middle")
@@ -58,7 +60,8 @@ def draw(parent, layout, run, colours):
     return TOP + len(tasks) * ROW + BELOW
 
 
-def draw_cell(parent, x, y, task, jobs, skipped, worst):
+def draw_cell(parent, x, y, task, jobs, skipped, bounds):
+    """One task in one span of time; the bounds are the responses of the lightest and the darkest cell."""
     if not jobs and not skipped:
         return
     most = max(jobs, key=lambda job: job.completion - job.release, default=None)
@@ -67,8 +70,9 @@ def draw_cell(parent, x, y, task, jobs, skipped, worst):
     if most is not None:
         title += f"; the worst response is {response}, of the release at {most.release}, blocked {most.blocked}"
     box = group(parent, title, kind="worst", task=task, response=response, jobs=len(jobs), skipped=skipped)
-    add(box, "rect", x=x + 1, y=y + 1, width=CELL - 2, height=ROW - 2, fill=shapes.blended("#ffffff", DARK, 0.08 + 0.6 * response / worst),
-        stroke=shapes.MARK_COLOUR if skipped else "none", stroke_width=1.5)
+    share = max(0, response - bounds[0]) / (bounds[1] - bounds[0])
+    add(box, "rect", x=x + 1, y=y + 1, width=CELL - 2, height=ROW - 2, fill=shapes.blended("#ffffff", DARK, 0.7 * share),
+        stroke=shapes.MARK_COLOUR if skipped else "#dddddd", stroke_width=1.5 if skipped else 0.5)
     text = str(response) if jobs else "-"
     if width_of(text) <= CELL - 4:
         words(box, x + CELL / 2, y + 13, text, "middle")
