@@ -194,7 +194,7 @@ def hovers(trial):
     """Pointing at a job tells of it."""
     browser = trial.browser
     browser.value("(life => { page.view.scale = 40; page.view.from = life.release - 3; page.draw(); })(page.lives[0])")
-    task, place = browser.value("[page.lives[0].task, page.x(page.lives[0].phases.find(phase => phase[0] === 4)[1]) + 5]")
+    task, place = browser.value("[page.lives[0].task, page.x(page.lives[0].phases.find(phase => phase[0] === 5)[1]) + 5]")
     top = browser.value("document.getElementById('canvas').getBoundingClientRect().top")
     browser.move(place, top + 34 + 34 + 17)  # the engine's row: its copy-in
     told = trial.text("hover")

@@ -8,18 +8,19 @@ from dataclasses import dataclass, field
 from typing import Any, NamedTuple, Optional
 
 from sim import notes
-from sim.dispatcher import COPY_IN_THROWN_OUT, Dispatcher, is_higher
+from sim.dispatcher import COPY_IN_CANCELLED, COPY_IN_THROWN_OUT, Dispatcher, is_higher
 from sim.files import instant_entries, run
 from sim.lines import record_lines
 from tools.events import event
 from tools.output import Trouble
 
 # The phases of a life, in the order in which a job can come to them.
-WAITING, READY, LOST, LOST_LATER, COPY_IN, LOADED, OWN_COPY_IN, EXECUTION, EXECUTED, COPY_OUT = (
-    "waiting", "ready", "lost copy-in", "lost copy", "copy-in", "copied in", "copy-in by the processor", "execution", "executed", "copy-out")
+WAITING, READY, CANCELLED, THROWN_OUT, LYING, COPY_IN, LOADED, OWN_COPY_IN, EXECUTION, EXECUTED, COPY_OUT = (
+    "waiting", "ready", "copy-in cancelled", "copy-in thrown out", "copy thrown out", "copy-in", "copied in", "copy-in by the processor", "execution",
+    "executed", "copy-out")
 
-# What a phase is called once its copy gave way.
-LOSSES = {COPY_IN: LOST, LOADED: LOST_LATER}
+# What the phases of a copy are called once it gave way; those of an earlier one have their name already.
+LOSSES = {COPY_IN_CANCELLED: {COPY_IN: CANCELLED}, COPY_IN_THROWN_OUT: {COPY_IN: THROWN_OUT, LOADED: LYING}}
 
 
 class Phase(NamedTuple):
@@ -169,9 +170,7 @@ class Follower:
         life = self.by_job[note.job]
         life.gave_way.append((self.open, note))
         life.goes_on(READY, note.time)
-        lost = 2 if note.fate == COPY_IN_THROWN_OUT and life.phases[-1].kind == LOADED else 1
-        for at in range(-lost, 0):  # the copy, and the time for which it lay there
-            life.phases[at] = life.phases[at]._replace(kind=LOSSES[life.phases[at].kind])
+        life.phases = [phase._replace(kind=LOSSES[note.fate].get(phase.kind, phase.kind)) for phase in life.phases]
 
     def ended(self, note, _):
         self.open.end, self.open.promoted = note.time, note.promoted

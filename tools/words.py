@@ -1,19 +1,19 @@
 """The life of a release told in words, interval by interval, with the rule that decided each thing; docs/RULES.md has the rules."""
 
 from sim.dispatcher import COPY_IN_AND_EXECUTE, COPY_IN_CANCELLED, is_higher
-from tools.lives import COPY_IN, COPY_OUT, EXECUTED, EXECUTION, LOADED, LOST, LOST_LATER, OWN_COPY_IN, READY, WAITING
+from tools.lives import CANCELLED, COPY_IN, COPY_OUT, EXECUTED, EXECUTION, LOADED, LYING, OWN_COPY_IN, READY, THROWN_OUT, WAITING
 
 # What the ticks of each kind of phase are called where they are added up.
 PARTS = {
-    WAITING: "waiting for the job before", READY: "ready", LOST: "in copy-ins that gave way", LOST_LATER: "copied in and then thrown out",
-    COPY_IN: "copy-in", LOADED: "copied in, until the interval's end", OWN_COPY_IN: "copy-in by the processor", EXECUTION: "execution",
+    WAITING: "waiting for the job before", READY: "ready", CANCELLED: "in copy-ins that were cancelled", THROWN_OUT: "in copy-ins that were thrown out",
+    LYING: "copied in and then thrown out", COPY_IN: "copy-in", LOADED: "copied in, until the interval's end", OWN_COPY_IN: "copy-in by the processor", EXECUTION: "execution",
     EXECUTED: "executed, until the interval's end", COPY_OUT: "copy-out",
 }
 
 # What the engine does for a job before its execution.
 ENGINE_PHASES = {
-    COPY_IN: "copy-in by the engine", LOST: "copy-in by the engine, which is lost", LOST_LATER: "copied in, and lost too",
-    LOADED: "copied in; the interval goes on until both units are through (R6)",
+    COPY_IN: "copy-in by the engine", CANCELLED: "copy-in by the engine, which is lost", THROWN_OUT: "copy-in by the engine, which is lost",
+    LYING: "copied in, and lost too", LOADED: "copied in; the interval goes on until both units are through (R6)",
 }
 
 

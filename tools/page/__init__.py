@@ -3,14 +3,14 @@
 import json
 import pathlib
 
-from tools.lives import COPY_IN, COPY_OUT, EXECUTED, EXECUTION, LOADED, LOST, LOST_LATER, OWN_COPY_IN, READY, WAITING
+from tools.lives import CANCELLED, COPY_IN, COPY_OUT, EXECUTED, EXECUTION, LOADED, LYING, OWN_COPY_IN, READY, THROWN_OUT, WAITING
 from tools.shapes import task_colours
 from tools.words import told
 
 HERE = pathlib.Path(__file__).resolve().parent
 
 # The kinds of phases, as page.js numbers them.
-KINDS = (WAITING, READY, LOST, LOST_LATER, COPY_IN, LOADED, OWN_COPY_IN, EXECUTION, EXECUTED, COPY_OUT)
+KINDS = (WAITING, READY, CANCELLED, THROWN_OUT, LYING, COPY_IN, LOADED, OWN_COPY_IN, EXECUTION, EXECUTED, COPY_OUT)
 SKIPPED = -1
 
 

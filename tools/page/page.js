@@ -5,8 +5,8 @@ const run = JSON.parse(document.getElementById("data").textContent);
 const canvas = document.getElementById("canvas"), pen = canvas.getContext("2d");
 const hover = document.getElementById("hover"), pinned = document.getElementById("pinned"), said = document.getElementById("said");
 const LEFT = 150, AXIS = 34, LEAST_ROW = 30, UNIT_ROW = 34, MOST_SCALE = 200;
-const PHASES = ["waiting", "ready", "lost copy-in", "lost copy", "copy-in", "copied in", "copy-in by the processor", "execution", "executed", "copy-out"];
-const [WAITING, READY, LOST, LOST_LATER, COPY_IN, LOADED, OWN_COPY_IN, EXECUTION, EXECUTED, COPY_OUT] = PHASES.keys();
+const PHASES = ["waiting", "ready", "copy-in cancelled", "copy-in thrown out", "copy thrown out", "copy-in", "copied in", "copy-in by the processor", "execution", "executed", "copy-out"];
+const [WAITING, READY, CANCELLED, THROWN_OUT, LYING, COPY_IN, LOADED, OWN_COPY_IN, EXECUTION, EXECUTED, COPY_OUT] = PHASES.keys();
 const SKIPPED = -1, RED = "#b00020";
 
 // The lives of each task and the bars of each unit, by time; a life is {task, release, end, phases, why, skipped}.
@@ -19,7 +19,7 @@ for (const life of lives) {
     if (life.skipped) life.end = life.release;
     for (const [kind, begin, end] of life.phases) {
         if (kind === OWN_COPY_IN || kind === EXECUTION) units[0].push({ kind, begin, end, life });
-        if (kind === COPY_IN || kind === LOST || kind === COPY_OUT) units[1].push({ kind, begin, end, life });
+        if (kind === COPY_IN || kind === CANCELLED || kind === THROWN_OUT || kind === COPY_OUT) units[1].push({ kind, begin, end, life });
     }
 }
 for (const bars of units) bars.sort((one, other) => one.begin - other.begin);
@@ -70,7 +70,7 @@ function hatched(colour, lean) {
     own.stroke();
     return pen.createPattern(tile, "repeat");
 }
-const LOSS = hatched(RED, true), READY_HATCH = hatched("#9a9a9a", false);
+const LOSS = hatched(RED, true), LOSS_TOO = hatched(RED, false), READY_HATCH = hatched("#9a9a9a", false);
 
 // A phase of a job: height and fill tell it apart from the others.
 function bar(to, kind, task, left, right, top, size) {
@@ -89,7 +89,14 @@ function bar(to, kind, task, left, right, top, size) {
     else if (kind === EXECUTION) { box(colours[0], 0, 1); edge(colours[2], 0, 1); }
     else if (kind === COPY_IN || kind === OWN_COPY_IN) { box(colours[1], 0.12, 0.76); edge(colours[2], 0.12, 0.76); }
     else if (kind === COPY_OUT) { box(colours[1], 0.12, 0.76); edge(colours[2], 0.12, 0.76, [4, 2]); }
-    else if (kind === LOST || kind === LOST_LATER) { box(colours[1], 0.12, 0.76); box(LOSS, 0.12, 0.76); edge(RED, 0.12, 0.76); if (wide < 3) box(RED, 0.12, 0.76); }
+    else if (kind === CANCELLED || kind === THROWN_OUT) { // hatched; one that was thrown out both ways
+        box(colours[1], 0.12, 0.76);
+        box(LOSS, 0.12, 0.76);
+        if (kind === THROWN_OUT) box(LOSS_TOO, 0.12, 0.76);
+        edge(RED, 0.12, 0.76);
+        if (wide < 3) box(RED, 0.12, 0.76);
+    }
+    else if (kind === LYING) box(RED, 0.44, 0.12);
     else box(colours[2], 0.46, 0.08), wide < 3 && box(colours[2], 0.4, 0.2); // copied in, executed: until the interval's end
 }
 
@@ -98,7 +105,7 @@ function label(text, left, right, y) {
     if (room > 7 * text.length) { pen.fillStyle = "#1a1a1a"; pen.fillText(text, from, y); }
 }
 
-const SHORT = { [COPY_IN]: "in", [OWN_COPY_IN]: "in", [LOST]: "in", [EXECUTION]: "run", [COPY_OUT]: "out" };
+const SHORT = { [COPY_IN]: "in", [OWN_COPY_IN]: "in", [CANCELLED]: "in", [THROWN_OUT]: "in", [EXECUTION]: "run", [COPY_OUT]: "out" };
 
 // Rows.
 
@@ -128,6 +135,15 @@ function drawUnit(bars, top) {
     }
 }
 
+function promoted(left, top) {
+    pen.fillStyle = RED;
+    pen.beginPath();
+    pen.moveTo(left - 4, top);
+    pen.lineTo(left + 4, top);
+    pen.lineTo(left, top - 7);
+    pen.fill();
+}
+
 function drawLife(life, task, top, size) {
     const own = top + size * 0.22, tall = size * 0.5, below = top + size * 0.78, thin = size * 0.16;
     for (const [kind, begin, end] of life.phases) {
@@ -135,6 +151,7 @@ function drawLife(life, task, top, size) {
         if (kind === WAITING) bar(pen, kind, task, x(begin), x(end), below, thin);
         else {
             bar(pen, kind, task, x(begin), x(end), own, tall);
+            if (kind === OWN_COPY_IN) promoted(x(begin), own);
             if (SHORT[kind]) label(`${SHORT[kind]} ${life.task}`, x(begin), x(end), own + tall / 2 + 4);
         }
     }
@@ -147,12 +164,18 @@ function drawLife(life, task, top, size) {
 
 function drawMarks(life, top, size) {
     const left = x(life.release);
-    pen.strokeStyle = pen.fillStyle = life.skipped ? "#777" : "#1a1a1a";
-    pen.lineWidth = 1;
+    pen.strokeStyle = life.skipped ? RED : "#1a1a1a";
+    pen.lineWidth = life.skipped ? 1.5 : 1;
     pen.beginPath();
     pen.moveTo(left, top + 1);
     pen.lineTo(left, top + size * 0.2);
-    if (life.skipped) { pen.moveTo(left - 4, top + size * 0.62); pen.lineTo(left + 4, top + size * 0.62 + 8); pen.moveTo(left + 4, top + size * 0.62); pen.lineTo(left - 4, top + size * 0.62 + 8); }
+    if (life.skipped) { // a cross where releases wait
+        const y = top + size * 0.86;
+        pen.moveTo(left - 4, y - 4);
+        pen.lineTo(left + 4, y + 4);
+        pen.moveTo(left + 4, y - 4);
+        pen.lineTo(left - 4, y + 4);
+    }
     pen.stroke();
     if (!life.skipped) {
         pen.fillStyle = "#1b6e3c";
@@ -432,7 +455,7 @@ for (const [id, act] of [["worst", () => worst(lives)], ["closer", () => zoom(1.
 // The legend: each kind of phase, drawn as in the rows.
 const grey = { colours: ["#9fb3c8", "#dfe8f0", "#3c5064"] };
 for (const [kind, text] of [[WAITING, "release waits"], [READY, "ready"], [COPY_IN, "copy-in"], [LOADED, "until the interval's end"], [EXECUTION, "execution"],
-    [COPY_OUT, "copy-out"], [LOST, "copy that gave way"]]) {
+    [COPY_OUT, "copy-out"], [CANCELLED, "copy-in cancelled"], [THROWN_OUT, "thrown out"]]) {
     const item = document.createElement("span"), sample = document.createElement("canvas");
     sample.width = 30;
     sample.height = 16;
@@ -441,7 +464,7 @@ for (const [kind, text] of [[WAITING, "release waits"], [READY, "ready"], [COPY_
     document.getElementById("legend").append(item);
 }
 const more = document.createElement("span");
-more.textContent = "× skipped   ● done   ◆ latency-sensitive; behind the units: half 0 blue, half 1 yellow";
+more.textContent = "▲ promoted   × skipped   ● done   ◆ latency-sensitive; behind the units: half 0 blue, half 1 yellow";
 document.getElementById("legend").append(more);
 
 window.page = { view, lives, draw, seen, x };

@@ -77,7 +77,7 @@ blocked in 1 interval: interval 2 (2 to 7) by task 3
                      "  3         the release of task 1 (priority 1, higher), latency-sensitive, cancels the copy-in of this job (R3); this job is ready again",
                      "  7 to 9    the engine first copies out task 3, executed in the interval before (step g)",
                      "  9         the engine chooses this job, the highest that is ready (R2)",
-                     "response 15 = 6 ready + 1 in copy-ins that gave way + 2 copy-in + 1 copied in, until the interval's end + 4 execution + 1 copy-out",
+                     "response 15 = 6 ready + 1 in copy-ins that were cancelled + 2 copy-in + 1 copied in, until the interval's end + 4 execution + 1 copy-out",
                      "executed before it, not lower: task 1 (9)"):
             self.assertIn(line, printed.splitlines())
 
