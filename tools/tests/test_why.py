@@ -139,6 +139,38 @@ class Held(unittest.TestCase):
                     jobs += 1
         self.assertGreater(jobs, 5_000)
 
+    def test_what_is_said_of_each_interval_is_what_its_line_has(self):
+        """Begin, end, who was executed, chosen and promoted, how the copy-in went; of the interval lines, by their number."""
+        said = {"executes": 0, "chooses": 0, "promoted": 0, "cancels": 0, "throws out": 0}
+        for _, run, found in random_runs(120, seed=12):
+            intervals = [fields for kind, fields in found if kind == INTERVAL]
+            for life in run.done():
+                for head, *lines in (block.splitlines() for block in told(run, life).split("\n\n") if block.startswith("interval ")):
+                    number, begin, end = map(int, re.match(r"interval (\d+), (\d+) to (\d+): ", head).groups())
+                    line, own = intervals[number - 1], life.task.number
+                    self.assertEqual((begin, end), line[:2])
+                    if "the processor" in head:
+                        executed = 255 if "idles" in head else own if "this job (R5)" in head else int(re.search(r"executes task (\d+)", head).group(1))
+                        self.assertEqual((executed, "copies in and" in head), (line[3], line[4] == 2))
+                        said["executes"] += 1
+                    for text in lines:
+                        self.check_line(text, line, own, said)
+        self.assertGreater(min(said.values()), 30, said)
+
+    def check_line(self, text, line, own, said):
+        """One sentence about an interval."""
+        if chooses := re.search(r"the engine chooses (?:this job|task (\d+))", text):
+            self.assertEqual(int(chooses.group(1) or own), line[6])
+            said["chooses"] += 1
+        if "promoted" in text and "nobody" not in text:
+            promoted = re.search(r"ends; task (\d+) .*is promoted", text)
+            self.assertEqual(int(promoted.group(1)) if promoted else own, line[8])
+            said["promoted"] += 1
+        for verb, fate in (("cancels", COPY_IN_CANCELLED), ("throws out", COPY_IN_THROWN_OUT)):
+            if gave_way := re.search(rf"{verb} the (?:copy-in|finished copy) of (?:this job|task (\d+))", text):
+                self.assertEqual((int(gave_way.group(1) or own), fate), (line[6], line[7]))
+                said[verb] += 1
+
     def test_phases_follow_each_other_from_the_release_to_the_completion(self):
         for _, run, _ in random_runs(60, seed=3):
             for life in run.done():
