@@ -10,6 +10,8 @@ import fcntl
 import hashlib
 import os
 import pathlib
+import resource
+import signal
 import subprocess
 import tempfile
 import time
@@ -20,6 +22,7 @@ ROOT = pathlib.Path(__file__).resolve().parents[1]
 NAMES = ("gateway", "recorder", "reader")  # those that a command runs
 CANNOT_WRITE = (errno.EACCES, errno.EPERM, errno.EROFS)
 PIECE = 1 << 16
+STACK = 1 << 20  # bytes, more than any of them takes
 
 
 # What a program is made of.
@@ -139,9 +142,18 @@ def proved(name):
 
 # Running it.
 
+def give_stack():
+    """Let programs have as much stack as they take, where only the soft limit is below that: they keep all they have on it."""
+    soft, hard = resource.getrlimit(resource.RLIMIT_STACK)
+    unlimited = resource.RLIM_INFINITY
+    if soft != unlimited and soft < STACK and (hard == unlimited or soft < hard):
+        resource.setrlimit(resource.RLIMIT_STACK, (STACK if hard == unlimited else min(STACK, hard), hard))
+
+
 def start(name, **streams):
     """Run a program from memory: no file of its own is left, however this process ends."""
     program = proved(name)
+    give_stack()
     descriptor = os.memfd_create(name)
     try:
         with open(descriptor, "wb", closefd=False) as file:
@@ -153,7 +165,11 @@ def start(name, **streams):
 
 def trouble_of(name, said, status):
     """What is to be said of a program that has ended: what it said of trouble itself, or else its status where that is not 0."""
-    return said or (f"gateway: {name} ended with status {status}\n" if status else "")
+    if said or not status:
+        return said
+    if status == -signal.SIGSEGV:
+        return f"gateway: {name} was ended for want of stack; it takes less than {STACK >> 10} KB, see ulimit -s\n"
+    return f"gateway: {name} ended with status {status}\n"
 
 
 def output_of(name, pieces):

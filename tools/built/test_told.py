@@ -50,6 +50,17 @@ class Told(unittest.TestCase):
             self.assertEqual(sum(row["done"] for row in rows), len(jobs))
             self.assertEqual(max((row["worst_response"] for row in rows if row["done"]), default=0), max((job[3] - job[1] for job in jobs), default=0))
 
+    def test_a_small_stack(self):
+        """A soft limit below what a program takes is raised for it; where the hard one is too, that is trouble and is said."""
+        self.random_plan(random.Random(23))
+        pathlib.Path(self.record).write_bytes(gateway("record", self.plan))
+        read = f"'{ROOT}/gateway' read '{self.plan}' '{self.record}'"
+        soft, hard = (subprocess.run(["bash", "-c", f"ulimit {which} -s 256 && exec {read}"], capture_output=True, check=False) for which in ("-S", ""))
+        self.assertEqual((soft.returncode, soft.stdout), (0, gateway("read", self.plan, self.record)))
+        if hard.returncode != 0:
+            self.assertEqual(hard.returncode, 2)
+            self.assertIn(b"reader was ended for want of stack", hard.stderr)
+
     def test_records(self):
         rng = random.Random(22)
         for _ in range(PLANS):
