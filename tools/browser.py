@@ -206,6 +206,19 @@ def hovers(trial):
     browser.key("a", "a")
 
 
+def finds(trial):
+    """Each of some releases, skipped ones too, is found where it is drawn, however close the view is."""
+    missed = trial.browser.value("""(() => { const missed = [], lives = page.lives.filter((life, at) => life.skipped || at % 97 === 0);
+        for (const life of lives) {
+            page.view.scale = 30; page.view.from = life.release - 5; page.view.down = 0; page.draw();
+            const at = page.rows.findIndex(row => row.includes(life)), found = [0.47, 0.86].map(part =>
+                page.lifeAt(page.x(life.release) + 1, page.rowTop(at) + part * page.rowSize()));
+            if (!found.includes(life)) missed.push([life.task, life.release]);
+        } return missed; })()""")
+    trial.check(f"every release is found where it is: {missed}", missed == [])
+    trial.browser.key("a", "a")
+
+
 def frames(trial):
     """How long a frame takes, in milliseconds, at several zooms: the most of their means."""
     return trial.browser.value("""(() => { let most = 0; page.view.down = 0;
@@ -237,6 +250,7 @@ def try_page(plan, name, folder, most=None):
             moves(trial)
             jumps(trial)
             hovers(trial)
+            finds(trial)
             if most is not None:
                 took = frames(trial)
                 print(f"{name}: a frame takes at most {took:.1f} ms")

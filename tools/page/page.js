@@ -9,14 +9,17 @@ const PHASES = ["waiting", "ready", "copy-in cancelled", "copy-in thrown out", "
 const [WAITING, READY, CANCELLED, THROWN_OUT, LYING, COPY_IN, LOADED, OWN_COPY_IN, EXECUTION, EXECUTED, COPY_OUT] = PHASES.keys();
 const SKIPPED = -1, RED = "#b00020";
 
-// The lives of each task and the bars of each unit, by time; a life is {task, release, end, phases, why, skipped}.
+// The lives of each task and the bars of each unit, by time; a life is {task, release, end, phases, why, skipped, reach}. A release that was skipped
+// ends at once, before the one that waits: `reach`, the latest end in its row so far, rises all the same, so that it can be halved by.
 const tasks = run.tasks;
 const rowOf = new Map(tasks.map((task, at) => [task.number, at]));
 const rows = tasks.map(() => []), units = [[], []];
 const lives = run.lives.map(([task, release, end, phases, why]) => ({ task, release, end, phases, why, skipped: end === SKIPPED }));
 for (const life of lives) {
-    rows[rowOf.get(life.task)].push(life);
+    const row = rows[rowOf.get(life.task)];
     if (life.skipped) life.end = life.release;
+    life.reach = Math.max(life.end, row.length ? row[row.length - 1].reach : 0);
+    row.push(life);
     for (const [kind, begin, end] of life.phases) {
         if (kind === OWN_COPY_IN || kind === EXECUTION) units[0].push({ kind, begin, end, life });
         if (kind === COPY_IN || kind === CANCELLED || kind === THROWN_OUT || kind === COPY_OUT) units[1].push({ kind, begin, end, life });
@@ -188,7 +191,7 @@ function drawMarks(life, top, size) {
 function drawRow(at, top, size) {
     const list = rows[at], task = tasks[at];
     let edge = -1;
-    for (let i = place(list, each => each.end, view.from - 4 / view.scale); i < list.length && list[i].release <= tickAt(width); i++) {
+    for (let i = place(list, each => each.reach, view.from - 4 / view.scale); i < list.length && list[i].release <= tickAt(width); i++) {
         const life = list[i], left = x(life.release), right = x(life.end);
         if (right - left < 3 && !life.skipped && view.chosen !== life) { // too small for its phases
             if (Math.floor(right) !== edge) { pen.fillStyle = task.colours[0]; pen.fillRect(left, top + size * 0.22, Math.max(1, right - left), size * 0.5); }
@@ -383,8 +386,8 @@ function lifeAt(left, y) {
     const at = Math.floor((y - AXIS - 2 * UNIT_ROW + view.down) / rowSize()), list = rows[at];
     if (!list) return null;
     const under = (y - rowTop(at)) / rowSize() > 0.74;
-    const from = place(list, each => each.end, tick - near), found = [];
-    for (let i = Math.max(0, from - 1); i < list.length && list[i].release <= tick + near; i++) if (list[i].end >= tick - near) found.push(list[i]);
+    const from = place(list, each => each.reach, tick - near), found = [];
+    for (let i = from; i < list.length && list[i].release <= tick + near; i++) if (list[i].end >= tick - near) found.push(list[i]);
     return (under ? found[found.length - 1] : found[0]) || null;
 }
 
@@ -467,7 +470,7 @@ const more = document.createElement("span");
 more.textContent = "▲ promoted   × skipped   ● done   ◆ latency-sensitive; behind the units: half 0 blue, half 1 yellow";
 document.getElementById("legend").append(more);
 
-window.page = { view, lives, draw, seen, x };
+window.page = { view, lives, rows, draw, seen, x, lifeAt, rowTop, rowSize };
 new ResizeObserver(resize).observe(canvas.parentElement);
 resize();
 showAll();
