@@ -1,6 +1,6 @@
 """Try the page of ./gateway page in a real browser: Debian's chromium, without a window, driven through its debugging pipe. No part of the gate.
 
-    python3 -m tools.browser FOLDER          the page of plan A and one with 4,096 releases; screenshots go into FOLDER
+    python3 -m tools.browser FOLDER          the page of plan A and two with 4,096 releases; screenshots go into FOLDER
 
 Each thing that a person does on the page is done, and what the page then shows is asked of it: the wheel, keys, drag, hover, click, search, the
 worst response. The last line is 'K passed'.
@@ -211,9 +211,15 @@ def finds(trial):
     missed = trial.browser.value("""(() => { const missed = [], lives = page.lives.filter((life, at) => life.skipped || at % 97 === 0);
         for (const life of lives) {
             page.view.scale = 30; page.view.from = life.release - 5; page.view.down = 0; page.draw();
-            const at = page.rows.findIndex(row => row.includes(life)), found = [0.47, 0.86].map(part =>
-                page.lifeAt(page.x(life.release) + 1, page.rowTop(at) + part * page.rowSize()));
-            if (!found.includes(life)) missed.push([life.task, life.release]);
+            const at = page.rows.findIndex(row => row.includes(life)), own = life.phases.find(phase => phase[0] !== 0);
+            const there = tick => [0.47, 0.86].map(part => page.lifeAt(page.x(tick) + 1, page.rowTop(at) + part * page.rowSize()));
+            if (!there(life.release).includes(life)) missed.push([life.task, life.release]);
+            if (own) { // in the middle of what is done for it, with that in sight
+                const middle = Math.floor((own[1] + life.end) / 2);
+                page.view.from = middle - 1;
+                page.draw();
+                if (!there(middle).includes(life)) missed.push([life.task, life.release, middle]);
+            }
         } return missed; })()""")
     trial.check(f"every release is found where it is: {missed}", missed == [])
     trial.browser.key("a", "a")
@@ -227,13 +233,13 @@ def frames(trial):
             most = Math.max(most, (performance.now() - began) / 20); } return most; })()""")
 
 
-def long_plan():
-    """4,096 releases of 32 tasks, so close that most wait for others."""
+def long_plan(ticks, count):
+    """4,096 releases of some tasks, all at random ticks."""
     rng = random.Random(3)
     found = set()
     while len(found) < 4096:
-        found.add((rng.randrange(30_000), rng.randrange(32)))
-    tasks = [f"task {number} {number} {number % 2} {1 + number % 5} {1 + number % 7} {1 + number % 3}" for number in range(32)]
+        found.add((rng.randrange(ticks), rng.randrange(count)))
+    tasks = [f"task {number} {number} {number % 2} {1 + number % 5} {1 + number % 7} {1 + number % 3}" for number in range(count)]
     return "".join(f"{line}\n" for line in tasks + [f"release {time} {task}" for time, task in sorted(found)])
 
 
@@ -267,9 +273,11 @@ def main(words):
         return 2
     folder = words[0]
     os.makedirs(folder, exist_ok=True)
-    plan = os.path.join(folder, "long.plan")
-    pathlib.Path(plan).write_text(long_plan(), encoding="utf-8")
-    passed = try_page(str(ROOT / "plans/a.plan"), "a", folder) + try_page(plan, "long", folder, most=50)
+    passed = try_page(str(ROOT / "plans/a.plan"), "a", folder)
+    for name, ticks, count in (("long", 30_000, 32), ("crowded", 5_000, 12)):  # in the second one most releases are skipped
+        plan = os.path.join(folder, f"{name}.plan")
+        pathlib.Path(plan).write_text(long_plan(ticks, count), encoding="utf-8")
+        passed += try_page(plan, name, folder, most=50)
     print(f"{passed} passed")
     return 0
 

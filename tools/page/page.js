@@ -190,9 +190,11 @@ function drawMarks(life, top, size) {
 
 function drawRow(at, top, size) {
     const list = rows[at], task = tasks[at];
-    let edge = -1;
+    let edge = -1, cross = -9;
     for (let i = place(list, each => each.reach, view.from - 4 / view.scale); i < list.length && list[i].release <= tickAt(width); i++) {
         const life = list[i], left = x(life.release), right = x(life.end);
+        if (life.skipped && left - cross < 5 && view.chosen !== life) continue; // as good as the one before it
+        if (life.skipped) cross = left;
         if (right - left < 3 && !life.skipped && view.chosen !== life) { // too small for its phases
             if (Math.floor(right) !== edge) { pen.fillStyle = task.colours[0]; pen.fillRect(left, top + size * 0.22, Math.max(1, right - left), size * 0.5); }
             edge = Math.floor(right);
