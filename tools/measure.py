@@ -6,7 +6,8 @@
 Each edit of code is made to a copy of the sources, the programs are built with no proof, and what those that reach the edit's crate
 write is compared with the simulator: on random and damaged inputs, on inputs at the limits, and for some functions in direct calls. An
 edit with no result that differs needs a line `why:` in its file, which says why the promise that it breaks is for other states than
-those that inputs and calls make. An edit of a statement changes no program and is only listed.
+those that inputs and calls make. An edit of a statement changes no program: the statement is tried on the simulator's histories, and one
+that no run breaks needs such a line too (tools/statements.py).
 """
 
 import argparse
@@ -21,7 +22,7 @@ from sim.compare import EXPECTED, inputs
 from sim.entries import Refused, parts_of, release_entry
 from sim.files import record
 from sim.reading import read
-from tools import direct, edits, limits
+from tools import direct, edits, limits, statements
 from tools.unproved import RUNS, NotBuilt, Workshop
 
 ROOT = pathlib.Path(__file__).resolve().parents[1]
@@ -185,7 +186,7 @@ def of_edit(crate, label, text, workshop, bench, briefly=False):
     try:
         edit = edits.parse(crate, label, text)
         if edits.is_statement(edit, lambda file: workshop.original(crate, file)):
-            return "statement", "a statement, and no program"
+            return statements.judged(edit, edits.edited_files(edit, lambda file: workshop.original(crate, file)), workshop.original)
         return judged(measured(edit, workshop, bench, briefly), edit.why)
     except edits.BadEdit as bad:
         return "error", f"BAD EDIT: {bad}"
@@ -194,11 +195,11 @@ def of_edit(crate, label, text, workshop, bench, briefly=False):
 
 
 def as_they_stand(workshop, bench):
-    """Hold the programs as they stand to the simulator: what differs there is no edit's doing."""
+    """Hold the programs and the claim as they stand to the simulator: what differs there is no edit's doing."""
     driver = workshop.build()
     all_results = [bench.run(driver, program) for program in RUNS]
     print(f"the programs as they stand: {summed(all_results).strip()}", flush=True)
-    return all(results.differ == 0 for results in all_results)
+    return statements.as_they_stand(workshop.original) and all(results.differ == 0 for results in all_results)
 
 
 def chosen_edits(names):
@@ -219,7 +220,7 @@ def measure_all(found, workshop, bench, briefly):
         print(f"{f'{crate}/{label}':{width}}  {said}", flush=True)
     counts = {kind: kinds.count(kind) for kind in ("differs", "reason", "statement", "error")}
     print(f"{counts['differs']} wrong programs differ, {counts['reason']} with a reason why none does, "
-          f"{counts['statement']} statements, {counts['error']} errors")
+          f"{counts['statement']} statements broken, {counts['error']} errors")
     return not counts["error"]
 
 

@@ -1,15 +1,17 @@
 -- Call entries: one byte of kind, then a body whose length the kind fixes. Numbers of several bytes have the lowest byte first.
+use mathlib.Core.Path.{_≡_}
 use mathlib.Core.Bool.{cond}
 use mathlib.Core.List.{List}
-use Prim.Native.Nat.{ℕ, _+_, _-_}
+use Prim.Native.Nat.{ℕ, _+_, _-_, _≤_}
 use lib.Dec.{eqb, leb}
 use lib.ListN.{length}
 use Rattle.words.specs.Words.{numberAt}
-use Rattle.rules.specs.Calls.{instant, mark, after-call}
+use Rattle.rules.specs.Calls.{refusal, instant, mark-refusal, mark, after-call}
 use Rattle.lines.specs.Lines.{instant-lines, mark-lines, cut-short-line}
 use Rattle.lines.specs.Text.{text-of}
 use Rattle.lines.specs.declared.Text.{Text}
 use Rattle.dispatcher.specs.Dispatcher.{state-of}
+use Rattle.dispatcher.specs.declared.Dispatcher.{Dispatcher}
 use Rattle.call_entries.specs.Types.{State, Call, Instant, Mark, CallEntry, Whole, CutShort, OtherKind, Answered}
 
 -- kind 64, an instant: time (8), set (4)
@@ -61,3 +63,22 @@ answered d OtherKind = record { state = d; text = text-of cut-short-line }
 -- what is handed back, read as the rules have it
 abbrev pub reply-of : Answered → Reply
 reply-of a = record { state = state-of (a .state); text = a .text }
+
+-- ---- What answering promises
+
+-- a call that is refused, and what is no whole call, are no call of the dispatcher's
+abbrev pub Refused : State → Call → Type 0
+Refused d (Instant t set) = refusal d t set ≡ 0 → ⊥
+Refused d (Mark n m) = mark-refusal d n m ≡ 0 → ⊥
+
+abbrev pub NotServed : State → CallEntry → Type 0
+NotServed d (Whole c) = Refused d c
+NotServed d CutShort = Unit {0}
+NotServed d OtherKind = Unit {0}
+
+-- the reply, the most bytes that its lines take, and that a dispatcher that is not called is handed back as it was, and not only as the
+-- rules read it
+pub record AnswersWith (d : Dispatcher) (reply : Reply) (unserved : Type 0) (r : Answered) : Type 0 where
+  pub reply-is : reply-of r ≡ reply
+  pub fits : r .text .len ≤ 192
+  pub untouched : unserved → r .state ≡ d

@@ -3,9 +3,9 @@ use dispatcher::Dispatcher;
 use lines::Text;
 use rules::Call;
 ghost use mathlib.Core.Path.{_≡_};
-ghost use Prim.Native.Nat.{_≤_, _<_};
+ghost use Prim.Native.Nat.{_<_};
 ghost use lib.ListN.{length};
-ghost use Rattle.call_entries.specs.Calls.{instant-at, mark-at, call-at, size-of, call-size, call-answered, answered, reply-of};
+ghost use Rattle.call_entries.specs.Calls.{instant-at, mark-at, call-at, size-of, call-size, call-answered, answered, Refused, NotServed, AnswersWith};
 ghost use Rattle.dispatcher.specs.Dispatcher.{state-of};
 
 // Kind 64 is an instant, with its time (8 bytes) and set (4), and kind 65 a mark call, with its task and mark (1 each).
@@ -88,7 +88,7 @@ pub fn call_size(entry: CallEntry) -> usize
 }
 
 fn call_answered(d: Dispatcher, call: Call) -> Answered
-    ensures { λ r. ⌜ (reply-of r ≡ call-answered (state-of d) call) × (r .text .len ≤ 192) ⌝ }
+    ensures { λ r. ⌜ AnswersWith d (call-answered (state-of d) call) (Refused (state-of d) call) r ⌝ }
 {
     match call {
         Call::Instant { time, set } => {
@@ -108,9 +108,9 @@ fn call_answered(d: Dispatcher, call: Call) -> Answered
     }
 }
 
-// The dispatcher called.
+// The dispatcher called. A call that is refused, and what is no whole call, leave it as it was.
 pub fn answer(d: Dispatcher, entry: CallEntry) -> Answered
-    ensures { λ r. ⌜ (reply-of r ≡ answered (state-of d) entry) × (r .text .len ≤ 192) ⌝ }
+    ensures { λ r. ⌜ AnswersWith d (answered (state-of d) entry) (NotServed (state-of d) entry) r ⌝ }
 {
     match entry {
         CallEntry::Whole(call) => call_answered(d, call),

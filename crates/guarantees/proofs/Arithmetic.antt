@@ -10,11 +10,11 @@ use Rattle.sets.specs.Sets.{member, below, collect, union, intersection, differ
 use Rattle.sets.proofs.Laws.{by-test, member-task}
 use Rattle.rules.specs.With.{with-jobs, with-phase, with-waiting, at-clock, later}
 use Rattle.rules.specs.Instant.{step-a, step-b, step-c, step-d, step-e, step-g, taken, deferred, original, with-candidates, due, at-a, at-b, at-e, at-f, at-g, new-at, late-at}
-use Rattle.rules.specs.Calls.{opened, opening, refusal}
+use Rattle.rules.specs.Calls.{opened, refusal}
 use Rattle.rules.proofs.ByTask.{stamped-none}
 use Rattle.guarantees.specs.History.{after-calls}
-use Rattle.guarantees.specs.States.{Named, PlainTime, PlainState, PlainArithmetic}
-use Rattle.guarantees.proofs.Proper.{Fair, Opens, opens}
+use Rattle.guarantees.specs.States.{Named, PlainTime, PlainState}
+use Rattle.guarantees.proofs.Proper.{Fair}
 use Rattle.guarantees.proofs.Walk.{after}
 use Rattle.guarantees.proofs.Blocking.{Bounded, bounded-opened, bounded-quiet, bounded-a, bounded-e, bounded-g}
 use Rattle.guarantees.proofs.Served.{Served-at, served-at, due-drop, NotBefore}
@@ -95,7 +95,7 @@ module _ (table : Table) (marks : ℕ) (fair : Fair table marks) where
       late : 3000000000 < t → set ≡ 0 → at-g d t set ≡ at-clock d t
       late l e = ap (at-g d t) e ∙ go (due (d .phase)) refl l
 
-  plain : (calls : List Call) → PlainState (after-calls (opened table marks) calls)
+  pub plain : (calls : List Call) → PlainState (after-calls (opened table marks) calls)
   plain calls = record {
     named = named d good;
     behind = good .behind;
@@ -117,10 +117,3 @@ module _ (table : Table) (marks : ℕ) (fair : Fair table marks) where
       bounded n l =
           after (Bounded (table .priority) n l) (λ d t set e h. bounded-g (table .priority) n l d t set h) (λ d m e h. bounded-quiet (table .priority) n l d m h)
           calls (opened table marks) (bounded-opened (table .priority) n l table marks refl)
-
-pub plain-arithmetic : PlainArithmetic
-unfolding PlainArithmetic
-plain-arithmetic bytes e calls =
-    let o : Opens (opening bytes .state) = opens bytes e in
-    let d : State = opening bytes .state in
-    subst (λ (x : State). PlainState (after-calls x calls)) (sym (o .fresh)) (plain (d .table) (d .marked) (o .proper .fair) calls)

@@ -1,8 +1,7 @@
 -- What each step can do, as a rule for proofs: it leaves the state as it is, or does the one thing that it is for. A proof about a step
 -- gives its claim for each of the cases; where a rule of the instant list changes, its case changes here.
-use Rattle.guarantees.specs.Types.{_≡_, refl, Bool, true, false, cond, _⊎_, inl, inr, ℕ, Table, Processor, Idle, CopyingIn, Executing, Finished, CopyOut, NoCopyOut, CopyingOut, CopiedOut, CopyIn, Unchosen, NoneChosen, Copying, Loaded, Cancelled, Interval, Next, Outgoing, Phase, Between, Within, State, Stage}
+use Rattle.guarantees.specs.Types.{_≡_, refl, Bool, true, false, cond, _⊎_, inl, inr, ⊎-elim, ℕ, Table, Processor, Idle, CopyingIn, Executing, Finished, CopyOut, NoCopyOut, CopyingOut, CopiedOut, CopyIn, Unchosen, NoneChosen, Copying, Loaded, Cancelled, Interval, Next, Outgoing, Phase, Between, Within, State, Stage}
 use lib.Dec.{eqb}
-use lib.ListN.{getD}
 use Rattle.table.specs.Table.{execution-length}
 use Rattle.sets.specs.Sets.{intersection}
 use Rattle.rules.specs.Instant.{processor-at, copyout-at, copyin-at, over, close, close-stage, step-b, copying-out, cancel, cancel-by, step-d, choose, choose-if, step-e, begin, wanted, step-g, step-a, without-done, completed, ended, at-b, new-at, held-over}
@@ -12,6 +11,10 @@ use Rattle.rules.specs.Order.{outranks, highest-of}
 -- the engine holds task n's job: its copy-in is under way, or finished
 abbrev pub Held : CopyIn → ℕ → Type 0
 Held k n = ((until : ℕ) × (k ≡ Copying n until)) ⊎ (k ≡ Loaded n)
+
+-- with the fate that it has where it gives way
+abbrev pub HeldFor : CopyIn → ℕ → ℕ → Type 0
+HeldFor k n fate = ((until : ℕ) × (k ≡ Copying n until) × (fate ≡ 2)) ⊎ ((k ≡ Loaded n) × (fate ≡ 3))
 
 -- the releases of an instant that belong to the interval that its step g begins
 abbrev pub held-at : State → ℕ → ℕ → ℕ
@@ -91,26 +94,32 @@ module _ (R : State → Type 0) where
       go (Within i) e = go-within i (over i) e refl
 
   -- d
-  pub d-cases : (d : State) (new : ℕ) → R d
-      → ((i : Interval) (n fate : ℕ) → d .phase ≡ Within i → Held (i .copyin) n → outranks d n (highest-of d (intersection new (d .marked))) ≡ true → R (cancel d i n fate true))
+  pub d-fates : (d : State) (new : ℕ) → R d
+      → ((i : Interval) (n fate : ℕ) → d .phase ≡ Within i → HeldFor (i .copyin) n fate → outranks d n (highest-of d (intersection new (d .marked))) ≡ true → R (cancel d i n fate true))
       → R (step-d d new (d .phase))
   unfolding step-d cancel-by
-  d-cases d new h f = go (d .phase) refl
+  d-fates d new h f = go (d .phase) refl
     where
-      go-outranks : (i : Interval) (n fate : ℕ) (b : Bool) → d .phase ≡ Within i → Held (i .copyin) n → outranks d n (highest-of d (intersection new (d .marked))) ≡ b → R (cancel d i n fate b)
+      go-outranks : (i : Interval) (n fate : ℕ) (b : Bool) → d .phase ≡ Within i → HeldFor (i .copyin) n fate → outranks d n (highest-of d (intersection new (d .marked))) ≡ b → R (cancel d i n fate b)
       go-outranks i n fate true e s b = f i n fate e s b
       go-outranks i n fate false e s b = unfold cancel in h
 
       go-copyin : (i : Interval) (c : CopyIn) → d .phase ≡ Within i → i .copyin ≡ c → R (cancel-by d new i c)
       go-copyin i Unchosen e s = h
       go-copyin i NoneChosen e s = h
-      go-copyin i (Copying n until) e s = go-outranks i n 2 (outranks d n (highest-of d (intersection new (d .marked)))) e (inl (until, s)) refl
-      go-copyin i (Loaded n) e s = go-outranks i n 3 (outranks d n (highest-of d (intersection new (d .marked)))) e (inr s) refl
+      go-copyin i (Copying n until) e s = go-outranks i n 2 (outranks d n (highest-of d (intersection new (d .marked)))) e (inl (until, s, refl)) refl
+      go-copyin i (Loaded n) e s = go-outranks i n 3 (outranks d n (highest-of d (intersection new (d .marked)))) e (inr (s, refl)) refl
       go-copyin i (Cancelled n fate) e s = h
 
       go : (p : Phase) → d .phase ≡ p → R (step-d d new p)
       go (Between next outgoing) e = h
       go (Within i) e = go-copyin i (i .copyin) e refl
+
+  -- whatever the fate
+  pub d-cases : (d : State) (new : ℕ) → R d
+      → ((i : Interval) (n fate : ℕ) → d .phase ≡ Within i → Held (i .copyin) n → outranks d n (highest-of d (intersection new (d .marked))) ≡ true → R (cancel d i n fate true))
+      → R (step-d d new (d .phase))
+  d-cases d new h f = d-fates d new h (λ i n fate e s b. f i n fate e (⊎-elim (λ x. inl (x .0, x .1)) (λ x. inr (x .0)) s) b)
 
   -- e
   pub e-cases : (d : State) (t : ℕ) → R d

@@ -177,7 +177,7 @@ module _ (columns : List ℕ) (t : ℕ) where
       go false o h = stays-leaving i (s .state .phase) ys e h
 
   -- g
-  abbrev Both : Processor → CopyOut → Phase → Type 0
+  abbrev pub Both : Processor → CopyOut → Phase → Type 0
   Both q o (Between next outgoing) = ⊥
   Both q o (Within j) = (j .processor ≡ q) × (j .copyout ≡ o)
 
@@ -186,7 +186,7 @@ module _ (columns : List ℕ) (t : ℕ) where
   choose-both d i q o NoTask h = h
   choose-both d i q o (Task r) h = h
 
-  begun-both : (d : State) (q : Processor) (o : CopyOut) → Both q o (d .phase) → Both q o (step-e d t (d .phase) .phase)
+  pub begun-both : (d : State) (q : Processor) (o : CopyOut) → Both q o (d .phase) → Both q o (step-e d t (d .phase) .phase)
   begun-both d q o h =
       e-cases (λ x. Both q o (x .phase)) d t h (λ i e s u. choose-both d i q o (highest-of d (d .jobs .ready)) (subst (Both q o) e h))
 

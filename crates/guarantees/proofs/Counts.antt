@@ -9,14 +9,14 @@ use lib.ListN.{getD, length}
 use Rattle.sets.specs.Sets.{member, bit}
 use Rattle.sets.proofs.Laws.{by-test, clash, none, inserted}
 use Rattle.rules.specs.Order.{higher}
-use Rattle.rules.specs.Instant.{over, settled, copying-out, processor-task, awaiting-execution, blocks, close, step-a, step-b, at-a, at-b, at-e, at-f, fresh-stage}
+use Rattle.rules.specs.Instant.{over, settled, copying-out, processor-task, awaiting-execution, blocks, step-b, at-a, at-b, at-e, at-f, fresh-stage}
 use Rattle.rules.specs.With.{at-clock}
 use Rattle.rules.specs.Blocking.{executed-in, blockable}
-use Rattle.rules.specs.Calls.{opened, opening, refusal}
+use Rattle.rules.specs.Calls.{opened, refusal}
 use Rattle.guarantees.specs.History.{after-calls, history}
 use Rattle.guarantees.specs.Entries.{is-lower}
-use Rattle.guarantees.specs.Counting.{Rises, CountsRise, BlockedCounts}
-use Rattle.guarantees.proofs.Proper.{Fair, Opens, opens}
+use Rattle.guarantees.specs.Counting.{CountsRise}
+use Rattle.guarantees.proofs.Proper.{Fair}
 use Rattle.guarantees.proofs.Walk.{after}
 use Rattle.guarantees.proofs.Cases.{b-cases}
 use Rattle.guarantees.proofs.Frames.{table-a, table-e}
@@ -182,7 +182,7 @@ module _ (table : Table) (marks : ℕ) (fair : Fair table marks) (calls : List C
           counted = knows-e table marks fair n small d t set x good known-set bounded knows .counts;
         }
 
-  counts-rise : CountsRise (after-calls (opened table marks) calls) t set
+  pub counts-rise : CountsRise (after-calls (opened table marks) calls) t set
   unfolding at-b at-f
   counts-rise =
       let d : State = after-calls (opened table marks) calls in
@@ -190,11 +190,3 @@ module _ (table : Table) (marks : ℕ) (fair : Fair table marks) (calls : List C
         in-b = λ n l. ends (table .priority) n l table (fair .present) (at-a d t) t (before-b n l);
         in-f = λ n l. ends (table .priority) n l table (fair .present) (fresh-stage (at-e d t set)) t (before-f n l);
       }
-
-pub blocked-counts : BlockedCounts
-unfolding BlockedCounts
-blocked-counts bytes e calls t set =
-    let o : Opens (opening bytes .state) = opens bytes e in
-    let d : State = opening bytes .state in
-    subst (λ (x : State). refusal (after-calls x calls) t set ≡ 0 → CountsRise (after-calls x calls) t set) (sym (o .fresh))
-    (counts-rise (d .table) (d .marked) (o .proper .fair) calls t set)

@@ -1,22 +1,19 @@
 -- The releases that wait, by the history: one waits from its event until the next taking of its task, and the state's set says the same; none begins
--- to wait while one of its task waits; and each release that is handed in is taken, waits or is skipped.
-use Rattle.guarantees.specs.Types.{_≡_, refl, sym, ap, _∙_, subst, Bool, true, false, cond, _&&_, _||_, true≢false, false≢true, List, [], _∷_, _++_, append-assoc, ⊎-elim, ℕ, zero, suc, _+_, _≤_, _<_, MaybeTask, State, Call, Instant, Mark, Occurred, Never}
+-- to wait while one of its task waits.
+use Rattle.guarantees.specs.Types.{_≡_, refl, sym, ap, _∙_, subst, Bool, true, false, cond, _&&_, _||_, true≢false, false≢true, List, [], _∷_, _++_, append-assoc, ℕ, zero, suc, _+_, _≤_, _<_, MaybeTask, State, Call, Never}
 use native.Mathlib.Omega.{arith}
-use native.Mathlib.Nat.{not-suc-le-zero, zero-add}
+use native.Mathlib.Nat.{not-suc-le-zero}
 use borrow.Author.Tests.{eqb-true, eqb-false, ne-eqb}
 use lib.Dec.{eqb}
-use Rattle.sets.specs.Sets.{member, size}
+use Rattle.sets.specs.Sets.{member}
 use Rattle.sets.proofs.Laws.{by-test, none, same-task}
-use Rattle.rules.specs.Instant.{taken, deferred, at-b, at-e, at-f, at-g, new-at, late-at, occurred}
-use Rattle.rules.specs.Calls.{refusal, instant, served as served-step, after-call}
-use Rattle.guarantees.specs.History.{Event, Comes, Starts, Stops, Finishes, Completes, Ends, Takes, Defers, GivesWay, Begins, happens, by-call, history, after-calls, take-events, defer-events, giving-events-in, end-events, begin-events, start-events}
-use Rattle.guarantees.specs.Queries.{details, is-task, takes, defers, after, first, total, is-take, taking, deferring}
-use Rattle.guarantees.specs.Entries.{answer-of, answers, handed-in, skips}
-use Rattle.guarantees.proofs.Walk.{each-call, served, refused, walk, walk-to}
+use Rattle.rules.specs.Instant.{taken, deferred, at-b, at-e, at-f, at-g, new-at, late-at}
+use Rattle.guarantees.specs.History.{Event, Comes, Starts, Stops, Finishes, Completes, Ends, Takes, Defers, GivesWay, Begins, happens, history, after-calls, take-events, defer-events, giving-events-in, end-events, begin-events, start-events}
+use Rattle.guarantees.specs.Queries.{details, is-task, takes, defers, after, first, taking}
+use Rattle.guarantees.proofs.Walk.{walk, walk-to}
 use Rattle.guarantees.proofs.Events.{by-front, by-takes, by-defers, by-gives, by-ends, by-begins, by-starts, front-of, tail-of, happens-parts, tail-parts}
-use Rattle.guarantees.proofs.Releases.{is-taken, is-deferred, is-waiting, taken-member, deferred-member, waits-member, waits-after, waits-g, balance-g}
+use Rattle.guarantees.proofs.Releases.{is-taken, is-deferred, is-waiting, taken-member, deferred-member, waits-member, waits-after, waits-g}
 use Rattle.guarantees.proofs.Frames.{waiting-b}
-use Rattle.guarantees.proofs.Totals.{takes-of}
 
 -- ---- the events of the tasks of a set, one for each: of these only task n's changes what is kept of task n
 
@@ -48,7 +45,7 @@ module _ (n s : ℕ) (make : ℕ → Event) (events : ℕ → List Event) (at-fi
       (λ e. at-task x y f k (omega (arith, eqb-false n k e)) (cond (member k s) (make k ∷ []) [] ++ es) (one-other (cond (member n s) y x) k (member k s) es e h)))
 
 -- what each event behind the releases keeps
-by-rest : (P : List Event → Type 0) → ((n : ℕ) (es : List Event) → P es → P (GivesWay n ∷ es)) → ((t : ℕ) (es : List Event) → P es → P (Ends t ∷ es))
+pub by-rest : (P : List Event → Type 0) → ((n : ℕ) (es : List Event) → P es → P (GivesWay n ∷ es)) → ((t : ℕ) (es : List Event) → P es → P (Ends t ∷ es))
     → ((t : ℕ) (r l : MaybeTask) (es : List Event) → P es → P (Begins t r l ∷ es)) → ((n t : ℕ) (es : List Event) → P es → P (Starts n t ∷ es))
     → (d : State) (t set : ℕ) (es : List Event) → P es
     → P (giving-events-in (at-b d t .state .phase) (at-e d t set .phase)
@@ -116,9 +113,15 @@ module _ (n : ℕ) where
   waits-in = after waits-by
 
   -- from whether one waits to whether one does at the end, along events by which none begins to wait while one waits
-  unfoldable Alone : Bool → Bool → List Event → Type 0
+  unfoldable pub Alone : Bool → Bool → List Event → Type 0
   Alone last b [] = b ≡ last
   Alone last b (e ∷ es) = (defers-it e ≡ true → b ≡ false) × Alone last (waits-by b e) es
+
+  -- at the end
+  pub alone-end : (es : List Event) (last b : Bool) → Alone last b es → waits-in b es ≡ last
+  unfolding Alone after
+  alone-end [] last b h = h
+  alone-end (e ∷ es) last b h = alone-end es last (waits-by b e) (h .1)
 
   -- at some event
   alone-at : (before : List Event) (e : Event) (es : List Event) (last b : Bool) → Alone last b (before ++ (e ∷ es)) → Alone last (waits-in b before) (e ∷ es)
@@ -126,7 +129,7 @@ module _ (n : ℕ) where
   alone-at [] e es last b h = h
   alone-at (x ∷ before) e es last b h = alone-at before e es last (waits-by b x) (h .1)
 
-  -- a release that waits and at the end does not was taken, as the next of its task, and none waited beside it until then
+  -- a release that waits and at the end does not was taken, as the next of its task
   record NextTaken (es : List Event) : Type 0 where
     between : List Event
     later : List Event
@@ -134,40 +137,38 @@ module _ (n : ℕ) where
     marked : Bool
     is : es ≡ between ++ (Takes n tick marked ∷ later)
     next : taking n between ≡ Never
-    alone : deferring n between ≡ Never
 
-  not-yet : (e : Event) (es : List Event) → takes-it e ≡ false → defers-it e ≡ false → NextTaken es → NextTaken (e ∷ es)
+  not-yet : (e : Event) (es : List Event) → takes-it e ≡ false → NextTaken es → NextTaken (e ∷ es)
   unfolding first
-  not-yet e es x y h = record {
+  not-yet e es x h = record {
     between = e ∷ h .between;
     later = h .later;
     tick = h .tick;
     marked = h .marked;
     is = ap (λ (l : List Event). e ∷ l) (h .is);
     next = rw x (h .next);
-    alone = rw y (h .alone);
   }
 
   now : (k t : ℕ) (m : Bool) (es : List Event) → eqb n k ≡ true → NextTaken (Takes k t m ∷ es)
   unfolding first
   now k t m es e =
-      record { between = []; later = es; tick = t; marked = m; is = ap (λ (j : ℕ). Takes j t m ∷ es) (sym (eqb-true n k e)); next = refl; alone = refl }
+      record { between = []; later = es; tick = t; marked = m; is = ap (λ (j : ℕ). Takes j t m ∷ es) (sym (eqb-true n k e)); next = refl }
 
   next-taken : (es : List Event) → Alone false true es → NextTaken es
   unfolding Alone
   next-taken [] h = absurd (true≢false h)
-  next-taken (Comes t ∷ es) h = not-yet (Comes t) es refl refl (next-taken es (h .1))
-  next-taken (Starts k t ∷ es) h = not-yet (Starts k t) es refl refl (next-taken es (h .1))
-  next-taken (Stops k t ∷ es) h = not-yet (Stops k t) es refl refl (next-taken es (h .1))
-  next-taken (Finishes k ∷ es) h = not-yet (Finishes k) es refl refl (next-taken es (h .1))
-  next-taken (Completes k t ∷ es) h = not-yet (Completes k t) es refl refl (next-taken es (h .1))
-  next-taken (Ends t ∷ es) h = not-yet (Ends t) es refl refl (next-taken es (h .1))
+  next-taken (Comes t ∷ es) h = not-yet (Comes t) es refl (next-taken es (h .1))
+  next-taken (Starts k t ∷ es) h = not-yet (Starts k t) es refl (next-taken es (h .1))
+  next-taken (Stops k t ∷ es) h = not-yet (Stops k t) es refl (next-taken es (h .1))
+  next-taken (Finishes k ∷ es) h = not-yet (Finishes k) es refl (next-taken es (h .1))
+  next-taken (Completes k t ∷ es) h = not-yet (Completes k t) es refl (next-taken es (h .1))
+  next-taken (Ends t ∷ es) h = not-yet (Ends t) es refl (next-taken es (h .1))
   next-taken (Takes k t m ∷ es) h =
-      by-test (eqb n k) (λ e. now k t m es e) (λ e. not-yet (Takes k t m) es e refl (next-taken es (subst (λ (b : Bool). Alone false (cond b false true) es) e (h .1))))
+      by-test (eqb n k) (λ e. now k t m es e) (λ e. not-yet (Takes k t m) es e (next-taken es (subst (λ (b : Bool). Alone false (cond b false true) es) e (h .1))))
   next-taken (Defers k t ∷ es) h =
-      by-test (eqb n k) (λ e. absurd (true≢false (h .0 e))) (λ e. not-yet (Defers k t) es refl e (next-taken es (subst (λ (b : Bool). Alone false (cond b true true) es) e (h .1))))
-  next-taken (GivesWay k ∷ es) h = not-yet (GivesWay k) es refl refl (next-taken es (h .1))
-  next-taken (Begins t r l ∷ es) h = not-yet (Begins t r l) es refl refl (next-taken es (h .1))
+      by-test (eqb n k) (λ e. absurd (true≢false (h .0 e))) (λ e. not-yet (Defers k t) es refl (next-taken es (subst (λ (b : Bool). Alone false (cond b true true) es) e (h .1))))
+  next-taken (GivesWay k ∷ es) h = not-yet (GivesWay k) es refl (next-taken es (h .1))
+  next-taken (Begins t r l ∷ es) h = not-yet (Begins t r l) es refl (next-taken es (h .1))
 
   -- ---- the events of an instant
 
@@ -210,7 +211,7 @@ module _ (n : ℕ) where
 -- at step c, with what waits before it
 module _ (d : State) (set n : ℕ) (small : n < 32) where
   -- behind those that are taken none of task n waits, where one is to wait from now on
-  free : member n (deferred d set) ≡ true → cond (member n (taken d set)) false (member n (d .waiting .tasks)) ≡ false
+  pub free : member n (deferred d set) ≡ true → cond (member n (taken d set)) false (member n (d .waiting .tasks)) ≡ false
   free =
       rw (taken-member d set n small, deferred-member d set n small)
       (go (member n (d .jobs .pending)) (member n (d .waiting .tasks)) (member n set))
@@ -224,7 +225,7 @@ module _ (d : State) (set n : ℕ) (small : n < 32) where
       go false false false e = refl
 
   -- what is taken waits no more, and what waits from now on does
-  moves : cond (member n (deferred d set)) true (cond (member n (taken d set)) false (member n (d .waiting .tasks))) ≡ member n (waits-after d set)
+  pub moves : cond (member n (deferred d set)) true (cond (member n (taken d set)) false (member n (d .waiting .tasks))) ≡ member n (waits-after d set)
   moves =
       rw (waits-member d set n small, taken-member d set n small, deferred-member d set n small)
       (go (member n (d .jobs .pending)) (member n (d .waiting .tasks)) (member n set))
@@ -253,7 +254,7 @@ instant-alone n small d t set last es h =
     (subst (λ (x : Bool). Alone n last x es) (ap (member n) (waits-g d t set) ∙ sym (moves b set n small)) h)))))
 
 -- along the calls, from any state
-alone : (n : ℕ) → n < 32 → (d : State) (cs : List Call) → Alone n (member n (after-calls d cs .waiting .tasks)) (member n (d .waiting .tasks)) (history d cs)
+pub alone : (n : ℕ) → n < 32 → (d : State) (cs : List Call) → Alone n (member n (after-calls d cs .waiting .tasks)) (member n (d .waiting .tasks)) (history d cs)
 alone n small d cs =
     walk-to (λ d h g. Alone n (member n (g .waiting .tasks)) (member n (d .waiting .tasks)) h)
     (λ d. unfold Alone in refl)
@@ -264,7 +265,7 @@ alone n small d cs =
 -- a release that is set waiting, where nothing waits after the calls, is taken later
 pub taken-later : (d : State) (calls : List Call) → after-calls d calls .waiting .tasks ≡ 0 → (before after : List Event) (n t : ℕ) → n < 32
     → history d calls ≡ before ++ (Defers n t ∷ after)
-    → (between later : List Event) × (tick : ℕ) × (marked : Bool) × (after ≡ between ++ (Takes n tick marked ∷ later)) × (taking n between ≡ Never) × (deferring n between ≡ Never)
+    → (between later : List Event) × (tick : ℕ) × (marked : Bool) × (after ≡ between ++ (Takes n tick marked ∷ later)) × (taking n between ≡ Never)
 unfolding Alone
 taken-later d calls z before after n t small e =
     let last : Bool = member n (after-calls d calls .waiting .tasks) in
@@ -272,48 +273,4 @@ taken-later d calls z before after n t small e =
     let x : Alone n last (waits-in n b before) (Defers n t ∷ after) = alone-at n before (Defers n t) after last b (subst (Alone n last b) e (alone n small d calls)) in
     let y : Alone n last true after = subst (λ (c : Bool). Alone n last (cond c true (waits-in n b before)) after) (same-task n) (x .1) in
     let h : NextTaken n after = next-taken n after (subst (λ (c : Bool). Alone n c true after) (ap (member n) z ∙ none n) y) in
-    (h .between, h .later, h .tick, h .marked, h .is, h .next, h .alone)
-
--- ---- each release that is handed in is taken, at once or after waiting, or waits still, or is skipped
-
--- what becomes of the releases of some calls
-abbrev Balanced : ℕ → State → List Event → State → List Occurred → Type 0
-Balanced handed d h g os = handed + size (d .waiting .tasks) ≡ total is-take h + size (g .waiting .tasks) + skips os
-
-instant-balanced : (d : State) (t set handed : ℕ) (h : List Event) (g : State) (os : List Occurred)
-    → Balanced handed (at-g d t set) h g os → Balanced (size set + handed) d (happens d t set ++ h) g (occurred d t set ∷ os)
-unfolding occurred skips
-instant-balanced d t set handed h g os k = omega (arith, k, takes-of d t set h, balance-g d t set)
-
--- what an instant answers
-told-of : (d : State) (t set : ℕ) → answer-of d (Instant t set) ≡ cond (eqb (refusal d t set) 0) (occurred d t set ∷ []) []
-unfolding answer-of instant served-step
-told-of d t set = by-test (eqb (refusal d t set) 0) (λ e. rw (instant, e)) (λ e. rw (instant, e))
-
--- a property of how many releases are handed in, of a state, of what occurs, of the state after it and of the answers
-module _ (P : ℕ → State → List Event → State → List Occurred → Type 0) (d : State) (cs : List Call)
-    (k : (g : State) → P (handed-in g cs) g (history g cs) (after-calls g cs) (answers g cs)) where
-  at-instant : (t set : ℕ)
-      → ((handed : ℕ) (h : List Event) (g : State) (os : List Occurred) → P handed (at-g d t set) h g os → P (size set + handed) d (happens d t set ++ h) g (occurred d t set ∷ os))
-      → let g : State = after-call d (Instant t set) in
-      P (cond (eqb (refusal d t set) 0) (size set) 0 + handed-in g cs) d (by-call d (Instant t set) ++ history g cs) (after-calls g cs) (answer-of d (Instant t set) ++ answers g cs)
-  unfolding by-call
-  at-instant t set more =
-      by-test (eqb (refusal d t set) 0)
-      (λ e. rw (told-of d t set, e, served d t set e) (more _ _ _ _ (k (at-g d t set))))
-      (λ e. rw (told-of d t set, e, refused d t set e, zero-add) (k d))
-
-mark-waits : (d : State) (n m : ℕ) → after-call d (Mark n m) .waiting ≡ d .waiting
-mark-waits d n m =
-    ⊎-elim (λ s. absurd (let x : Mark n m ≡ Instant (s .time) (s .set) = s .is in let z : _≡_ {A = ℕ} 0 1 = cc in omega arith))
-    (λ q. ap (λ (x : State). x .waiting) (q .leaves)) (each-call d (Mark n m))
-
-pub releases-balance : (d : State) (calls : List Call)
-    → handed-in d calls + size (d .waiting .tasks) ≡ total is-take (history d calls) + size (after-calls d calls .waiting .tasks) + skips (answers d calls)
-unfolding handed-in history after-calls answers by-call answer-of
-releases-balance d [] = unfold total skips in omega arith
-releases-balance d (Instant t set ∷ cs) = at-instant Balanced d cs (λ g. releases-balance g cs) t set (instant-balanced d t set)
-releases-balance d (Mark n m ∷ cs) =
-    let g : State = after-call d (Mark n m) in
-    subst (λ w. handed-in g cs + size (w .tasks) ≡ total is-take (history g cs) + size (after-calls g cs .waiting .tasks) + skips (answers g cs)) (mark-waits d n m)
-    (releases-balance g cs)
+    (h .between, h .later, h .tick, h .marked, h .is, h .next)

@@ -1,16 +1,19 @@
 -- Demand 3: the claim holds of every list of calls.
-use Rattle.guarantees.specs.Types.{_≡_, refl, sym, ap, _∙_, subst, Bool, true, List, _∷_, _++_, append-assoc, inl, inr, ℕ, zero, suc, _≤_, _<_, Table, MaybeTask, NoTask, Task, State, Never, Call}
+use Rattle.guarantees.specs.Types.{_≡_, refl, sym, ap, _∙_, subst, Bool, true, false, List, _∷_, _++_, append-assoc, inl, inr, ℕ, zero, suc, _≤_, _<_, Table, MaybeTask, NoTask, Task, State, Never, Call}
 use native.Mathlib.Omega.{arith}
 use native.Mathlib.Nat.{le-of-suc-le-suc}
 use borrow.Author.Tests.{ltb-true, ltb-false}
 use lib.Dec.{ltb}
 use lib.ListN.{getD, length}
 use Rattle.sets.specs.Sets.{member, size}
-use Rattle.sets.proofs.Laws.{by-test, member-task, size-none}
+use Rattle.sets.proofs.Laws.{by-test, none, same-task, member-task, size-none}
 use Rattle.rules.specs.Instant.{due}
 use Rattle.rules.specs.Calls.{opened, opening}
-use Rattle.guarantees.specs.History.{Event, Takes, Defers, history, after-calls, EmptySets}
-use Rattle.guarantees.specs.Queries.{none-yet, Situation, NoneOpen, Open, situation, intervals, total, is-take, taking, deferring, met}
+use Rattle.guarantees.specs.History.{Event, Completes, Takes, Defers, history, after-calls, EmptySets}
+use Rattle.guarantees.specs.Queries.{Situation, NoneOpen, Open, situation, intervals, total, is-take, taking, met}
+use Rattle.guarantees.specs.Pending.{OneAtATime}
+use Rattle.guarantees.specs.Intervals.{no-course}
+use Rattle.guarantees.specs.Entries.{answers, closed}
 use Rattle.guarantees.specs.Claim.{Lower, ThisOrHigher, InOrder, Holds, TakenLater, AllCompleted, Claim, Demand3}
 use Rattle.guarantees.proofs.Proper.{Fair, Opens, opens}
 use Rattle.guarantees.proofs.Walk.{after-append, history-append}
@@ -23,12 +26,18 @@ use Rattle.guarantees.proofs.Engine.{Free, executed-in, copied-out-so, 
 use Rattle.guarantees.proofs.CopyOuts.{copied-out}
 use Rattle.guarantees.proofs.Processing.{execution-in, started-so, stopped-so, ended-so}
 use Rattle.guarantees.proofs.Executions.{executed}
-use Rattle.guarantees.proofs.Promotions.{promoted-in, promotions}
 use Rattle.guarantees.proofs.Told.{tells}
-use Rattle.guarantees.proofs.Closings.{closings, all-done}
-use Rattle.guarantees.proofs.Known.{KnownTask, AllKnown, release-known, begins-known, interval-known, all-known}
+use Rattle.guarantees.proofs.Closings.{all-done}
+use Rattle.guarantees.proofs.Courses.{proceeds, Follows, courses}
+use Rattle.guarantees.proofs.Known.{KnownTask, AllKnown, release-known, begins-known, completes-known, interval-known, all-known}
 use Rattle.guarantees.proofs.Serving.{all-served-jobs}
-use Rattle.guarantees.proofs.Deferred.{deferred-small, taken-later, releases-balance}
+use Rattle.guarantees.proofs.Deferred.{taken-small, deferred-small, taken-later}
+use Rattle.guarantees.proofs.Marks.{taken-marked}
+use Rattle.guarantees.proofs.Fates.{balanced as releases-balanced, placed}
+use Rattle.guarantees.proofs.Turns.{one-at-a-time, in-time, resumed-in}
+use Rattle.guarantees.proofs.Turning.{turns}
+use Rattle.guarantees.proofs.Counts.{counts-rise}
+use Rattle.guarantees.proofs.Arithmetic.{plain}
 use Rattle.guarantees.proofs.Completion.{AtRest, rests, drains, Drained, drained, balanced}
 
 module _ (table : Table) (marks : ℕ) (fair : Fair table marks) where
@@ -64,6 +73,9 @@ module _ (table : Table) (marks : ℕ) (fair : Fair table marks) where
 
   -- ---- the claim of each history
 
+  follows : (calls : List Call) → Follows (table .priority) (closed (answers (opened table marks) calls)) no-course (history (opened table marks) calls)
+  follows calls = courses table marks calls
+
   holds : (calls : List Call) → Holds table (history (opened table marks) calls)
   holds calls = record {
     each-job = λ before after n t m e.
@@ -71,17 +83,24 @@ module _ (table : Table) (marks : ℕ) (fair : Fair table marks) where
         in-order n m (situation NoneOpen before) after (k .0) (k .1) (released-in (table .priority) h before after n t m in-turn e .0);
     each-taking = λ before after n t m e. released-in (table .priority) h before after n t m in-turn e .1;
     each-execution = λ before after n t l e. execution-in (table .columns) n h before after t l (executed table marks fair calls) e;
-    each-promotion = λ before after n t l e.
-        promoted-in n h before after t l
-        (promotions table marks fair n
-        (member-task n (table .present) (fair .present) (begins-known (table .present) before after t (Task n) l (subst (AllKnown (table .present)) e known))) calls)
-        e;
+    each-interval = proceeds (table .priority) h (follows calls .executing);
     each-start = λ before after n s e. started-so (table .columns) h (executed table marks fair calls) before after n s e;
     each-stop = λ before after n u e. stopped-so (table .columns) h (executed table marks fair calls) before after n u e;
     each-end = λ before after n e x y. ended-so (table .columns) h (executed table marks fair calls) before after n e x y;
     each-executed = λ before after n t l e. executed-in (table .columns) n h before after t 0 l Free (copied-out table marks fair calls) e;
     each-copyout = λ before after n b r e. copied-out-so (table .columns) h (copied-out table marks fair calls) before after n b r e;
     each-completion = λ before after n c e. completed-so (table .columns) h (copied-out table marks fair calls) before after n c e;
+    each-task = λ n. record {
+      at-taking = λ before after t m e. one n (taken-small (opened table marks) calls before after n t m e) .at-taking before after t m e;
+      at-execution = λ before after t l e.
+          one n (small n (begins-known (table .present) before after t (Task n) l (subst (AllKnown (table .present)) e known) .0)) .at-execution before after t l e;
+      at-copyout = λ before after t r e.
+          one n (small n (begins-known (table .present) before after t r (Task n) (subst (AllKnown (table .present)) e known) .1)) .at-copyout before after t r e;
+      at-completion = λ before after c e. one n (completes-small before after n c e) .at-completion before after c e;
+      at-waiting = λ before after t e. one n (deferred-small (opened table marks) calls before after n t e) .at-waiting before after t e;
+      at-resuming = λ before after c u e w. one n (completes-small before after n c e) .at-resuming before after c u e w;
+    };
+    in-time = in-time 0 h (turns table marks fair 0 (omega arith) calls);
     at-most-three = at-most-three table marks calls;
   }
     where
@@ -90,6 +109,15 @@ module _ (table : Table) (marks : ℕ) (fair : Fair table marks) where
 
       known : AllKnown (table .present) (history (opened table marks) calls)
       known = all-known table marks fair (opened table marks) calls (good-opened table marks fair)
+
+      small : (n : ℕ) → member n (table .present) ≡ true → n < 32
+      small n m = member-task n (table .present) (fair .present) m
+
+      completes-small : (before after : List Event) (n c : ℕ) → history (opened table marks) calls ≡ before ++ (Completes n c ∷ after) → n < 32
+      completes-small before after n c e = small n (completes-known (table .present) before after n c (subst (AllKnown (table .present)) e known))
+
+      one : (n : ℕ) → n < 32 → OneAtATime n (history (opened table marks) calls)
+      one n l = one-at-a-time n h (turns table marks fair n l calls)
 
       in-turn : Kept (table .priority) NoneOpen (history (opened table marks) calls)
       in-turn = unfold opened in kept (table .priority) (opened table marks) calls refl
@@ -106,7 +134,10 @@ module _ (table : Table) (marks : ℕ) (fair : Fair table marks) where
     deferred-completed : (before after : List Event) (n t : ℕ) → history (opened table marks) calls ≡ before ++ (Defers n t ∷ after) → TakenLater n after
     deferred-completed before after n t e = go (taken-later (opened table marks) calls w before after n t (deferred-small (opened table marks) calls before after n t e) e)
       where
-        go : (between later : List Event) × (tick : ℕ) × (marked : Bool) × (after ≡ between ++ (Takes n tick marked ∷ later)) × (taking n between ≡ Never) × (deferring n between ≡ Never) → TakenLater n after
+        small : n < 32
+        small = deferred-small (opened table marks) calls before after n t e
+
+        go : (between later : List Event) × (tick : ℕ) × (marked : Bool) × (after ≡ between ++ (Takes n tick marked ∷ later)) × (taking n between ≡ Never) → TakenLater n after
         go x = record {
           between = x .0;
           later = x .1;
@@ -114,7 +145,7 @@ module _ (table : Table) (marks : ℕ) (fair : Fair table marks) where
           marked = x .3;
           is-taken = x .4;
           next-taken = x .5;
-          alone = x .6;
+          at-completion = resumed-in n (history (opened table marks) calls) (turns table marks fair n small calls) before after (x .0) (x .1) t (x .2) (x .3) e (x .4) (x .5);
           completed =
               all-served-jobs table marks fair calls p (before ++ (Defers n t ∷ x .0)) (x .1) n (x .2) (x .3)
               (e ∙ ap (λ (y : List Event). before ++ (Defers n t ∷ y)) (x .4) ∙ sym (append-assoc before (Defers n t ∷ x .0) (Takes n (x .2) (x .3) ∷ x .1)));
@@ -133,8 +164,10 @@ module _ (table : Table) (marks : ℕ) (fair : Fair table marks) where
     entries = record {
       each-job = λ before after t set o e c. unfold opened in tells table marks fair before t set o e;
       each-done = all-done calls d;
-      each-release = omega (arith, releases-balance d calls, none-at-first .1);
-      each-interval = unfold opened in closings calls d none-yet tt;
+      each-release = λ before after n e l. releases-balanced n l d before (none-waits n);
+      each-instant = λ before after n t set o e l x. placed n l d before t set o (none-waits n) x;
+      each-mark = λ before after n t set u m xs ys e x. taken-marked d before t set n u m xs ys (same-task n) x;
+      each-interval = unfold opened in sym (follows calls .says);
     };
     come-to-an-end = drains table marks fair (mass (after-calls d calls)) (after-calls d calls) good (omega arith);
     with-empty-sets = λ rest e. unfold opened in holds (calls ++ rest);
@@ -151,10 +184,15 @@ module _ (table : Table) (marks : ℕ) (fair : Fair table marks) where
           ap size (at-rest rest e .waiting),
           size-none,
         );
+    counts = counts-rise table marks fair calls;
+    plain = plain table marks fair calls;
   }
     where
       d : State
       d = opened table marks
+
+      none-waits : (n : ℕ) → member n (opened table marks .waiting .tasks) ≡ false
+      none-waits n = unfold opened in none n
 
       good : Good table marks fair (after-calls (opened table marks) calls)
       good = good-after table marks fair calls (opened table marks) (good-opened table marks fair)

@@ -11,18 +11,18 @@ use Rattle.guarantees.specs.Queries.{intervals, each}
 -- ---- the events of each step
 
 module _ (P : List Event → Type 0) where
-  pub by-processor : ((n t : ℕ) (es : List Event) → P es → P (Starts n t ∷ es)) → ((n t : ℕ) (es : List Event) → P es → P (Stops n t ∷ es))
-      → (t : ℕ) (p : Phase) (es : List Event) → P es → P (processor-events-in t p ++ es)
+  pub by-processor-at : (t : ℕ) → ((n : ℕ) (es : List Event) → P es → P (Starts n t ∷ es)) → ((n : ℕ) (es : List Event) → P es → P (Stops n t ∷ es))
+      → (p : Phase) (es : List Event) → P es → P (processor-events-in t p ++ es)
   unfolding processor-events-in processor-events
-  by-processor f g t (Between next outgoing) es h = h
-  by-processor f g t (Within i) es h = go (i .processor)
+  by-processor-at t f g (Between next outgoing) es h = h
+  by-processor-at t f g (Within i) es h = go (i .processor)
     where
       go-starts : (n : ℕ) (b : Bool) → P (cond b (Starts n t ∷ []) [] ++ es)
-      go-starts n true = f n t es h
+      go-starts n true = f n es h
       go-starts n false = h
 
       go-stops : (n : ℕ) (b : Bool) → P (cond b (Stops n t ∷ []) [] ++ es)
-      go-stops n true = g n t es h
+      go-stops n true = g n es h
       go-stops n false = h
 
       go : (q : Processor) → P (processor-events t q ++ es)
@@ -30,6 +30,10 @@ module _ (P : List Event → Type 0) where
       go (CopyingIn n until) = go-starts n (eqb until t)
       go (Executing n start until) = go-stops n (eqb until t)
       go (Finished n start) = h
+
+  pub by-processor : ((n t : ℕ) (es : List Event) → P es → P (Starts n t ∷ es)) → ((n t : ℕ) (es : List Event) → P es → P (Stops n t ∷ es))
+      → (t : ℕ) (p : Phase) (es : List Event) → P es → P (processor-events-in t p ++ es)
+  by-processor f g t p es h = by-processor-at t (λ n. f n t) (λ n. g n t) p es h
 
   pub by-starts : (t : ℕ) → ((n : ℕ) (es : List Event) → P es → P (Starts n t ∷ es)) → (p q : Phase) (es : List Event) → P es → P (start-events t p q ++ es)
   unfolding start-events execution-events

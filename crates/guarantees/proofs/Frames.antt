@@ -42,7 +42,7 @@ choose-frame d t i (Task q) = refl
 pub e-frame : (d : State) (t : ℕ) → frame (step-e d t (d .phase)) ≡ frame d
 e-frame d t = e-cases (λ x. frame x ≡ frame d) d t refl (λ i e s u. choose-frame d t i (highest-of d (d .jobs .ready)))
 
-g-frame : (d : State) (t new : ℕ) → frame (step-g d t new (d .phase)) ≡ frame d
+pub g-frame : (d : State) (t new : ℕ) → frame (step-g d t new (d .phase)) ≡ frame d
 unfolding begin
 g-frame d t new =
     g-cases (λ x. frame x ≡ frame d) d t new (λ i e. refl) (λ next outgoing e w. refl) (λ next outgoing e w. e-frame (begin d t new next outgoing) t)
@@ -93,7 +93,7 @@ c-pending : (d : State) (t new late : ℕ) → step-c d t new late .jobs .pendin
 unfolding step-c
 c-pending d t new late = refl
 
-frame-e : (d : State) (t set : ℕ) → frame (at-e d t set) ≡ frame (at-c d t set)
+pub frame-e : (d : State) (t set : ℕ) → frame (at-e d t set) ≡ frame (at-c d t set)
 unfolding at-e
 frame-e d t set =
     let new : ℕ = new-at d t set in
@@ -106,7 +106,14 @@ frame-g d t set =
     g-frame (at-f d t set .state) t (held-at d t set)
     ∙ b-frame (fresh-stage (at-e d t set)) t ∙ frame-e d t set
 
+c-marked : (d : State) (t new late : ℕ) → step-c d t new late .marked ≡ d .marked
+unfolding step-c
+c-marked d t new late = refl
+
 module _ (d : State) (t set : ℕ) where
+  pub marked-g : at-g d t set .marked ≡ d .marked
+  marked-g = ap (λ (x : Frame). x .marked) (frame-g d t set) ∙ c-marked (at-b d t .state) t (new-at d t set) (late-at d t set) ∙ marked-b d t
+
   pub table-e : at-e d t set .table ≡ d .table
   table-e = ap (λ (x : Frame). x .table) (frame-e d t set) ∙ c-table (at-b d t .state) t (new-at d t set) (late-at d t set) ∙ table-b d t
 

@@ -20,7 +20,6 @@ pub mod Engine
 pub mod CopyOuts
 pub mod Processing
 pub mod Executions
-pub mod Promotions
 pub mod Known
 pub mod Pending
 pub mod Completion
@@ -31,6 +30,11 @@ pub mod Closings
 pub mod Told
 pub mod Counts
 pub mod Deferred
+pub mod Turns
+pub mod Turning
+pub mod Fates
+pub mod Marks
+pub mod Courses
 pub mod Serving
-pub mod Demand3
 pub mod Arithmetic
+pub mod Demand3

@@ -81,7 +81,7 @@ module _ (present : ℕ) (tasks : present < 2 ^ 32) where
   a-copyin-bit : (k t : ℕ) (c : CopyIn) → copyin-bit k (copyin-at t c) ≡ copyin-bit k c
   a-copyin-bit k t c = copyin-cases t (λ x. copyin-bit k x ≡ copyin-bit k c) c refl (λ n u e x. ap (copyin-bit k) (sym e))
 
-  a-processor-bit : (k : ℕ) (table : Table) (t : ℕ) (q : Processor) → processor-bit k (processor-at table t q) ≡ processor-bit k q
+  pub a-processor-bit : (k : ℕ) (table : Table) (t : ℕ) (q : Processor) → processor-bit k (processor-at table t q) ≡ processor-bit k q
   a-processor-bit k table t q =
       processor-cases t table (λ x. processor-bit k x ≡ processor-bit k q) q refl (λ n u e x. ap (processor-bit k) (sym e)) (λ n s u e x. ap (processor-bit k) (sym e))
 
@@ -158,7 +158,7 @@ module _ (present : ℕ) (tasks : present < 2 ^ 32) where
       }
 
   -- b, f
-  b-outgoing-bit : (k : ℕ) (q : Processor) → resting q ≡ true → outgoing-bit k (awaiting-copyout q) ≡ processor-bit k q
+  pub b-outgoing-bit : (k : ℕ) (q : Processor) → resting q ≡ true → outgoing-bit k (awaiting-copyout q) ≡ processor-bit k q
   b-outgoing-bit k Idle h = refl
   b-outgoing-bit k (CopyingIn n until) h = absurd (false≢true h)
   b-outgoing-bit k (Executing n start until) h = absurd (false≢true h)
@@ -170,7 +170,7 @@ module _ (present : ℕ) (tasks : present < 2 ^ 32) where
   b-outgoing-known (Executing n start until) h = tt
   b-outgoing-known (Finished n start) h = h
 
-  b-copyout-bit : (k : ℕ) (o : CopyOut) → copying-out o ≡ false → copyout-bit k o ≡ 0
+  pub b-copyout-bit : (k : ℕ) (o : CopyOut) → copying-out o ≡ false → copyout-bit k o ≡ 0
   b-copyout-bit k NoCopyOut h = refl
   b-copyout-bit k (CopyingOut n start until) h = absurd (true≢false h)
   b-copyout-bit k (CopiedOut n) h = refl
@@ -371,12 +371,12 @@ module _ (present : ℕ) (tasks : present < 2 ^ 32) where
       (λ i e s u. subst (λ (p : Phase). Moves d p (choose d t i q) (choose d t i q .phase) 0 0) (sym e) (choose-moves d t i q s (subst (Parted d) e h) (best-of d (d .jobs .ready))))
 
   -- g
-  g-processor : (k : ℕ) (table : Table) (t : ℕ) (next : Next) → processor-bit k (begin-processor table t next) ≡ next-bit k next
+  pub g-processor : (k : ℕ) (table : Table) (t : ℕ) (next : Next) → processor-bit k (begin-processor table t next) ≡ next-bit k next
   g-processor k table t NoneNext = refl
   g-processor k table t (LoadedNext n) = refl
   g-processor k table t (PromotedNext n) = refl
 
-  g-copyout : (k : ℕ) (table : Table) (t : ℕ) (outgoing : Outgoing) → copyout-bit k (begin-copyout table t outgoing) ≡ outgoing-bit k outgoing
+  pub g-copyout : (k : ℕ) (table : Table) (t : ℕ) (outgoing : Outgoing) → copyout-bit k (begin-copyout table t outgoing) ≡ outgoing-bit k outgoing
   g-copyout k table t NoneOutgoing = refl
   g-copyout k table t (AwaitsCopyOut n start) = refl
 

@@ -1,6 +1,6 @@
 -- What an instant that is served tells: its set is of the table's tasks, its releases come early, and no phase ends before it; and how far the
 -- phases that end at it bring the end nearer.
-use Rattle.guarantees.specs.Types.{_≡_, refl, sym, ap, _∙_, subst, true, false, not, _&&_, _⊎_, inl, inr, ⊎-elim, ℕ, _+_, _*_, _≤_, min, Table, Clock, Unset, At, Processor, Idle, CopyingIn, Executing, Finished, CopyOut, NoCopyOut, CopyingOut, CopiedOut, CopyIn, Unchosen, NoneChosen, Copying, Loaded, Cancelled, Phase, Between, Within, State, Due, Never, Tick, Stage}
+use Rattle.guarantees.specs.Types.{_≡_, refl, sym, ap, _∙_, subst, true, false, not, _&&_, _⊎_, inl, inr, ⊎-elim, ℕ, _+_, _*_, _≤_, _<_, min, Table, Clock, Unset, At, Processor, Idle, CopyingIn, Executing, Finished, CopyOut, NoCopyOut, CopyingOut, CopiedOut, CopyIn, Unchosen, NoneChosen, Copying, Loaded, Cancelled, Phase, Between, Within, State, Due, Never, Tick, Stage}
 use native.Mathlib.Omega.{arith}
 use borrow.Author.Tests.{eqb-true, eq-eqb, ltb-false, le-ltb, leb-false, leb-true, not-false}
 use lib.Dec.{eqb, ltb, leb}
@@ -182,6 +182,14 @@ pub record Served-at (d : State) (t set : ℕ) : Type 0 where
 clock-onward : (c : Clock) (t : ℕ) → not-after c t ≡ false → last c ≤ t
 clock-onward Unset t h = omega arith
 clock-onward (At x) t h = omega (arith, leb-false t x h)
+
+-- it comes after the last one
+pub strictly-onward : (d : State) (t set u : ℕ) → eqb (refusal d t set) 0 ≡ true → d .clock ≡ At u → u < t
+unfolding refusal unknown
+strictly-onward d t set u h e =
+    let f : (not (eqb (difference set (d .table .present)) 0) ≡ false) × ((not (eqb set 0) && ltb 1000000000 t) ≡ false) × (not-after (d .clock) t ≡ false) × (before-now (Instant.due (d .phase)) t ≡ false) =
+    none-passed 15 9 13 14 (not (eqb (difference set (d .table .present)) 0)) (not (eqb set 0) && ltb 1000000000 t) (not-after (d .clock) t) (before-now (Instant.due (d .phase)) t) (eqb-true (refusal d t set) 0 h) in
+    leb-false t u (subst (λ (c : Clock). not-after c t ≡ false) e (f .2))
 
 pub served-at : (d : State) (t set : ℕ) → eqb (refusal d t set) 0 ≡ true → Served-at d t set
 unfolding refusal unknown

@@ -102,7 +102,7 @@ begun-open f t new NoneNext NoneOutgoing h w =
     { begin = t; work = Instant.work-of NoneNext; processor = Idle; copyout = NoCopyOut; copyin = Unchosen; candidates = intersection new (f .marked) } in
     chosen-open b t i (highest-of b (f .jobs .ready)) refl refl h (not-true (eqb (f .jobs .ready) 0) w) (best-of b (f .jobs .ready))
 
-unwanted : (next : Next) (outgoing : Outgoing) (ready : ℕ) → wanted next outgoing ready ≡ false → (next ≡ NoneNext) × (outgoing ≡ NoneOutgoing) × (ready ≡ 0)
+pub unwanted : (next : Next) (outgoing : Outgoing) (ready : ℕ) → wanted next outgoing ready ≡ false → (next ≡ NoneNext) × (outgoing ≡ NoneOutgoing) × (ready ≡ 0)
 unwanted (LoadedNext n) outgoing ready w = absurd (true≢false w)
 unwanted (PromotedNext n) outgoing ready w = absurd (true≢false w)
 unwanted NoneNext (AwaitsCopyOut m s) ready w = absurd (true≢false w)

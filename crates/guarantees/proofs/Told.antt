@@ -201,7 +201,7 @@ a-done d t (Between next outgoing) e h = different e h
 a-done d t (Within i) e h = (i, refl, h)
 
 -- what an instant answers that is served
-served-so : (d : State) (t set : ℕ) (o : Occurred) → instant d t set .answer ≡ Served o → occurred d t set ≡ o
+pub served-so : (d : State) (t set : ℕ) (o : Occurred) → instant d t set .answer ≡ Served o → occurred d t set ≡ o
 unfolding instant served
 served-so d t set o h =
     by-test (eqb (refusal d t set) 0)

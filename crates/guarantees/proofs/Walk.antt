@@ -28,7 +28,7 @@ module _ (d : State) (t set : ℕ) where
   unfolding instant-step served-step
   served-answer e = rw (instant-step, e)
 
-  refused-answer : eqb (refusal d t set) 0 ≡ false → instant-step d t set .answer ≡ Refused (refusal d t set)
+  pub refused-answer : eqb (refusal d t set) 0 ≡ false → instant-step d t set .answer ≡ Refused (refusal d t set)
   unfolding instant-step
   refused-answer e = rw (instant-step, e)
 
@@ -62,11 +62,11 @@ same : (d : State) (c : Call) → after-call d c ≡ d → by-call d c ≡ [] �
 same d c e f u = record { marks = d .marked; known = λ h. h; leaves = e; silent = f; untold = u }
 
 module _ (d : State) (n m : ℕ) where
-  mark-served : eqb (mark-refusal d n m) 0 ≡ true → after-call d (Mark n m) ≡ with-mark d n m
+  pub mark-served : eqb (mark-refusal d n m) 0 ≡ true → after-call d (Mark n m) ≡ with-mark d n m
   unfolding after-call mark-step
   mark-served e = rw (after-call, mark-step, e)
 
-  mark-refused : eqb (mark-refusal d n m) 0 ≡ false → after-call d (Mark n m) ≡ d
+  pub mark-refused : eqb (mark-refusal d n m) 0 ≡ false → after-call d (Mark n m) ≡ d
   unfolding after-call mark-step
   mark-refused e = rw (after-call, mark-step, e)
 

@@ -6,12 +6,16 @@ use lib.ListN.{getD, length}
 use Rattle.sets.specs.Sets.{size}
 use Rattle.table.specs.Table.{copyin-length, execution-length, copyout-length}
 use Rattle.table.specs.Refusals.{refusal-number, refusal-place}
-use Rattle.rules.specs.Calls.{opening}
+use Rattle.rules.specs.Calls.{opening, refusal}
 use Rattle.dispatcher.specs.declared.Opening.{Opening}
 use Rattle.dispatcher.specs.Dispatcher.{state-of, opening-of}
 use Rattle.guarantees.specs.History.{Event, Starts, Stops, Completes, Ends, Takes, Defers, Begins, history, after-calls, EmptySets}
+use Rattle.guarantees.specs.Pending.{OneAtATime, InTime}
+use Rattle.guarantees.specs.Intervals.{Proceeds}
 use Rattle.guarantees.specs.Entries.{EntriesTell}
-use Rattle.guarantees.specs.Queries.{is-task, Situation, NoneOpen, situation, Latest, none-yet, latest, loaded, last-mark, Execution, not-yet, execution, intervals, met, end-tick, begin-tick, copied-out, taking, deferring, start, stop, completion, last-instant, is-take, is-begin, is-completion, total}
+use Rattle.guarantees.specs.Counting.{CountsRise}
+use Rattle.guarantees.specs.States.{PlainState}
+use Rattle.guarantees.specs.Queries.{is-task, Situation, NoneOpen, situation, Latest, none-yet, latest, loaded, Execution, not-yet, execution, intervals, met, end-tick, begin-tick, copied-out, taking, start, stop, completion, last-instant, is-take, is-begin, is-completion, total}
 
 -- ---- The order
 
@@ -76,10 +80,9 @@ pub record Holds (table : Table) (history : List Event) : Type 0 where
   -- an execution starts with its interval, or, of a promoted job, L ticks later, and lasts C ticks
   pub each-execution : (before after : List Event) (n t : ℕ) (l : MaybeTask) → history ≡ before ++ (Begins t (Task n) l ∷ after) →
       Executed (copyin-length (table .columns) n) (execution-length (table .columns) n) n t (loaded NoTask before) after
-  -- "the highest-priority marked job released in it and ready is promoted (R4)": a job that the engine has not copied in was marked at its
-  -- release
-  pub each-promotion : (before after : List Event) (n t : ℕ) (l : MaybeTask) → history ≡ before ++ (Begins t (Task n) l ∷ after) →
-      is-task n (loaded NoTask before) ≡ false → last-mark n false before ≡ true
+  -- one interval is open at a time; each executes the job promoted at the end of the one before it, the highest of the marked ones taken
+  -- in that one; else the loaded one
+  pub each-interval : Proceeds (table .priority) history
   -- nothing else starts to execute: the open interval executes the job, and its execution has not started before
   pub each-start : (before after : List Event) (n s : ℕ) → history ≡ before ++ (Starts n s ∷ after) →
       let x : Latest = latest none-yet before in (x .executed ≡ Task n) × (x .ended ≡ Never) × (execution not-yet before .started ≡ Never)
@@ -99,6 +102,10 @@ pub record Holds (table : Table) (history : List Event) : Type 0 where
   -- and nothing else completes a job: the open interval copies it out, and has begun U ticks before
   pub each-completion : (before after : List Event) (n c : ℕ) → history ≡ before ++ (Completes n c ∷ after) →
       let x : Latest = latest none-yet before in (b : ℕ) × (x .begun ≡ Tick b) × (x .out ≡ Task n) × (c ≡ b + copyout-length (table .columns) n)
+  -- a task has one pending job at a time, each taken, executed, copied out and completed once; 4/13: and one release that waits behind it
+  pub each-task : (n : ℕ) → OneAtATime n history
+  -- what occurs at an instant says its tick
+  pub in-time : InTime history
   -- "Where N jobs were taken, at most 3 × N intervals have begun"; "N is the number of releases taken in the list", at once or after waiting
   pub at-most-three : total is-begin history ≤ 3 * total is-take history
 
@@ -109,8 +116,8 @@ pub record Completed (n : ℕ) (after : List Event) : Type 0 where
   pub done : ℕ
   pub completes : completion n after ≡ Tick done
 
--- a release of task n that was set waiting, and what occurs from then on: it is the next of its task to be taken, none waits beside it until then, and
--- its job executes and completes
+-- a release of task n that was set waiting, and what occurs from then on: it is the next of its task to be taken, at the tick of the
+-- next completion of a job of its task, and its own job executes and completes
 pub record TakenLater (n : ℕ) (after : List Event) : Type 0 where
   pub between : List Event
   pub later : List Event
@@ -118,7 +125,7 @@ pub record TakenLater (n : ℕ) (after : List Event) : Type 0 where
   pub marked : Bool
   pub is-taken : after ≡ between ++ (Takes n tick marked ∷ later)
   pub next-taken : taking n between ≡ Never
-  pub alone : deferring n between ≡ Never
+  pub at-completion : completion n between ≡ Tick tick
   pub completed : Completed n later
 
 -- "complete every job": each has its execution and its completion after its taking
@@ -147,6 +154,10 @@ pub record Claim (d : State) (calls : List Call) : Type 0 where
   -- so that N of the list with them is that of the list and one for each release that waits at its end
   pub waiting-taken : (rest : List Call) → EmptySets (after-calls d calls) rest
       → total is-take (history d (calls ++ rest)) ≡ total is-take (history d calls) + size (after-calls d calls .waiting .tasks)
+  -- 3/13: at an instant that is served from the state after the list, a pending job's count rises exactly where its task is in the set
+  pub counts : (t set : ℕ) → refusal (after-calls d calls) t set ≡ 0 → CountsRise (after-calls d calls) t set
+  -- and no time and no count of that state comes near the end of its type
+  pub plain : PlainState (after-calls d calls)
 
 -- "Demand 3 is a single claim about a whole list of instants and mark calls, and not one for each call. The list starts from the state
 -- that opening returned, for any table it serves."

@@ -1,12 +1,10 @@
 -- 3/13: "in a state that calls made a pending job's count rises by one exactly when its task is in it", in the set of tasks that the interval
 -- can block.
-use Rattle.guarantees.specs.Types.{_≡_, cond, _&&_, List, ℕ, _+_, _<_, State, NoRefusal, Call}
+use Rattle.guarantees.specs.Types.{_≡_, cond, _&&_, ℕ, _+_, _<_, State}
 use lib.ListN.{getD}
 use Rattle.sets.specs.Sets.{member}
 use Rattle.rules.specs.Blocking.{blockable}
 use Rattle.rules.specs.Instant.{at-a, at-b, at-e, at-f}
-use Rattle.rules.specs.Calls.{opening, refusal}
-use Rattle.guarantees.specs.History.{after-calls}
 
 -- from the state before an interval's end to the one after it: one more for each pending job whose task is in the set, and no other count changes;
 -- where no interval ends the set is empty
@@ -19,8 +17,3 @@ Rises before after =
 pub record CountsRise (d : State) (t set : ℕ) : Type 0 where
   pub in-b : Rises (at-a d t .state) (at-b d t .state)
   pub in-f : Rises (at-e d t set) (at-f d t set .state)
-
-unfoldable pub BlockedCounts : Type 0
-BlockedCounts =
-    (bytes : List ℕ) → opening bytes .refusal ≡ NoRefusal → (calls : List Call) (t set : ℕ)
-    → let d : State = after-calls (opening bytes .state) calls in refusal d t set ≡ 0 → CountsRise d t set

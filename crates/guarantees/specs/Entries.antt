@@ -1,12 +1,14 @@
 -- That the entries tell the truth: of each job done (kind 16) and of each interval closed (kind 17) that the calls answer with, what it says is
 -- what the history has of it. What stands between quotation marks is document 01; below each quotation stands what it says of a history.
-use Rattle.guarantees.specs.Types.{_≡_, Bool, false, cond, List, [], _∷_, _++_, ℕ, _+_, MaybeTask, NoTask, Task, State, Due, Never, Tick, Call, Instant, Mark, Answer, Refused, Served, Occurred, Done, NoJob, Job, Closing, Unclosed, BeforeReleases, AfterReleases, JobEntry, IntervalEntry}
+use Rattle.guarantees.specs.Types.{_≡_, Bool, false, cond, _&&_, List, [], _∷_, _++_, ℕ, _+_, _<_, MaybeTask, NoTask, Task, State, Never, Tick, Call, Instant, Mark, Answer, Refused, Served, Occurred, Done, NoJob, Job, Closing, Unclosed, BeforeReleases, AfterReleases, JobEntry, IntervalEntry}
 use lib.Dec.{eqb, ltb}
 use lib.ListN.{getD}
-use Rattle.sets.specs.Sets.{size}
-use Rattle.rules.specs.Calls.{refusal, instant, after-call}
-use Rattle.guarantees.specs.History.{Event, Takes, history, after-calls}
-use Rattle.guarantees.specs.Queries.{details, completes, ends, total, is-take, each, NoneOpen, situation, Latest, none-yet, latest-by, waiting, original, intervals, taking, start, waited}
+use Rattle.sets.specs.Sets.{member, bit}
+use Rattle.rules.specs.Calls.{refusal, mark-refusal, instant, after-call}
+use Rattle.guarantees.specs.History.{Event, Takes, by-call, history, after-calls}
+use Rattle.guarantees.specs.Queries.{details, completes, each, NoneOpen, situation, waiting, original, intervals, taking, start, waited}
+use Rattle.guarantees.specs.Releases.{Balance, Placed}
+use Rattle.guarantees.specs.Intervals.{no-course, ended}
 
 -- ---- What calls answer
 
@@ -23,18 +25,25 @@ unfoldable pub answers : State → List Call → List Occurred
 answers d [] = []
 answers d (c ∷ cs) = answer-of d c ++ answers (after-call d c) cs
 
--- ---- The releases
+-- ---- The releases of task n
 
--- of the calls, how many releases the served instants hand in
-unfoldable pub handed-in : State → List Call → ℕ
-handed-in d [] = 0
-handed-in d (Instant t set ∷ cs) = cond (eqb (refusal d t set) 0) (size set) 0 + handed-in (after-call d (Instant t set)) cs
-handed-in d (Mark n m ∷ cs) = handed-in (after-call d (Mark n m)) cs
+module _ (n : ℕ) where
+  -- of the calls, how many of the served instants hand one in
+  unfoldable pub handed-in : State → List Call → ℕ
+  handed-in d [] = 0
+  handed-in d (Instant t set ∷ cs) = cond (eqb (refusal d t set) 0) (bit (member n set)) 0 + handed-in (after-call d (Instant t set)) cs
+  handed-in d (Mark k m ∷ cs) = handed-in (after-call d (Mark k m)) cs
 
--- and of what they answer, how many are skipped
-unfoldable pub skips : List Occurred → ℕ
-skips [] = 0
-skips (o ∷ os) = size (o .skipped) + skips os
+  -- and of what they answer, how many are skipped
+  unfoldable pub skips : List Occurred → ℕ
+  skips [] = 0
+  skips (o ∷ os) = bit (member n (o .skipped)) + skips os
+
+-- whether it is marked after some calls, where it was or was not before them: by the last mark call on it that is served
+unfoldable pub marked-by : ℕ → Bool → State → List Call → Bool
+marked-by n b d [] = b
+marked-by n b d (Instant t set ∷ cs) = marked-by n b (after-call d (Instant t set)) cs
+marked-by n b d (Mark k m ∷ cs) = marked-by n (cond (eqb n k && eqb (mark-refusal d k m) 0) (eqb m 1) b) (after-call d (Mark k m)) cs
 
 -- ---- A job done
 
@@ -88,30 +97,15 @@ completions = each (λ e. cond (completes e) (record { task = details e .task; t
 
 -- ---- An interval closed
 
--- begin, end, the processor's task and the task copied out
-pub record Ended : Type 0 where
-  pub begin : Due
-  pub end : ℕ
-  pub task : MaybeTask
-  pub out : MaybeTask
-
-abbrev pub of-entry : IntervalEntry → Ended
-of-entry e = record { begin = Tick (e .begin); end = e .end; task = e .task; out = e .copiedout }
-
 -- what the answers say of the intervals that closed
-abbrev pub closed-in : Closing → List Ended
+abbrev pub closed-in : Closing → List IntervalEntry
 closed-in Unclosed = []
-closed-in (BeforeReleases e) = of-entry e ∷ []
-closed-in (AfterReleases e) = of-entry e ∷ []
+closed-in (BeforeReleases e) = e ∷ []
+closed-in (AfterReleases e) = e ∷ []
 
-unfoldable pub closed : List Occurred → List Ended
+unfoldable pub closed : List Occurred → List IntervalEntry
 closed [] = []
 closed (o ∷ os) = closed-in (o .closed) ++ closed os
-
--- and what the history has: the intervals that ended, where x is the last that has begun
-unfoldable pub ended : Latest → List Event → List Ended
-ended x [] = []
-ended x (e ∷ es) = cond (ends e) (record { begin = x .begun; end = details e .tick; task = x .executed; out = x .out } ∷ []) [] ++ ended (latest-by x e) es
 
 -- ---- The claim
 
@@ -121,7 +115,16 @@ pub record EntriesTell (d : State) (calls : List Call) : Type 0 where
       → instant (after-calls d before) t set .answer ≡ Served o → o .done ≡ Job e → TellsJob (d .table .priority) (history d before) t e
   -- "The record has kind 16 at step a": one entry for each job that completes, in their order
   pub each-done : done (answers d calls) ≡ completions (history d calls)
-  -- 4/13: each release that is handed in is taken, at once or after waiting, or waits still, or is skipped
-  pub each-release : handed-in d calls ≡ total is-take (history d calls) + size (after-calls d calls .waiting .tasks) + skips (answers d calls)
-  -- "kind 17 at the interval's end": one for each interval that ended, in their order
-  pub each-interval : closed (answers d calls) ≡ ended none-yet (history d calls)
+  -- 4/13: at each point of the list, each release that was handed in was taken at once, set waiting or skipped, task by task
+  pub each-release : (before after : List Call) (n : ℕ) → calls ≡ before ++ after → n < 32
+      → Balance n (handed-in n d before) (skips n (answers d before)) (history d before)
+  -- and at each instant by its set and what waited
+  pub each-instant : (before after : List Call) (n t set : ℕ) (o : Occurred) → calls ≡ before ++ (Instant t set ∷ after) → n < 32
+      → instant (after-calls d before) t set .answer ≡ Served o
+      → Placed n set (o .skipped) (history d before) (by-call (after-calls d before) (Instant t set))
+  -- "A job is marked if its task was at the release": as opening read its mark, or as mark calls have changed it; a release that waited
+  -- has the same mark as at its taking, since "a mark cannot change while a release waits"
+  pub each-mark : (before after : List Call) (n t set u : ℕ) (m : Bool) (xs ys : List Event) → calls ≡ before ++ (Instant t set ∷ after)
+      → by-call (after-calls d before) (Instant t set) ≡ xs ++ (Takes n u m ∷ ys) → m ≡ marked-by n (member n (d .marked)) d before
+  -- "kind 17 at the interval's end": one for each interval that ended, in their order, with all that it says
+  pub each-interval : closed (answers d calls) ≡ ended (d .table .priority) no-course (history d calls)

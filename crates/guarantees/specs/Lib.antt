@@ -1,6 +1,9 @@
 pub mod Types
 pub mod History
 pub mod Queries
+pub mod Pending
+pub mod Releases
+pub mod Intervals
 pub mod Entries
 pub mod Claim
 pub mod Counting

@@ -137,10 +137,6 @@ execution-by x e =
 abbrev pub execution : Execution → List Event → Execution
 execution = after execution-by
 
--- whether the last job of task n to be taken was marked
-abbrev pub last-mark : ℕ → Bool → List Event → Bool
-last-mark n = after (λ b e. cond (takes e && is-task n (details e .task)) (details e .mark) b)
-
 -- the tick of the release of task n that waits
 abbrev pub waiting : ℕ → Due → List Event → Due
 waiting n = after (λ w e. cond (is-task n (details e .task)) (cond (defers e) (Tick (details e .tick)) (cond (takes e) Never w)) w)
@@ -170,10 +166,6 @@ copied-out = first begins (λ e. details e .out) NoTask
 -- the tick at which the next job of task n is taken
 abbrev pub taking : ℕ → List Event → Due
 taking n = first (λ e. takes e && is-task n (details e .task)) (λ e. Tick (details e .tick)) Never
-
--- and at which the next release of task n begins to wait
-abbrev pub deferring : ℕ → List Event → Due
-deferring n = first (λ e. defers e && is-task n (details e .task)) (λ e. Tick (details e .tick)) Never
 
 -- the ticks at which the next job of task n to execute starts, and at which the next execution of one ends
 abbrev pub start : ℕ → List Event → Due

@@ -1,14 +1,13 @@
 -- Every state that calls made: it names only tasks of the table, and no time and no count of it comes near the end of its type. The
 -- definitions hold a time at the last tick of a u64 (`later`) and a count at 255 (`counted`), so that every state has an answer; here it
 -- is claimed that no run gets there: on every state that calls made they are document 01's, with plain arithmetic.
-use Rattle.guarantees.specs.Types.{_≡_, true, List, _⊎_, ℕ, _+_, _≤_, _<_, min, Table, Processor, Idle, CopyingIn, Executing, Finished, CopyOut, NoCopyOut, CopyingOut, CopiedOut, CopyIn, Unchosen, NoneChosen, Copying, Loaded, Cancelled, Next, NoneNext, LoadedNext, PromotedNext, Outgoing, NoneOutgoing, AwaitsCopyOut, Phase, Between, Within, State, NoRefusal, Call}
+use Rattle.guarantees.specs.Types.{_≡_, true, List, _⊎_, ℕ, _+_, _≤_, _<_, min, Table, Processor, Idle, CopyingIn, Executing, Finished, CopyOut, NoCopyOut, CopyingOut, CopiedOut, CopyIn, Unchosen, NoneChosen, Copying, Loaded, Cancelled, Next, NoneNext, LoadedNext, PromotedNext, Outgoing, NoneOutgoing, AwaitsCopyOut, Phase, Between, Within, State}
 use lib.ListN.{getD}
 use Rattle.table.specs.Table.{copyin-length, execution-length, copyout-length}
 use Rattle.sets.specs.Sets.{member}
 use Rattle.rules.specs.With.{later, at-clock}
 use Rattle.rules.specs.Instant.{at-a, at-e, at-g}
-use Rattle.rules.specs.Calls.{opening, refusal}
-use Rattle.guarantees.specs.History.{after-calls}
+use Rattle.rules.specs.Calls.{refusal}
 
 -- ---- The tasks that a state names
 
@@ -89,6 +88,3 @@ pub record PlainState (d : State) : Type 0 where
   -- no job is blocked in more than two intervals
   pub counts : (n : ℕ) → n < 32 → getD (d .jobs .blocked) n 0 ≤ 2
   pub instants : (t set : ℕ) → refusal d t set ≡ 0 → PlainInstant d t set
-
-unfoldable pub PlainArithmetic : Type 0
-PlainArithmetic = (bytes : List ℕ) → opening bytes .refusal ≡ NoRefusal → (calls : List Call) → PlainState (after-calls (opening bytes .state) calls)

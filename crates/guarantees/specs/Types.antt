@@ -5,4 +5,4 @@ pub use mathlib.Core.Path.{_≡_, refl, sym, ap, _∙_, subst}
 pub use mathlib.Core.Bool.{Bool, true, false, cond, not, _&&_, _||_, true≢false, false≢true}
 pub use mathlib.Core.List.{List, [], _∷_, _++_, append-assoc}
 pub use mathlib.Core.Logic.{_⊎_, inl, inr, ⊎-elim, _↔_}
-pub use Prim.Native.Nat.{ℕ, zero, suc, _+_, _*_, _^_, _≤_, _<_, min}
+pub use Prim.Native.Nat.{ℕ, zero, suc, _+_, _-_, _*_, _^_, _≤_, _<_, min}

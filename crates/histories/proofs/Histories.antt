@@ -1,14 +1,14 @@
 -- The claim accepts the plans' histories, since the theorem gives it of their calls; and each wrong history goes against a line of it.
 use Prim.Native.Nat.{_+_, ℕ, _≤_, _<_}
 use mathlib.Core.Path.{_≡_, refl, sym, ap, _∙_, subst}
-use mathlib.Core.Bool.{Bool, true, false, cond, _&&_, _||_, false≢true}
+use mathlib.Core.Bool.{Bool, true, false, cond, _&&_, _||_, true≢false, false≢true}
 use mathlib.Core.List.{List, [], _∷_, _++_}
 use Rattle.table.specs.declared.Table.{Table}
 use Rattle.entries.specs.declared.MaybeTask.the-variants.{NoTask, Task}
-use Rattle.rules.specs.declared.Due.{Due}
 use Rattle.rules.specs.declared.Due.the-variants.{Never, Tick}
 use Rattle.table.specs.declared.Refusal.the-variants.{NoRefusal}
 use mathlib.Core.List.{append-nil}
+use mathlib.Core.Logic.{⊎-elim}
 use native.Mathlib.Omega.{arith}
 use lib.ListN.{take, drop}
 use Rattle.words.specs.Words
@@ -23,13 +23,13 @@ use Rattle.rules.specs.Calls.{opening}
 use Rattle.guarantees.specs.History
 use Rattle.rules.specs.declared.Call.{Call}
 use Rattle.guarantees.specs.History.{Event, Takes, history, after-calls, EmptySets}
-use Rattle.guarantees.specs.Queries.{details, is-task, takes, defers, after, first, each, total, upto, situation, NoneOpen, waiting, original, taking, deferring}
+use Rattle.guarantees.specs.Queries.{details, is-task, takes, completes, after, first, each, total, upto, situation, NoneOpen, waiting, original, taking, completion}
 use Rattle.guarantees.specs.Claim.{Holds, Completed, TakenLater, AllCompleted, Claim, Demand3}
-use Rattle.sets.proofs.Laws.{same-task}
-use Rattle.histories.specs.Histories.{task, tasks, three, plans-table, Accepts, Refuses, PlansAccepted, WrongRefused, calls-a, history-a, calls-b, history-b, calls-c, history-c, calls-d, history-d, calls-e, history-e, calls-f, history-f, calls-f′, history-f′, calls-waiting, history-waiting, second-lower, second-finished, thrown-out-runs, third-idle, third-lower, copyout-late, four-intervals, copyout-not-at-once, completion-late, completion-missing, completion-unexecuted, begins-late, no-ticks, not-executed, loaded-late, promoted-early, execution-long, promoted-unmarked, starts-unasked, starts-twice, stops-unstarted, cut-short, one-waits, never-taken, two-wait, waited-unexecuted, before-13, before-17, job-1, Tells, OneEntry, WaitedEntry, PlanC}
-use Rattle.guarantees.specs.Entries.{lower-in, ended}
+use Rattle.sets.proofs.Laws.{by-test, same-task}
+use Rattle.histories.specs.Histories.{task, tasks, three, plans-table, Accepts, Refuses, PlansAccepted, WrongRefused, calls-a, history-a, calls-b, history-b, calls-c, history-c, calls-d, history-d, calls-e, history-e, calls-f, history-f, calls-f′, history-f′, calls-waiting, history-waiting, second-lower, second-finished, thrown-out-runs, third-idle, third-lower, copyout-late, four-intervals, copyout-not-at-once, completion-late, completion-missing, completion-unexecuted, begins-late, no-ticks, not-executed, loaded-late, promoted-early, execution-long, promoted-unmarked, starts-unasked, starts-twice, stops-unstarted, cut-short, one-waits, never-taken, two-wait, waited-unexecuted, before-13, before-17, job-1, Tells, OneEntry, WaitedEntry, taken-late, waits-for-nothing, taken-twice, completed-twice, runs-unreleased, executed-again, another-tick, instants-fall, nobody-promoted, promoted-late, promoted-beside-the-loaded, begins-twice, ends-twice, finishes-twice, gives-way-twice, Marks, calls-one, taken-another, up-to-5, ReleasesRefused, PlanEntries}
+use Rattle.guarantees.specs.Intervals.{ended}
+use Rattle.guarantees.specs.Entries.{lower-in, handed-in, marked-by}
 use Rattle.guarantees.specs.Queries.{until}
-use Rattle.entries.specs.declared.JobEntry.{JobEntry}
 use Rattle.guarantees.proofs.Tally.{nothing, tally, Found, found}
 use Rattle.guarantees.proofs.Demand3.{demand-3}
 
@@ -109,9 +109,15 @@ unfolding second-finished after each upto plans-table three
 refuses-second-finished h =
     h .each-job (take 11 second-finished) (drop 12 second-finished) 1 4 true refl .marked-in-one refl 1 (omega arith) (omega arith) (omega arith)
 
+other-task : (t u : ℕ) → (t ≡ u → ⊥) → Task t ≡ Task u → ⊥
+other-task t u h e = h cc
+
+task-none : (n : ℕ) → Task n ≡ NoTask → ⊥
+task-none n e = let z : _≡_ {A = ℕ} 0 1 = cc in omega arith
+
 refuses-thrown-out-runs : Refuses thrown-out-runs
-unfolding thrown-out-runs after plans-table three
-refuses-thrown-out-runs h = false≢true (h .each-promotion (take 23 thrown-out-runs) (drop 24 thrown-out-runs) 2 12 (Task 1) refl refl)
+unfolding thrown-out-runs after plans-table three Sets.member Sets.below Sets.collect Sets.insert Order.better Order.highest-below Order.highest
+refuses-thrown-out-runs h = task-none 2 (h .each-interval .each-begin (take 23 thrown-out-runs) (drop 24 thrown-out-runs) 12 (Task 2) (Task 1) refl .1)
 
 refuses-third-idle : Refuses third-idle
 unfolding third-idle after each upto plans-table three
@@ -176,8 +182,75 @@ refuses-execution-long h =
     other-tick 6 5 (λ e. omega arith) (h .each-execution (take 6 execution-long) (drop 7 execution-long) 1 2 NoTask refl .execution-ends 2 refl)
 
 refuses-promoted-unmarked : Refuses promoted-unmarked
-unfolding promoted-unmarked after plans-table three
-refuses-promoted-unmarked h = false≢true (h .each-promotion (take 13 promoted-unmarked) (drop 14 promoted-unmarked) 2 5 (Task 1) refl refl)
+unfolding promoted-unmarked after plans-table three Sets.member Sets.below Sets.collect Sets.insert Order.better Order.highest-below Order.highest
+refuses-promoted-unmarked h = task-none 2 (h .each-interval .each-begin (take 13 promoted-unmarked) (drop 14 promoted-unmarked) 5 (Task 2) (Task 1) refl .1)
+
+refuses-nobody-promoted : Refuses nobody-promoted
+unfolding nobody-promoted after plans-table three Sets.member Sets.below Sets.collect Sets.insert Order.better Order.highest-below Order.highest
+refuses-nobody-promoted h = no-task 1 (h .each-interval .each-begin (take 7 nobody-promoted) (drop 8 nobody-promoted) 1 NoTask NoTask refl .1)
+
+refuses-promoted-late : Refuses promoted-late
+unfolding promoted-late after plans-table three Sets.member Sets.below Sets.collect Sets.insert Order.better Order.highest-below Order.highest
+refuses-promoted-late h = task-none 2 (h .each-interval .each-begin (take 13 promoted-late) (drop 14 promoted-late) 5 (Task 2) (Task 1) refl .1)
+
+refuses-promoted-beside-the-loaded : Refuses promoted-beside-the-loaded
+unfolding promoted-beside-the-loaded after plans-table three Sets.member Sets.below Sets.collect Sets.insert Order.better Order.highest-below Order.highest
+refuses-promoted-beside-the-loaded h =
+    other-task 2 1 (λ e. omega arith) (h .each-interval .each-begin (take 7 promoted-beside-the-loaded) (drop 8 promoted-beside-the-loaded) 2 (Task 2) NoTask refl .1)
+
+refuses-begins-twice : Refuses begins-twice
+unfolding begins-twice after
+refuses-begins-twice h = true≢false (h .each-interval .each-begin (take 3 begins-twice) (drop 4 begins-twice) 0 NoTask NoTask refl .0)
+
+refuses-ends-twice : Refuses ends-twice
+unfolding ends-twice after
+refuses-ends-twice h = false≢true (h .each-interval .each-end (take 6 ends-twice) (drop 7 ends-twice) 2 refl)
+
+refuses-finishes-twice : Refuses finishes-twice
+unfolding finishes-twice after
+refuses-finishes-twice h = let e : _≡_ {A = ℕ} 1 0 = h .each-interval .each-finish (take 6 finishes-twice) (drop 7 finishes-twice) 2 refl .1 in omega arith
+
+refuses-gives-way-twice : Refuses gives-way-twice
+unfolding gives-way-twice after
+refuses-gives-way-twice h =
+    ⊎-elim (λ e. let z : _≡_ {A = ℕ} 2 0 = e in omega arith) (λ e. let z : _≡_ {A = ℕ} 2 1 = e .0 in omega arith)
+    (h .each-interval .each-giving (take 6 gives-way-twice) (drop 7 gives-way-twice) 2 refl .1)
+
+refuses-taken-late : Refuses taken-late
+unfolding taken-late after first
+refuses-taken-late h = other-tick 19 6 (λ e. omega arith) (h .each-task 1 .at-resuming (take 17 taken-late) (drop 18 taken-late) 6 5 refl refl)
+
+refuses-two-wait : Refuses two-wait
+unfolding two-wait after
+refuses-two-wait h = never-is 3 (h .each-task 1 .at-waiting (take 13 two-wait) (drop 14 two-wait) 5 refl .1)
+
+refuses-waits-for-nothing : Refuses waits-for-nothing
+unfolding waits-for-nothing after
+refuses-waits-for-nothing h = h .each-task 1 .at-waiting (take 14 waits-for-nothing) (drop 15 waits-for-nothing) 6 refl .0 refl
+
+refuses-taken-twice : Refuses taken-twice
+unfolding taken-twice after
+refuses-taken-twice h = let e : _≡_ {A = ℕ} 1 0 = h .each-task 1 .at-taking (take 6 taken-twice) (drop 7 taken-twice) 1 true refl in omega arith
+
+refuses-completed-twice : Refuses completed-twice
+unfolding completed-twice after
+refuses-completed-twice h = let e : _≡_ {A = ℕ} 1 3 = h .each-task 1 .at-completion (take 15 completed-twice) (drop 16 completed-twice) 6 refl in omega arith
+
+refuses-runs-unreleased : Refuses runs-unreleased
+unfolding runs-unreleased after
+refuses-runs-unreleased h = let e : _≡_ {A = ℕ} 0 1 = h .each-task 1 .at-execution (take 6 runs-unreleased) (drop 7 runs-unreleased) 2 NoTask refl in omega arith
+
+refuses-executed-again : Refuses executed-again
+unfolding executed-again after
+refuses-executed-again h = let e : _≡_ {A = ℕ} 2 1 = h .each-task 1 .at-execution (take 13 executed-again) (drop 14 executed-again) 5 (Task 1) refl in omega arith
+
+refuses-another-tick : Refuses another-tick
+unfolding another-tick after
+refuses-another-tick h = other-tick 3 0 (λ e. omega arith) (h .in-time .on-time (take 1 another-tick) (drop 2 another-tick) (Takes 1 0 true) refl refl)
+
+refuses-instants-fall : Refuses instants-fall
+unfolding instants-fall after
+refuses-instants-fall h = let l : 5 < 3 = h .in-time .rising (take 3 instants-fall) (drop 4 instants-fall) 3 5 refl refl in omega arith
 
 refuses-starts-unasked : Refuses starts-unasked
 unfolding starts-unasked after plans-table three
@@ -207,42 +280,38 @@ refuses-incomplete : AllCompleted third-idle → ⊥
 unfolding third-idle first
 refuses-incomplete h = let x : Completed 2 (drop 2 third-idle) = h .each (take 1 third-idle) (drop 2 third-idle) 2 0 false refl in not-never (x .done) (x .completes)
 
--- of the next event by which a release of task n is taken or waits, its kind
-abbrev next-kind : ℕ → List Event → ℕ
-next-kind n = first (λ e. (takes e || defers e) && is-task n (details e .task)) (λ e. details e .kind) 0
-
-neither : (a b i : Bool) (t : ℕ) (x y : Due) → cond (a && i) (Tick t) x ≡ Never → cond (b && i) (Tick t) y ≡ Never
-    → (((a || b) && i) ≡ false) × (x ≡ Never) × (y ≡ Never)
-neither true b true t x y h k = absurd (never-is t h)
-neither false true true t x y h k = absurd (never-is t k)
-neither false false true t x y h k = (refl, h, k)
-neither true true false t x y h k = (refl, h, k)
-neither true false false t x y h k = (refl, h, k)
-neither false true false t x y h k = (refl, h, k)
-neither false false false t x y h k = (refl, h, k)
-
--- behind a release that waits it is a taking
-next-taken : (n t : ℕ) (m : Bool) (between later : List Event) → taking n between ≡ Never → deferring n between ≡ Never
-    → next-kind n (between ++ (Takes n t m ∷ later)) ≡ 4
+-- a release that waits is taken, at the next completion of a job of its task
+taken-at : (n : ℕ) (between : List Event) (later : List Event) (tick : ℕ) (m : Bool) → taking n between ≡ Never → taking n (between ++ (Takes n tick m ∷ later)) ≡ Tick tick
 unfolding first
-next-taken n t m [] later h k = ap (λ (b : Bool). cond b 4 (next-kind n later)) (same-task n)
-next-taken n t m (e ∷ between) later h k =
-    let x : (((takes e || defers e) && is-task n (details e .task)) ≡ false) × (taking n between ≡ Never) × (deferring n between ≡ Never) =
-    neither (takes e) (defers e) (is-task n (details e .task)) (details e .tick) (taking n between) (deferring n between) h k in
-    ap (λ (b : Bool). cond b (details e .kind) (next-kind n (between ++ (Takes n t m ∷ later)))) (x .0) ∙ next-taken n t m between later (x .1) (x .2)
+taken-at n [] later tick m h = ap (λ (b : Bool). cond b (Tick tick) (taking n later)) (same-task n)
+taken-at n (e ∷ between) later tick m h =
+    by-test (takes e && is-task n (details e .task)) (λ x. absurd (never-is (details e .tick) (rw x at h))) (λ x. rw x (taken-at n between later tick m (rw x at h)))
 
-then-taken : (n : ℕ) (after : List Event) → TakenLater n after → next-kind n after ≡ 4
-then-taken n after x = ap (next-kind n) (x .is-taken) ∙ next-taken n (x .tick) (x .marked) (x .between) (x .later) (x .next-taken) (x .alone)
+completes-in : (n : ℕ) (between later : List Event) (c : ℕ) → completion n between ≡ Tick c → completion n (between ++ later) ≡ Tick c
+unfolding first
+completes-in n [] later c h = absurd (not-never c h)
+completes-in n (e ∷ between) later c h =
+    by-test (completes e && is-task n (details e .task)) (λ x. rw x (rw x at h)) (λ x. rw x (completes-in n between later c (rw x at h)))
+
+then-taken : (n : ℕ) (after : List Event) (x : TakenLater n after) → (taking n after ≡ Tick (x .tick)) × (completion n after ≡ Tick (x .tick))
+then-taken n after x = (
+  ap (taking n) (x .is-taken) ∙ taken-at n (x .between) (x .later) (x .tick) (x .marked) (x .next-taken),
+  ap (completion n) (x .is-taken) ∙ completes-in n (x .between) (Takes n (x .tick) (x .marked) ∷ x .later) (x .tick) (x .at-completion),
+)
 
 refuses-never-taken : AllCompleted never-taken → ⊥
 unfolding never-taken first
 refuses-never-taken h =
-    let x : _≡_ {A = ℕ} 0 4 = then-taken 1 (drop 12 never-taken) (h .each-deferred (take 11 never-taken) (drop 12 never-taken) 1 5 refl) in omega arith
+    let x : TakenLater 1 (drop 12 never-taken) = h .each-deferred (take 11 never-taken) (drop 12 never-taken) 1 5 refl in
+    let e : Never ≡ Tick (x .tick) = then-taken 1 (drop 12 never-taken) x .0 in not-never (x .tick) e
 
-refuses-two-wait : AllCompleted two-wait → ⊥
-unfolding two-wait first
-refuses-two-wait h =
-    let x : _≡_ {A = ℕ} 9 4 = then-taken 1 (drop 10 two-wait) (h .each-deferred (take 9 two-wait) (drop 10 two-wait) 1 3 refl) in omega arith
+refuses-late-taking : AllCompleted taken-late → ⊥
+unfolding taken-late first
+refuses-late-taking h =
+    let x : TakenLater 1 (drop 15 taken-late) = h .each-deferred (take 14 taken-late) (drop 15 taken-late) 1 5 refl in
+    let e : Tick 19 ≡ Tick (x .tick) = then-taken 1 (drop 15 taken-late) x .0 in
+    let f : Tick 6 ≡ Tick (x .tick) = then-taken 1 (drop 15 taken-late) x .1 in
+    other-tick 6 19 (λ e. omega arith) (f ∙ sym e)
 
 refuses-waited-unexecuted : AllCompleted waited-unexecuted → ⊥
 unfolding waited-unexecuted first
@@ -275,9 +344,25 @@ wrong-refused = (
   refuses-stops-unstarted,
   refuses-cut-short,
   refuses-one-waits,
+  refuses-two-wait,
+  refuses-taken-late,
+  refuses-waits-for-nothing,
+  refuses-taken-twice,
+  refuses-completed-twice,
+  refuses-runs-unreleased,
+  refuses-executed-again,
+  refuses-another-tick,
+  refuses-instants-fall,
+  refuses-nobody-promoted,
+  refuses-promoted-late,
+  refuses-promoted-beside-the-loaded,
+  refuses-begins-twice,
+  refuses-ends-twice,
+  refuses-finishes-twice,
+  refuses-gives-way-twice,
   refuses-incomplete,
   refuses-never-taken,
-  refuses-two-wait,
+  refuses-late-taking,
   refuses-waited-unexecuted,
 )
 
@@ -353,6 +438,28 @@ waited-entry = (
   λ h. let e : _≡_ {A = ℕ} 1 0 = its-count before-17 17 3 13 17 1 h ∙ waited-found .1 in omega arith,
 )
 
-pub plan-c : PlanC
-unfolding PlanC history-c ended each
-plan-c = (refl, refl)
+-- ---- the releases
+
+handed : (handed-in 1 (opening tasks .state) calls-one ≡ 1) × (handed-in 2 (opening tasks .state) calls-one ≡ 0)
+unfolding Words.numberAt Sets.member Sets.below Sets.collect Sets.union Sets.intersection Sets.difference Sets.insert Sets.remove Entries.task-at Entries.release-at Entries.entry-at TaskPart.given TaskPart.outside TaskPart.number-refused TaskPart.mark-or-length-refusal TaskPart.task-refusal TaskPart.with-task TaskPart.with-marked TaskPart.behind-tasks TaskPart.tasks-from TaskPart.task-part Order.better Order.highest-below Order.highest Order.higher-than Instant.processor-at Instant.copyout-at Instant.ended Instant.completed Instant.without-done Instant.step-a Instant.promoted Instant.blocks Instant.counted Instant.close Instant.interval-entry Instant.close-stage Instant.step-b Instant.taken Instant.deferred Instant.skipped Instant.stamped Instant.with-candidates Instant.step-c Instant.cancel Instant.cancel-by Instant.step-d Instant.choose Instant.choose-if Instant.step-e Instant.begin Instant.step-g Instant.sooner Instant.due Instant.at-a Instant.at-b Instant.new-at Instant.late-at Instant.at-e Instant.at-f Instant.at-g Instant.occurred Calls.opened Calls.opening Calls.unknown Calls.refusal Calls.served Calls.instant History.processor-events History.processor-events-in History.finish-events History.finish-events-in History.completion-events History.end-events History.take-events History.defer-events History.giving-events History.giving-events-in History.begin-events History.execution-events History.start-events History.happens Calls.after-call History.by-call History.after-calls History.history task tasks three plans-table calls-a history-a calls-b history-b calls-c history-c calls-d history-d calls-e history-e calls-f history-f calls-f′ history-f′ calls-waiting history-waiting handed-in calls-one
+handed = (refl, refl)
+
+pub marks : Marks
+unfolding Words.numberAt Sets.member Sets.below Sets.collect Sets.union Sets.intersection Sets.difference Sets.insert Sets.remove Entries.task-at Entries.release-at Entries.entry-at TaskPart.given TaskPart.outside TaskPart.number-refused TaskPart.mark-or-length-refusal TaskPart.task-refusal TaskPart.with-task TaskPart.with-marked TaskPart.behind-tasks TaskPart.tasks-from TaskPart.task-part Order.better Order.highest-below Order.highest Order.higher-than Instant.processor-at Instant.copyout-at Instant.ended Instant.completed Instant.without-done Instant.step-a Instant.promoted Instant.blocks Instant.counted Instant.close Instant.interval-entry Instant.close-stage Instant.step-b Instant.taken Instant.deferred Instant.skipped Instant.stamped Instant.with-candidates Instant.step-c Instant.cancel Instant.cancel-by Instant.step-d Instant.choose Instant.choose-if Instant.step-e Instant.begin Instant.step-g Instant.sooner Instant.due Instant.at-a Instant.at-b Instant.new-at Instant.late-at Instant.at-e Instant.at-f Instant.at-g Instant.occurred Calls.opened Calls.opening Calls.unknown Calls.refusal Calls.served Calls.instant History.processor-events History.processor-events-in History.finish-events History.finish-events-in History.completion-events History.end-events History.take-events History.defer-events History.giving-events History.giving-events-in History.begin-events History.execution-events History.start-events History.happens Calls.after-call History.by-call History.after-calls History.history task tasks three plans-table calls-a history-a calls-b history-b calls-c history-c calls-d history-d calls-e history-e calls-f history-f calls-f′ history-f′ calls-waiting history-waiting Marks marked-by Calls.mark-refusal Calls.mark
+marks = (refl, refl, refl, refl)
+
+pub releases-refused : ReleasesRefused
+unfolding ReleasesRefused taken-another up-to-5 history-f after first Sets.member
+releases-refused = (
+  λ h. let e : _≡_ {A = ℕ} 1 0 = sym (handed .0) ∙ h .each-handed in omega arith,
+  λ h. let e : _≡_ {A = ℕ} 0 1 = sym (handed .1) ∙ h .each-handed in omega arith,
+  λ h. ⊎-elim (λ e. false≢true e) (λ w. not-never (w .0) (w .1)) (h .taken-from 0 refl),
+  λ h. let w : (u : ℕ) × (Never ≡ Tick u) = h .skipped-behind refl .0 in not-never (w .0) (w .1),
+  λ h. never-is 6 (h .skipped-behind refl .1),
+)
+
+-- ---- the entries of intervals
+
+pub plan-entries : PlanEntries
+unfolding PlanEntries history-b history-c ended each after plans-table three Sets.member Sets.below Sets.collect Sets.insert Order.better Order.highest-below Order.highest
+plan-entries = (refl, refl)

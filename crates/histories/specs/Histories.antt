@@ -1,20 +1,23 @@
 -- That the claim says something: it accepts the histories of document 01's plans A to F' and of one with a release that waits, and refuses
 -- histories that are wrong in one point each. All are of the plans' tasks: 1 has the highest priority and is marked, then come 2 and 3, which are not.
 use mathlib.Core.Path.{_≡_}
-use mathlib.Core.Bool.{true, false}
+use mathlib.Core.Bool.{Bool, true, false}
 use mathlib.Core.List.{List, [], _∷_, _++_}
 use Prim.Native.Nat.{ℕ}
 use Rattle.table.specs.declared.Table.{Table}
+use Rattle.entries.specs.declared.MaybeTask.{MaybeTask}
 use Rattle.entries.specs.declared.MaybeTask.the-variants.{NoTask, Task}
 use lib.ListN.{replicate, take}
+use Rattle.sets.specs.Sets.{member}
 use Rattle.rules.specs.Calls.{opening}
 use Rattle.rules.specs.declared.Call.{Call}
-use Rattle.rules.specs.declared.Call.the-variants.{Instant}
+use Rattle.rules.specs.declared.Call.the-variants.{Instant, Mark}
 use Rattle.guarantees.specs.History.{Event, Comes, Starts, Stops, Finishes, Completes, Ends, Takes, Defers, GivesWay, Begins, history}
 use Rattle.entries.specs.declared.JobEntry.{JobEntry}
-use Rattle.rules.specs.declared.Due.the-variants.{Tick}
-use Rattle.guarantees.specs.Queries.{none-yet}
-use Rattle.guarantees.specs.Entries.{TellsJob, completions, ended}
+use Rattle.entries.specs.declared.IntervalEntry.{IntervalEntry}
+use Rattle.guarantees.specs.Releases.{Balance, Placed}
+use Rattle.guarantees.specs.Intervals.{no-course, ended}
+use Rattle.guarantees.specs.Entries.{handed-in, marked-by, TellsJob, completions}
 use Rattle.guarantees.specs.Claim.{Holds, AllCompleted}
 
 -- ---- The plans' tasks
@@ -377,6 +380,124 @@ waited-unexecuted =
     Comes 8 ∷ Finishes 1 ∷ Ends 8 ∷ Begins 8 NoTask (Task 1) ∷
     Comes 9 ∷ Completes 1 9 ∷ Ends 9 ∷ []
 
+-- 4/13: what waits is taken only once nothing at all is pending: releases (0,1) (4,2) (4,3) (5,1), and that of 5 is taken at 19 in place
+-- of 6, behind two lower jobs
+unfoldable pub taken-late : List Event
+taken-late =
+    Comes 0 ∷ Takes 1 0 true ∷ Begins 0 NoTask NoTask ∷
+    Comes 2 ∷ Finishes 1 ∷ Ends 2 ∷ Begins 2 (Task 1) NoTask ∷ Starts 1 2 ∷
+    Comes 4 ∷ Takes 2 4 false ∷ Takes 3 4 false ∷
+    Comes 5 ∷ Stops 1 5 ∷ Ends 5 ∷
+    Defers 1 5 ∷ Begins 5 NoTask (Task 1) ∷
+    Comes 6 ∷ Completes 1 6 ∷
+    Comes 8 ∷ Finishes 2 ∷ Ends 8 ∷ Begins 8 (Task 2) NoTask ∷ Starts 2 8 ∷
+    Comes 10 ∷ Finishes 3 ∷
+    Comes 12 ∷ Stops 2 12 ∷ Ends 12 ∷ Begins 12 (Task 3) (Task 2) ∷ Starts 3 12 ∷
+    Comes 13 ∷ Completes 2 13 ∷
+    Comes 17 ∷ Stops 3 17 ∷ Ends 17 ∷ Begins 17 NoTask (Task 3) ∷
+    Comes 19 ∷ Completes 3 19 ∷ Takes 1 19 true ∷
+    Comes 21 ∷ Finishes 1 ∷ Ends 21 ∷ Begins 21 (Task 1) NoTask ∷ Starts 1 21 ∷
+    Comes 24 ∷ Stops 1 24 ∷ Ends 24 ∷ Begins 24 NoTask (Task 1) ∷
+    Comes 25 ∷ Completes 1 25 ∷ Ends 25 ∷ []
+
+-- a release is set waiting where no job of its task is pending: plan C with one at 6, behind the completion
+unfoldable pub waits-for-nothing : List Event
+waits-for-nothing =
+    Comes 0 ∷ Takes 1 0 true ∷ Begins 0 NoTask NoTask ∷
+    Comes 2 ∷ Finishes 1 ∷ Ends 2 ∷ Begins 2 (Task 1) NoTask ∷ Starts 1 2 ∷
+    Comes 5 ∷ Stops 1 5 ∷ Ends 5 ∷ Begins 5 NoTask (Task 1) ∷
+    Comes 6 ∷ Completes 1 6 ∷ Defers 1 6 ∷ Ends 6 ∷ []
+
+-- task 1 is taken at 0 and again at 1, while its job is pending: the third and the fourth interval of its second job run lower ones
+unfoldable pub taken-twice : List Event
+taken-twice =
+    Comes 0 ∷ Takes 1 0 true ∷ Takes 2 0 false ∷ Takes 3 0 false ∷ Begins 0 NoTask NoTask ∷
+    Comes 1 ∷ Takes 1 1 true ∷
+    Comes 2 ∷ Finishes 1 ∷ Ends 2 ∷ Begins 2 (Task 1) NoTask ∷ Starts 1 2 ∷
+    Comes 4 ∷ Finishes 2 ∷
+    Comes 5 ∷ Stops 1 5 ∷ Ends 5 ∷ Begins 5 (Task 2) (Task 1) ∷ Starts 2 5 ∷
+    Comes 6 ∷ Completes 1 6 ∷
+    Comes 8 ∷ Finishes 3 ∷
+    Comes 9 ∷ Stops 2 9 ∷ Ends 9 ∷ Begins 9 (Task 3) (Task 2) ∷ Starts 3 9 ∷ []
+
+-- two jobs are taken, one is executed, and both complete
+unfoldable pub completed-twice : List Event
+completed-twice =
+    Comes 0 ∷ Takes 1 0 true ∷ Begins 0 NoTask NoTask ∷
+    Comes 2 ∷ Finishes 1 ∷ Ends 2 ∷ Begins 2 (Task 1) NoTask ∷ Starts 1 2 ∷
+    Comes 5 ∷ Stops 1 5 ∷ Ends 5 ∷ Begins 5 NoTask (Task 1) ∷
+    Comes 6 ∷ Completes 1 6 ∷ Takes 1 6 true ∷ Completes 1 6 ∷ []
+
+-- a task is executed that nobody released
+unfoldable pub runs-unreleased : List Event
+runs-unreleased =
+    Comes 0 ∷ Takes 2 0 false ∷ Begins 0 NoTask NoTask ∷
+    Comes 2 ∷ Finishes 1 ∷ Ends 2 ∷ Begins 2 (Task 1) NoTask ∷ Starts 1 2 ∷ []
+
+-- plan C with a second execution and a second copy-out of its one job
+unfoldable pub executed-again : List Event
+executed-again =
+    Comes 0 ∷ Takes 1 0 true ∷ Begins 0 NoTask NoTask ∷
+    Comes 2 ∷ Finishes 1 ∷ Ends 2 ∷ Begins 2 (Task 1) NoTask ∷ Starts 1 2 ∷
+    Comes 4 ∷ Finishes 1 ∷
+    Comes 5 ∷ Stops 1 5 ∷ Ends 5 ∷ Begins 5 (Task 1) (Task 1) ∷ Starts 1 5 ∷ []
+
+-- a release is taken at an instant and says the tick of another
+unfoldable pub another-tick : List Event
+another-tick =
+    Comes 3 ∷ Takes 1 0 true ∷ Begins 0 NoTask NoTask ∷ []
+
+-- an instant comes before the one before it
+unfoldable pub instants-fall : List Event
+instants-fall =
+    Comes 5 ∷ Takes 1 5 true ∷ Begins 5 NoTask NoTask ∷
+    Comes 3 ∷ []
+
+-- plan D where nobody is promoted: the release that cuts the interval short is given to the next one
+unfoldable pub nobody-promoted : List Event
+nobody-promoted =
+    Comes 0 ∷ Takes 2 0 false ∷ Begins 0 NoTask NoTask ∷
+    Comes 1 ∷ Takes 1 1 true ∷ GivesWay 2 ∷ Ends 1 ∷ Begins 1 NoTask NoTask ∷
+    Comes 3 ∷ Finishes 1 ∷ Ends 3 ∷ Begins 3 (Task 1) NoTask ∷ Starts 1 3 ∷ []
+
+-- a marked job is promoted at the end of the interval after its own: 1 is unmarked here and 2 marked, and the engine copies in nobody
+-- while 1 executes
+unfoldable pub promoted-late : List Event
+promoted-late =
+    Comes 0 ∷ Takes 1 0 false ∷ Begins 0 NoTask NoTask ∷
+    Comes 1 ∷ Takes 2 1 true ∷
+    Comes 2 ∷ Finishes 1 ∷ Ends 2 ∷ Begins 2 (Task 1) NoTask ∷ Starts 1 2 ∷
+    Comes 5 ∷ Stops 1 5 ∷ Ends 5 ∷ Begins 5 (Task 2) (Task 1) ∷ []
+
+-- a job is promoted though another one is loaded
+unfoldable pub promoted-beside-the-loaded : List Event
+promoted-beside-the-loaded =
+    Comes 0 ∷ Takes 1 0 false ∷ Takes 2 0 true ∷ Begins 0 NoTask NoTask ∷
+    Comes 2 ∷ Finishes 1 ∷ Ends 2 ∷ Begins 2 (Task 2) NoTask ∷ []
+
+-- an interval begins while one is open
+unfoldable pub begins-twice : List Event
+begins-twice =
+    Comes 0 ∷ Takes 3 0 false ∷ Begins 0 NoTask NoTask ∷ Begins 0 NoTask NoTask ∷ []
+
+-- an interval ends that has ended
+unfoldable pub ends-twice : List Event
+ends-twice =
+    Comes 0 ∷ Takes 3 0 false ∷ Begins 0 NoTask NoTask ∷
+    Comes 2 ∷ Finishes 3 ∷ Ends 2 ∷ Ends 2 ∷ []
+
+-- the engine copies in two jobs in one interval
+unfoldable pub finishes-twice : List Event
+finishes-twice =
+    Comes 0 ∷ Takes 2 0 false ∷ Takes 3 0 false ∷ Begins 0 NoTask NoTask ∷
+    Comes 2 ∷ Finishes 3 ∷ Finishes 2 ∷ []
+
+-- a copy-in gives way that has given way
+unfoldable pub gives-way-twice : List Event
+gives-way-twice =
+    Comes 0 ∷ Takes 2 0 false ∷ Begins 0 NoTask NoTask ∷
+    Comes 1 ∷ Takes 1 1 true ∷ GivesWay 2 ∷ GivesWay 2 ∷ []
+
 abbrev pub Refuses : List Event → Type 0
 Refuses h = Holds plans-table h → ⊥
 
@@ -405,9 +526,25 @@ WrongRefused =
     × Refuses stops-unstarted
     × Refuses cut-short
     × Refuses one-waits
+    × Refuses two-wait
+    × Refuses taken-late
+    × Refuses waits-for-nothing
+    × Refuses taken-twice
+    × Refuses completed-twice
+    × Refuses runs-unreleased
+    × Refuses executed-again
+    × Refuses another-tick
+    × Refuses instants-fall
+    × Refuses nobody-promoted
+    × Refuses promoted-late
+    × Refuses promoted-beside-the-loaded
+    × Refuses begins-twice
+    × Refuses ends-twice
+    × Refuses finishes-twice
+    × Refuses gives-way-twice
     × (AllCompleted third-idle → ⊥)
     × (AllCompleted never-taken → ⊥)
-    × (AllCompleted two-wait → ⊥)
+    × (AllCompleted taken-late → ⊥)
     × (AllCompleted waited-unexecuted → ⊥)
 
 -- ---- Entries
@@ -447,11 +584,70 @@ WaitedEntry =
     × (Tells before-17 17 (job-1 2 13 17 0) → ⊥)
     × (Tells before-17 17 (job-1 3 13 17 1) → ⊥)
 
--- what plan C's history has for the entries: its intervals 0–2, 2–5 and 5–6, and its completion
-unfoldable pub PlanC : Type 0
-PlanC =
-    (ended none-yet history-c
-    ≡ record { begin = Tick 0; end = 2; task = NoTask; out = NoTask }
-    ∷ record { begin = Tick 2; end = 5; task = Task 1; out = NoTask }
-    ∷ record { begin = Tick 5; end = 6; task = NoTask; out = Task 1 } ∷ [])
+-- ---- What becomes of the releases
+
+-- the calls hand in {1} at 0, and 2 is taken: there is one of task 1 too many and one of task 2 too few
+unfoldable pub calls-one : List Call
+calls-one = Instant 0 2 ∷ []
+
+unfoldable pub taken-another : List Event
+taken-another =
+    Comes 0 ∷ Takes 2 0 false ∷ Begins 0 NoTask NoTask ∷ []
+
+-- plan F up to 5, where the release at 5 waits
+unfoldable pub up-to-5 : List Event
+up-to-5 = take 14 history-f
+
+-- an instant that hands in a set, skips some of it and has these events, behind a history
+abbrev pub At : ℕ → ℕ → List Event → List Event → Type 0
+At = Placed 1
+
+-- refused: a taking of a task that is neither in the set nor waits; a release that is skipped where none waits; and one that is skipped
+-- at the taking
+unfoldable pub ReleasesRefused : Type 0
+ReleasesRefused =
+    (Balance 1 (handed-in 1 (opening tasks .state) calls-one) 0 taken-another → ⊥)
+    × (Balance 2 (handed-in 2 (opening tasks .state) calls-one) 0 taken-another → ⊥)
+    × (At 0 0 [] (Comes 0 ∷ Takes 1 0 true ∷ []) → ⊥)
+    × (At 2 2 [] (Comes 0 ∷ []) → ⊥)
+    × (At 2 2 up-to-5 (Comes 6 ∷ Completes 1 6 ∷ Takes 1 6 true ∷ []) → ⊥)
+
+-- ---- The marks
+
+-- whether task 1 is marked behind some calls
+abbrev pub marked-1 : List Call → Bool
+marked-1 = marked-by 1 (member 1 (opening tasks .state .marked)) (opening tasks .state)
+
+-- it is as opening reads it, and not behind a mark call on it; one on another task, and one that is refused, change nothing
+unfoldable pub Marks : Type 0
+Marks =
+    (marked-1 [] ≡ true)
+    × (marked-1 (Mark 1 0 ∷ []) ≡ false)
+    × (marked-1 (Mark 2 0 ∷ []) ≡ true)
+    × (marked-1 (Instant 0 2 ∷ Mark 1 0 ∷ []) ≡ true)
+
+-- ---- The entries of intervals
+
+abbrev pub interval : ℕ → ℕ → ℕ → MaybeTask → ℕ → MaybeTask → MaybeTask → ℕ → MaybeTask → IntervalEntry
+interval begin end half task work copiedout chosen fate promoted = record {
+  begin = begin;
+  end = end;
+  half = half;
+  task = task;
+  work = work;
+  copiedout = copiedout;
+  chosen = chosen;
+  fate = fate;
+  promoted = promoted;
+}
+
+-- what plan B's history has for its I lines, in document 01's order, and plan C's for its J line
+unfoldable pub PlanEntries : Type 0
+PlanEntries =
+    (ended (plans-table .priority) no-course history-b
+    ≡ interval 0 2 0 NoTask 0 NoTask (Task 3) 1 NoTask
+    ∷ interval 2 7 1 (Task 3) 1 NoTask (Task 2) 3 (Task 1)
+    ∷ interval 7 12 0 (Task 1) 2 (Task 3) (Task 2) 1 NoTask
+    ∷ interval 12 16 1 (Task 2) 1 (Task 1) NoTask 0 NoTask
+    ∷ interval 16 17 0 NoTask 0 (Task 2) NoTask 0 NoTask ∷ [])
     × (completions history-c ≡ record { task = Task 1; tick = 6 } ∷ [])

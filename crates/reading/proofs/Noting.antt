@@ -195,10 +195,10 @@ module _ {s : List ℕ} {at : ℕ} {n : Noted} {keys : List ℕ} (h : Collecting
     turned k e = ap (in-front (h .rs)) (sym (told-one k s at l) ∙ ap (λ (x : ℕ). told-from x s at) (sym e)) ∙ h .rest
 
     -- an entry that is refused
-    pub faulty : (before : List ℕ) (m : ℕ) (e : RecordEntry) → length keys ≡ length before → record-entry-at s at ≡ e → decoded e ≡ Faulty m
+    pub faulty : (before : List ℕ) (e : RecordEntry) → length keys ≡ length before → record-entry-at s at ≡ e → decoded e ≡ Faulty
         → Collects s before (record { noted = n; refusal = AtEntry (fault e) at }) keys
     unfolding told-by
-    faulty before m (MalformedRecord x) same a d = go (h .fuel) refl
+    faulty before (MalformedRecord x) same a d = go (h .fuel) refl
       where
         refused : (k : ℕ) → h .fuel ≡ suc k → Rejected (AtEntry x at) ≡ told s
         refused k f = sym (front-refused (h .rs) (AtEntry x at)) ∙ subst (λ (y : RecordEntry). in-front (h .rs) (told-by y at (told-from k s (at + record-entry-size y))) ≡ told s) a (turned k f)
@@ -214,9 +214,9 @@ module _ {s : List ℕ} {at : ℕ} {n : Noted} {keys : List ℕ} (h : Collecting
           where
             unlike : (rs : List Release) → Rejected (AtEntry x at) ≡ Releases rs → _≡_ {A = ℕ} 0 1
             unlike rs e = cc
-    faulty before m (JobDone x) same a d = absurd (let z : _≡_ {A = ℕ} 0 1 = cc in omega arith)
-    faulty before m (IntervalEnded x) same a d = absurd (let z : _≡_ {A = ℕ} 0 1 = cc in omega arith)
-    faulty before m (ReleaseSkipped x) same a d = absurd (let z : _≡_ {A = ℕ} 0 1 = cc in omega arith)
+    faulty before (JobDone x) same a d = absurd (let z : _≡_ {A = ℕ} 0 1 = cc in omega arith)
+    faulty before (IntervalEnded x) same a d = absurd (let z : _≡_ {A = ℕ} 0 1 = cc in omega arith)
+    faulty before (ReleaseSkipped x) same a d = absurd (let z : _≡_ {A = ℕ} 0 1 = cc in omega arith)
 
     pub goes-on : (t : Telling) (m : Noted) (after : List ℕ) → decoded (record-entry-at s at) ≡ Whole t → NotesMore n t keys m after → Collecting s (at + t .size) m after
     goes-on t m after d more = go (h .fuel) refl

@@ -22,9 +22,9 @@ use Rattle.reading.specs.Reading.{input-of}
 abbrev pub no-release : Release
 no-release = record { task = 0; time = 0 }
 
--- its length and the release that it tells of, or the number by which it is refused
+-- its length and the release that it tells of, where it is not refused
 abbrev pub decoded : RecordEntry → Decoded
-decoded (MalformedRecord n) = Faulty n
+decoded (MalformedRecord n) = Faulty
 decoded (JobDone e) = Whole (record { size = 27; counts = true; release = release-of e })
 decoded (IntervalEnded e) = Whole (record { size = 24; counts = false; release = no-release })
 decoded (ReleaseSkipped r) = Whole (record { size = 10; counts = true; release = r })

@@ -12,9 +12,9 @@ pub struct Telling {
     pub release: Release,
 }
 
-// An entry taken apart, or the number by which it is refused.
+// An entry taken apart, or one that is refused.
 pub enum Decoded {
-    Faulty(u8),
+    Faulty,
     Whole(Telling),
 }
 
@@ -33,7 +33,7 @@ fn decode(entry: RecordEntry) -> Decoded
     ensures { λ r. ⌜ r ≡ decoded entry ⌝ }
 {
     match entry {
-        RecordEntry::MalformedRecord(n) => Decoded::Faulty(n),
+        RecordEntry::MalformedRecord(_) => Decoded::Faulty,
         RecordEntry::JobDone(e) => Decoded::Whole(Telling {
             size: entries::JOB_SIZE,
             counts: true,

@@ -8,13 +8,14 @@ use native.Mathlib.Omega.{arith}
 use borrow.Author.Tests.{eq-eqb, ltb-false, le-ltb, lt-leb}
 use lib.Dec.{eqb, ltb}
 use lib.ListN.{length}
-use Rattle.sets.specs.Sets.{member, difference, size}
+use Rattle.sets.specs.Sets.{member, difference, bit, size}
 use Rattle.sets.proofs.Laws.{by-test, clash, none, empty, difference-left, difference-right, difference-small, size-none}
 use Rattle.rules.specs.Instant.{due, sooner, at-g, occurred}
 use Rattle.rules.specs.Calls.{refusal, unknown, not-after, before-now, instant, served, after-call}
 use Rattle.guarantees.specs.Types.{Table, Clock, Unset, At, State, Due, Never, Tick, Served, Step, Call, Instant}
 use Rattle.guarantees.specs.History.{Event, by-call, after-calls, history}
 use Rattle.guarantees.specs.Queries.{total, is-take, is-begin, is-completion}
+use Rattle.guarantees.specs.Entries.{handed-in}
 use Rattle.guarantees.proofs.Proper.{Fair}
 use Rattle.guarantees.proofs.Walk
 use Rattle.guarantees.proofs.Frames.{clock-g}
@@ -25,8 +26,8 @@ use Rattle.guarantees.proofs.Completion.{due-times, not-late}
 use Rattle.guarantees.proofs.Totals.{begins-of, takes-of, completes-of}
 use Rattle.record.specs.Types.{Release}
 use Rattle.run.specs.Run.{Moment, moment, first-time, released-at, released-after, run}
-use Rattle.record.specs.FileClaim.{Feeds, answers, AllServed, jobs-done, releases-skipped}
-use Rattle.record.proofs.Lengths.{intervals-ended}
+use Rattle.record.specs.FileClaim.{Feeds, answers, AllServed, jobs-done, of-task}
+use Rattle.record.proofs.Lengths.{intervals-ended, releases-skipped}
 use Rattle.record.specs.Cursor.{AllEarly}
 use Rattle.record.proofs.Accepted.{Sorted}
 use Rattle.record.proofs.Released.{NotBefore, After, fewer, Split, split, early}
@@ -72,6 +73,7 @@ pub record Fed (k : ℕ) (d : State) (rs : List Release) (ms : List Moment) : Ty
   pub within : length calls < k
   pub rests : due (after-calls d calls .phase) ≡ Never
   pub releases : total is-take (history d calls) + size (after-calls d calls .waiting .tasks) + releases-skipped ms ≡ length rs + size (d .waiting .tasks)
+  pub handed : (n : ℕ) → n < 32 → handed-in n d calls ≡ of-task n rs
   pub jobs : jobs-done ms ≡ total is-completion (history d calls)
   pub intervals : intervals-ended ms ≤ is-open (d .phase) + total is-begin (history d calls)
 
@@ -80,7 +82,7 @@ unfolding run
 run-end k d rs e = rw (e, run)
 
 fed-none : (k : ℕ) (d : State) → due (d .phase) ≡ Never → Fed (suc k) d [] []
-unfolding Feeds AllServed AllEarly answers after-calls history total jobs-done intervals-ended releases-skipped
+unfolding Feeds AllServed AllEarly answers after-calls history total jobs-done intervals-ended releases-skipped handed-in of-task
 fed-none k d e = record {
   calls = [];
   feeds = (refl, e);
@@ -90,6 +92,7 @@ fed-none k d e = record {
   within = omega arith;
   rests = e;
   releases = omega arith;
+  handed = λ n l. refl;
   jobs = refl;
   intervals = omega arith;
 }
@@ -192,7 +195,7 @@ module _ (table : Table) (marks : ℕ) (fair : Fair table marks) where
 
     fed-more : (k : ℕ) (ms : List Moment) → Fed k (at-g d t (released-at t rs)) (released-after t rs) ms
         → Fed (suc k) d rs (record { time = t; occurred = occurred d t (released-at t rs) } ∷ ms)
-    unfolding Feeds AllServed AllEarly answers after-calls history by-call jobs-done intervals-ended releases-skipped occurred
+    unfolding Feeds AllServed AllEarly answers after-calls history by-call jobs-done intervals-ended releases-skipped occurred handed-in
     fed-more k ms h =
         let g : State = at-g d t set in
         let es : List Event = history g (h .calls) in
@@ -207,6 +210,7 @@ module _ (table : Table) (marks : ℕ) (fair : Fair table marks) where
           within = omega (arith, h .within);
           rests = ap (λ (x : State). due (after-calls x (h .calls) .phase)) state-is ∙ h .rests;
           releases = rw (is-served, state-is) (omega (arith, takes-of d t set es, balance-g d t set, parts .sizes, size-none, h .releases, waits-on));
+          handed = λ n l. rw (is-served, state-is) (omega (arith, h .handed n l, parts .each n l, ap bit (none n)));
           jobs = rw (is-served, state-is) (omega (arith, completes-of d t set es, job-completes d t set, h .jobs));
           intervals = rw (is-served, state-is) (omega (arith, begins-of d t set es, ends-paid d t set, h .intervals));
         }

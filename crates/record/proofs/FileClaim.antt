@@ -13,13 +13,15 @@ use Rattle.guarantees.specs.Types.{State, Due, Never, Tick, Call, Instant, Mark
 use Rattle.guarantees.specs.History.{after-calls, history, EmptySets}
 use Rattle.guarantees.specs.Queries.{total, is-take}
 use Rattle.guarantees.specs.Claim.{AllCompleted}
-use Rattle.guarantees.specs.Entries.{told, answer-of, done, closed}
+use Rattle.guarantees.specs.Releases.{Balance}
+use Rattle.guarantees.specs.Entries.{told, answer-of, handed-in, skips, done, closed}
+use Rattle.record.proofs.Lengths.{releases-skipped}
 use Rattle.guarantees.specs.Entries.{answers as occurred-by}
 use Rattle.guarantees.proofs.Invariant.{mass, good-opened}
 use Rattle.record.specs.Types.{Release}
 use Rattle.run.specs.Files.{Releases, releases-of}
 use Rattle.run.specs.Run.{Moment, moment, first-time, released-at, released-after, budget, moments-of}
-use Rattle.record.specs.FileClaim.{Feeds, answers, occurrences, releases-skipped, FedClaim, Demand3Files}
+use Rattle.record.specs.FileClaim.{Feeds, answers, occurrences, FedClaim, Demand3Files}
 use Rattle.record.proofs.Accepted.{Accepted, accepted}
 use Rattle.record.proofs.TasksAlone.{opens, fair, claim}
 use Rattle.record.proofs.Feeding.{Fit, Fed, feeding}
@@ -116,7 +118,10 @@ module _ (s : List ℕ) (rs : List Release) (a : Accepted s rs) where
         (claim s rs a (fed .calls) .nothing-pending [] (unfold EmptySets in fed .rests));
     nothing-waits = none-waits;
     complete-every-job = completed;
-    taken-or-skipped = releases-so;
+    each-release = λ n l.
+        subst (λ (handed : ℕ). Balance n handed (skips n (occurrences (moments-of s rs))) (history d (fed .calls))) (fed .handed n l)
+        (subst (λ (os : List Occurred). Balance n (handed-in n d (fed .calls)) (skips n os) (history d (fed .calls))) same
+        (claim s rs a (fed .calls) .entries .each-release (fed .calls) [] n (sym (append-nil (fed .calls))) l));
     an-entry-each = fed .jobs ∙ completed .as-many;
   }
 

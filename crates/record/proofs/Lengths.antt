@@ -10,7 +10,7 @@ use Rattle.words.specs.Words.{bytesOf}
 use Rattle.entries.specs.Entries.{job-bytes, interval-bytes, choice-bytes, skipped-bytes}
 use Rattle.record.specs.Types.{IntervalEntry, Done, NoJob, Job, Closing, Unclosed, BeforeReleases, AfterReleases}
 use Rattle.run.specs.Run.{Moment, done-bytes, skips-bytes, closed-bytes, moment-bytes, record-bytes}
-use Rattle.record.specs.FileClaim.{is-job, jobs-done, releases-skipped}
+use Rattle.record.specs.FileClaim.{is-job, jobs-done}
 
 abbrev pub is-interval : Closing → ℕ
 is-interval Unclosed = 0
@@ -18,6 +18,10 @@ is-interval (BeforeReleases e) = 1
 is-interval (AfterReleases e) = 1
 
 -- how many entries of kind 17 a record has
+unfoldable pub releases-skipped : List Moment → ℕ
+releases-skipped [] = 0
+releases-skipped (m ∷ ms) = size (m .occurred .skipped) + releases-skipped ms
+
 unfoldable pub intervals-ended : List Moment → ℕ
 intervals-ended [] = 0
 intervals-ended (m ∷ ms) = is-interval (m .occurred .closed) + intervals-ended ms

@@ -14,10 +14,15 @@ use Rattle.sets.proofs.Laws.{by-test, clash, left, right, one-of, count-sum, co
 use Rattle.record.specs.Types.{Release, Before}
 use Rattle.run.specs.Files.{rises}
 use Rattle.run.specs.Run.{released-from, released-at, released-after}
+use Rattle.record.specs.FileClaim.{of-task}
 use Rattle.record.proofs.Accepted.{RisesTo, Sorted}
 use Rattle.run.proofs.Listing
 
 -- ---- how many
+
+apart : (a b : Bool) → (a ≡ true → b ≡ false) → bit (a || b) ≡ bit a + bit b
+apart true b h = rw (h refl)
+apart false b h = omega arith
 
 one-more : (n s : ℕ) → n < 32 → member n s ≡ false → size (insert n s) ≡ size s + 1
 unfolding size
@@ -28,10 +33,6 @@ one-more n s l h =
       count-sum 32 (λ k. member k (insert n s)) (λ k. eqb k n) (λ k. member k s)
           (λ k m. rw (inserted n s k m) (apart (eqb k n) (member k s) (λ e. ap (λ (x : ℕ). member x s) (eqb-true k n e) ∙ h))),
     )
-  where
-    apart : (a b : Bool) → (a ≡ true → b ≡ false) → bit (a || b) ≡ bit a + bit b
-    apart true b h = rw (h refl)
-    apart false b h = omega arith
 
 -- ---- the releases at a time, and those after it
 
@@ -91,9 +92,11 @@ module _ (present : ℕ) (tasks : present < 2 ^ 32) (t : ℕ) where
     pub sorted : Sorted present rs′
     pub later : After t rs′
     pub sizes : size set′ + length rs′ ≡ size set + length rs
+    pub each : (k : ℕ) → k < 32 → bit (member k set′) + of-task k rs′ ≡ bit (member k set) + of-task k rs
 
   split-one : (set : ℕ) (r : Release) (rs : List Release) (set′ : ℕ) (rs′ : List Release) → member (r .task) present ≡ true
       → ((k : ℕ) → member k set ≡ true → k < r .task) → Split (insert (r .task) set) rs set′ rs′ → Split set (r ∷ rs) set′ rs′
+  unfolding of-task
   split-one set r rs set′ rs′ p u h = record {
     known = λ k m.
         ⊎-elim
@@ -102,6 +105,13 @@ module _ (present : ℕ) (tasks : present < 2 ^ 32) (t : ℕ) where
     sorted = h .sorted;
     later = h .later;
     sizes = omega (arith, h .sizes, one-more (r .task) set (member-task (r .task) present tasks p) fresh);
+    each = λ k l.
+        omega (
+          arith,
+          h .each k l,
+          ap bit (inserted (r .task) set k l),
+          apart (eqb k (r .task)) (member k set) (λ e. ap (λ (x : ℕ). member x set) (eqb-true k (r .task) e) ∙ fresh),
+        );
   }
     where
       fresh : member (r .task) set ≡ false
@@ -109,7 +119,7 @@ module _ (present : ℕ) (tasks : present < 2 ^ 32) (t : ℕ) where
 
   split-from : (set : ℕ) (rs : List Release) → Sorted present rs → NotBefore t rs → Under t set rs → Split set rs (released-from t set rs) (released-after t rs)
   unfolding Sorted
-  split-from set [] h n u = unfold released-from released-after in record { known = λ k m. inl m; sorted = tt; later = tt; sizes = refl }
+  split-from set [] h n u = unfold released-from released-after in record { known = λ k m. inl m; sorted = tt; later = tt; sizes = refl; each = λ k l. refl }
   split-from set (r ∷ rs) h n u =
       by-test (eqb (r .time) t)
       (λ e.
@@ -120,7 +130,7 @@ module _ (present : ℕ) (tasks : present < 2 ^ 32) (t : ℕ) where
       (λ e.
       let x : r .time ≡ t → ⊥ = eqb-false (r .time) t e in
       rw (Listing.later t set r rs x, Listing.after-later t set r rs x)
-      (record { known = λ k m. inl m; sorted = h; later = omega arith; sizes = refl }))
+      (record { known = λ k m. inl m; sorted = h; later = omega arith; sizes = refl; each = λ k l. refl }))
 
   pub split : (rs : List Release) → Sorted present rs → NotBefore t rs → Split 0 rs (released-at t rs) (released-after t rs)
   split rs h n = split-from 0 rs h n (none-under t rs)

@@ -4,15 +4,18 @@ use mathlib.Core.Path.{_≡_}
 use Prim.Native.Nat.{_<_}
 use lib.ListN.{length, take}
 use Rattle.record.specs.Types.{List, [], _∷_, _++_, ℕ, _+_, Release, TaskPart, NoRefusal, State, Done, NoJob, Job, Never, Tick, Occurred, Outcome}
-use Rattle.sets.specs.Sets.{size}
+use lib.Dec.{eqb}
+use Rattle.sets.specs.Sets.{bit}
 use Rattle.table.specs.TaskPart.{task-part}
 use Rattle.rules.specs.Instant.{due, sooner}
 use Rattle.rules.specs.Calls.{opened, opening, refusal, instant, after-call}
 use Rattle.rules.specs.declared.Call.{Call}
 use Rattle.rules.specs.declared.Call.the-variants.{Instant, Mark}
 use Rattle.guarantees.specs.History.{after-calls, history}
-use Rattle.guarantees.specs.Queries.{total, is-take, none-yet}
-use Rattle.guarantees.specs.Entries.{done, completions, closed, ended}
+use Rattle.guarantees.specs.Queries.{total, is-take}
+use Rattle.guarantees.specs.Releases.{Balance}
+use Rattle.guarantees.specs.Intervals.{no-course, ended}
+use Rattle.guarantees.specs.Entries.{skips, done, completions, closed}
 use Rattle.guarantees.specs.Claim.{Claim, AllCompleted}
 use Rattle.run.specs.Files.{Releases, releases-of}
 use Rattle.run.specs.Run.{Moment, moment, first-time, released-at, released-after, budget, moments-of}
@@ -44,7 +47,7 @@ AllServed d [] = Unit {0}
 AllServed d (Instant t set ∷ cs) = (refusal d t set ≡ 0) × AllServed (after-call d (Instant t set)) cs
 AllServed d (Mark n m ∷ cs) = ⊥
 
--- ---- How many entries of a kind a record has
+-- ---- How many jobs a record has, and how many releases a file
 
 abbrev pub is-job : Done → ℕ
 is-job NoJob = 0
@@ -55,10 +58,10 @@ unfoldable pub jobs-done : List Moment → ℕ
 jobs-done [] = 0
 jobs-done (m ∷ ms) = is-job (m .occurred .done) + jobs-done ms
 
--- kind 18
-unfoldable pub releases-skipped : List Moment → ℕ
-releases-skipped [] = 0
-releases-skipped (m ∷ ms) = size (m .occurred .skipped) + releases-skipped ms
+-- how many of some releases are task n's
+unfoldable pub of-task : ℕ → List Release → ℕ
+of-task n [] = 0
+of-task n (r ∷ rs) = bit (eqb n (r .task)) + of-task n rs
 
 -- ---- The claim
 
@@ -74,16 +77,16 @@ pub record FedClaim (d : State) (rs : List Release) (ms : List Moment) (calls : 
   pub claim : Claim d calls
   -- "The record has kind 16 at step a": one entry for each job that completes, in their order,
   pub each-done : done (occurrences ms) ≡ completions (history d calls)
-  -- "kind 17 at the interval's end": and one for each interval that ended, in their order, with its begin and its end
-  pub each-interval : closed (occurrences ms) ≡ ended none-yet (history d calls)
+  -- "kind 17 at the interval's end": and one for each interval that ended, in their order, with all that it says
+  pub each-interval : closed (occurrences ms) ≡ ended (d .table .priority) no-course (history d calls)
   -- "The run goes on until nothing is pending."
   pub nothing-pending : after-calls d calls .jobs .pending ≡ 0
   -- 4/13: and nothing waits
   pub nothing-waits : after-calls d calls .waiting .tasks ≡ 0
   -- the run completes all N, "N is the number of releases taken in the list or the file"
   pub complete-every-job : AllCompleted (history d calls)
-  -- each release of the file is one of those, taken at once or after waiting, or skipped
-  pub taken-or-skipped : total is-take (history d calls) + releases-skipped ms ≡ length rs
+  -- 4/13: each release of the file was taken at once, set waiting or skipped, task by task; and nothing waits
+  pub each-release : (n : ℕ) → n < 32 → Balance n (of-task n rs) (skips n (occurrences ms)) (history d calls)
   -- and the record has an entry for each of the N
   pub an-entry-each : jobs-done ms ≡ total is-take (history d calls)
 
@@ -100,10 +103,14 @@ Demand3Files = (s : List ℕ) (rs : List Release) → releases-of s ≡ Releases
 
 -- ---- The claim on a promise
 
+-- the claim for the run of an input, where it is accepted
+abbrev pub AcceptedWithClaim : List ℕ → Type 0
+AcceptedWithClaim s = (rs : List Release) → releases-of s ≡ Releases rs → FileClaim s rs (opened (task-part s .table) (task-part s .marked))
+
 -- what comes of an input and a lent slice, and the claim for the run of the input where it is accepted
 pub record WroteWithClaim (s before : List ℕ) (outcome : Outcome) (after : List ℕ) : Type 0 where
   pub wrote : Wrote (file s before) outcome after
   -- and in document 01's numbers: the refusal's, and the place, the length needed or the record's length
   pub number : outcome-number outcome ≡ outcome-number (file s before .outcome)
   pub value : outcome-value outcome ≡ outcome-value (file s before .outcome)
-  pub claim : (rs : List Release) → releases-of s ≡ Releases rs → FileClaim s rs (opened (task-part s .table) (task-part s .marked))
+  pub claim : AcceptedWithClaim s

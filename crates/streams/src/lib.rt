@@ -3,8 +3,8 @@
 use libc::STDIN_FILENO;
 use libc::STDOUT_FILENO;
 ghost use mathlib.Core.Path.{_≡_};
-ghost use mathlib.Core.Bool.{true};
-ghost use Prim.Native.Nat.{_≤_};
+ghost use mathlib.Core.Bool.{true, false};
+ghost use Prim.Native.Nat.{_≤_, _<_};
 ghost use lib.ListN.{length};
 ghost use Rattle.io.specs.Counts.{Counts};
 
@@ -14,25 +14,27 @@ pub struct Got {
     pub good: bool,
 }
 
-// One read. No bytes and no failure is the end of the input.
+// One read. No bytes and no failure is the end of the input; a read that fails put none.
 pub fn read_once(who: &[u8], to: &mut [u8]) -> Got
     ensures { λ r. ⌜ Counts (r .count) (now (to .exit)) ⌝ }
+    ensures { λ r. ⌜ (r .good ≡ false → r .count ≡ 0) ⌝ }
 {
     let got = libc::read(STDIN_FILENO, to);
     if got < 0 {
         os::fail(who);
+        return Got {
+            count: 0,
+            good: false,
+        };
     }
     let count = io::count(got, to);
-    Got {
-        count,
-        good: got >= 0,
-    }
+    Got { count, good: true }
 }
 
 // One read behind the first `done` bytes of `to`, counted with them.
 fn read_behind(who: &[u8], to: &mut [u8], done: usize) -> Got
     requires { ⌜ done ≤ length (now to) ⌝ }
-    ensures { λ r. ⌜ (done ≤ r .count) × (r .count ≤ length (now (to .entry))) ⌝ }
+    ensures { λ r. ⌜ (done ≤ r .count) × (r .count ≤ length (now (to .entry))) × (r .good ≡ false → r .count ≡ done) ⌝ }
 {
     let got = read_once(who, &mut to[done..]);
     Got {
@@ -41,9 +43,10 @@ fn read_behind(who: &[u8], to: &mut [u8], done: usize) -> Got
     }
 }
 
-// Reads until `to` is full or the input ends. Where a read fails, what came before it is no input.
+// Reads until `to` is full or the input ends. Where a read fails, what came before it is no input, and does not fill `to`.
 pub fn read_full(who: &[u8], to: &mut [u8]) -> Got
     ensures { λ r. ⌜ Counts (r .count) (now (to .exit)) ⌝ }
+    ensures { λ r. ⌜ (r .good ≡ false → r .count < length (now (to .exit))) ⌝ }
 {
     let mut done = 0;
     let mut good = true;

@@ -1,5 +1,5 @@
 -- `call_entries::answer` meets its contract: by the entry. Assumes nothing.
-use mathlib.Core.Path.{ap}
+use mathlib.Core.Path.{refl, ap}
 use Rattle.lines.specs.declared.Text.{Text}
 use Rattle.dispatcher.specs.Dispatcher.{state-of}
 use Rattle.call_entries.specs.Types.{State}
@@ -35,12 +35,14 @@ returns c = rw (c .before .before .entry .given .1) (c .call-answered .ensures)
 returns-2 : tie.Need-returns-2
 returns-2 c =
     let d = c .before .before .before .args .d in
-    rw (c .before .enum-told .given .1) (ap (reply (state-of d)) (c .cut-short-line .ensures .whole), c .cut-short-line .ensures .fits)
+    rw (c .before .enum-told .given .1)
+    (record { reply-is = ap (reply (state-of d)) (c .cut-short-line .ensures .whole); fits = c .cut-short-line .ensures .fits; untouched = λ u. refl })
 
 returns-3 : tie.Need-returns-3
 returns-3 c =
     let d = c .before .before .before .args .d in
-    rw (c .before .enum-told2 .given .1) (ap (reply (state-of d)) (c .cut-short-line2 .ensures .whole), c .cut-short-line2 .ensures .fits)
+    rw (c .before .enum-told2 .given .1)
+    (record { reply-is = ap (reply (state-of d)) (c .cut-short-line2 .ensures .whole); fits = c .cut-short-line2 .ensures .fits; untouched = λ u. refl })
 
 pub answer-spec : {M : Type 1} → statement M
 answer-spec =

@@ -36,14 +36,22 @@ unfolding call-answered after-call
 returns c =
     let step = c .before .before .instant in
     rw (c .before .before .before .before .call .given .1)
-    (ap₂ reply (ap (λ (s : Step). s .state) (step .ensures .step)) (c .instant-lines .ensures .whole ∙ ap (λ (s : Step). text-of (instant-lines (s .answer))) (step .ensures .step)), c .instant-lines .ensures .fits)
+    (record {
+      reply-is = ap₂ reply (ap (λ (s : Step). s .state) (step .ensures .step)) (c .instant-lines .ensures .whole ∙ ap (λ (s : Step). text-of (instant-lines (s .answer))) (step .ensures .step));
+      fits = c .instant-lines .ensures .fits;
+      untouched = step .ensures .untouched;
+    })
 
 returns-2 : tie.Need-returns-2
 unfolding call-answered after-call
 returns-2 c =
     let step = c .before .before .mark in
     rw (c .before .before .before .before .call2 .given .1)
-    (ap₂ reply (ap (λ (s : MarkStep). s .state) (step .ensures .step)) (c .mark-lines .ensures .whole ∙ ap (λ (s : MarkStep). text-of (mark-lines (s .answer))) (step .ensures .step)), c .mark-lines .ensures .fits)
+    (record {
+      reply-is = ap₂ reply (ap (λ (s : MarkStep). s .state) (step .ensures .step)) (c .mark-lines .ensures .whole ∙ ap (λ (s : MarkStep). text-of (mark-lines (s .answer))) (step .ensures .step));
+      fits = c .mark-lines .ensures .fits;
+      untouched = step .ensures .untouched;
+    })
 
 pub call-answered-spec : {M : Type 1} → statement M
 call-answered-spec =

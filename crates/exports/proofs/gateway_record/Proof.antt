@@ -19,8 +19,9 @@ same-length c = search needs
 
 returns : tie.Need-returns
 returns c =
-    let wrote = c .before .before .before .before .write .ensures .wrote in
-    (c .number-of .ensures ∙ ap outcome-number (wrote .outcome-is), (c .before .value-of .ensures ∙ ap outcome-value (wrote .outcome-is), wrote .holds))
+    let write = c .before .before .before .before .write .ensures in
+    let wrote = write .wrote in
+    (c .number-of .ensures ∙ ap outcome-number (wrote .outcome-is), (c .before .value-of .ensures ∙ ap outcome-value (wrote .outcome-is), (wrote .holds, write .claim)))
 
 pub gateway-record-spec : {M : Type 1} → statement M
 gateway-record-spec = tie.close (tie.spec write-requires value-of-requires number-of-requires same-length returns)

@@ -1,5 +1,6 @@
--- `streams::read_full` is safe and ends, and counts no more than there is room for. The measure is the room that is left. Assumes nothing.
-use mathlib.Core.Path.{_≡_, sym}
+-- `streams::read_full` is safe and ends, and counts no more than there is room for; where a read fails there is room left. The measure is the room that is left. Assumes nothing.
+use mathlib.Core.Path.{_≡_, sym, _∙_}
+use mathlib.Core.Bool.{true, true≢false}
 use Prim.Native.Nat.{_-_, _≤_}
 use native.Mathlib.Omega.{arith}
 use borrow.Author.Needs.{needs}
@@ -9,7 +10,7 @@ use Rattle.streams.proofs.read_full.Statement.{statement}
 use Rattle.streams.proofs.read_full.Tie as tie
 
 abbrev Inv-loop : tie.InvT-loop
-Inv-loop who to₀ done₀ good₀ to done good = (done ≤ length to) × (length to ≡ length to₀)
+Inv-loop who to₀ done₀ good₀ to done good = (done ≤ length to) × (length to ≡ length to₀) × (good ≡ true)
 
 abbrev μ-loop : tie.MeasureT-loop
 μ-loop who to₀ done₀ good₀ to done good = length to - done
@@ -30,13 +31,13 @@ same-length : tie.Need-same-length Inv-loop μ-loop
 same-length c = search needs
 
 returns : tie.Need-returns Inv-loop μ-loop
-returns c = (omega arith, sym (length-take-le _ _ (omega arith)))
+returns c = ((omega arith, sym (length-take-le _ _ (omega arith))), λ e. absurd (true≢false (sym (c .before .loop .inv .2) ∙ e)))
 
 same-length-2 : tie.Need-same-length-2 Inv-loop μ-loop
 same-length-2 c = search needs
 
 returns-2 : tie.Need-returns-2 Inv-loop μ-loop
-returns-2 c = (omega arith, sym (length-take-le _ _ (omega arith)))
+returns-2 c = ((omega arith, sym (length-take-le _ _ (omega arith))), λ e. omega arith)
 
 pub read-full-spec : {M : Type 1} → statement M
 read-full-spec =

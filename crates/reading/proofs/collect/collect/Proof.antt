@@ -44,7 +44,7 @@ returns c =
     let v = c .before .before .before .before .before .before .loop in
     let entry = c .before .before .before .before .record-entry-at in
     subst (λ (n : ℕ). Collects (c .before .before .before .before .before .before .before .before .before .args .stored .now) (c .before .before .before .before .before .before .before .before .before .args .keys .now) (record { noted = v .noted; refusal = AtEntry n (v .at) }) (v .keys)) (sym (c .fault-of .ensures))
-    (faulty (v .inv .0) (c .before .before .before .before .before .loop-test .taken) _ _ (entry .result) (v .inv .1) (sym (entry .ensures)) (sym (c .before .before .before .decode .ensures) ∙ c .before .enum-told .given .1))
+    (faulty (v .inv .0) (c .before .before .before .before .before .loop-test .taken) _ (entry .result) (v .inv .1) (sym (entry .ensures)) (sym (c .before .before .before .decode .ensures) ∙ c .before .enum-told .given .1))
 
 note-requires : tie.Need-note-requires Inv-loop μ-loop
 note-requires c κs = search needs

@@ -1,0 +1,108 @@
+-- The mark of a job is that of its task at the taking: as opening read it, or as mark calls have changed it.
+use Rattle.guarantees.specs.Types.{_≡_, refl, sym, ap, _∙_, subst, Bool, true, false, cond, not, _&&_, _||_, true≢false, false≢true, List, [], _∷_, _++_, ℕ, _<_, MaybeTask, State, Call, Instant, Mark}
+use mathlib.Core.List.{append-nil}
+use native.Mathlib.Omega.{arith}
+use borrow.Author.Tests.{eqb-true}
+use lib.Dec.{eqb}
+use Rattle.sets.specs.Sets.{member, insert, remove}
+use Rattle.sets.proofs.Laws.{by-test, inserted, removed}
+use Rattle.rules.specs.Instant.{at-g, new-at, late-at}
+use Rattle.rules.specs.Calls.{refusal, mark-refusal, after-call}
+use Rattle.guarantees.specs.History.{Event, Comes, Starts, Stops, Finishes, Completes, Ends, Takes, Defers, GivesWay, Begins, happens, by-call, after-calls, take-events}
+use Rattle.guarantees.specs.Queries.{details, is-task, takes}
+use Rattle.guarantees.specs.Entries.{marked-by}
+use Rattle.guarantees.proofs.Walk.{served, refused, mark-served, mark-refused}
+use Rattle.guarantees.proofs.Events.{by-front, by-takes, by-defers, tail-of, happens-parts, tail-parts}
+use Rattle.guarantees.proofs.Frames.{marked-g}
+use Rattle.guarantees.proofs.Deferred.{by-rest}
+
+-- ---- the takings of an instant
+
+module _ (marks : ℕ) where
+  -- each has its task's mark, and is a task's
+  unfoldable Marked : List Event → Type 0
+  Marked [] = Unit {0}
+  Marked (e ∷ es) = ((n : ℕ) → (takes e && is-task n (details e .task)) ≡ true → (n < 32) × (details e .mark ≡ member n marks)) × Marked es
+
+  other : (e : Event) → takes e ≡ false → (es : List Event) → Marked es → Marked (e ∷ es)
+  unfolding Marked
+  other e x es h = (λ n y. absurd (false≢true (sym (ap (λ (b : Bool). b && is-task n (details e .task)) x) ∙ y)), h)
+
+  marked-at : (xs : List Event) (n u : ℕ) (m : Bool) (ys : List Event) → Marked (xs ++ (Takes n u m ∷ ys)) → eqb n n ≡ true → (n < 32) × (m ≡ member n marks)
+  unfolding Marked
+  marked-at [] n u m ys h s = h .0 n s
+  marked-at (x ∷ xs) n u m ys h s = marked-at xs n u m ys (h .1) s
+
+happens-marked : (d : State) (t set : ℕ) (es : List Event) → Marked (d .marked) es → Marked (d .marked) (happens d t set ++ es)
+unfolding Marked
+happens-marked d t set es h =
+    rw (happens-parts d t set es)
+    (by-front (Marked w) (λ u. other w (Comes u) refl) (λ k u. other w (Starts k u) refl) (λ k u. other w (Stops k u) refl) (λ k. other w (Finishes k) refl)
+    (λ k u. other w (Completes k u) refl) (λ u. other w (Ends u) refl) d t (take-events 32 (new-at d t set) w t ++ (tail-of d t set ++ es))
+    (by-takes (Marked w) 32 (new-at d t set) w t
+    (λ k l m es x. (λ n e. (omega (arith, eqb-true n k e), ap (λ (j : ℕ). member j w) (sym (eqb-true n k e))), x)) (tail-of d t set ++ es)
+    (rw (tail-parts d t set es)
+    (by-defers (Marked w) 32 (late-at d t set) t (λ k l m. other w (Defers k t) refl) _
+    (by-rest (Marked w) (λ k. other w (GivesWay k) refl) (λ u. other w (Ends u) refl) (λ u r l. other w (Begins u r l) refl) (λ k u. other w (Starts k u) refl) d t set es h)))))
+  where
+    w : ℕ
+    w = d .marked
+
+call-marked : (d : State) (t set : ℕ) → Marked (d .marked) (by-call d (Instant t set))
+unfolding by-call Marked
+call-marked d t set =
+    by-test (eqb (refusal d t set) 0)
+    (λ e. rw e (subst (Marked (d .marked)) (append-nil (happens d t set)) (happens-marked d t set [] tt)))
+    (λ e. rw e tt)
+
+-- ---- the marks along the calls
+
+module _ (n : ℕ) (small : n < 32) where
+  with-mark-member : (k m s : ℕ) → member n (cond (eqb m 1) (insert k s) (remove k s)) ≡ cond (eqb n k) (eqb m 1) (member n s)
+  with-mark-member k m s =
+      by-test (eqb m 1)
+      (λ e. rw e (inserted k s n small ∙ on (eqb n k) (member n s)))
+      (λ e. rw e (removed k s n small ∙ off (eqb n k) (member n s)))
+    where
+      on : (a b : Bool) → (a || b) ≡ cond a true b
+      on true b = refl
+      on false b = refl
+
+      off : (a b : Bool) → (not a && b) ≡ cond a false b
+      off true b = refl
+      off false b = refl
+
+  mark-member : (d : State) (k m : ℕ) → member n (after-call d (Mark k m) .marked) ≡ cond (eqb n k && eqb (mark-refusal d k m) 0) (eqb m 1) (member n (d .marked))
+  mark-member d k m =
+      by-test (eqb (mark-refusal d k m) 0)
+      (λ e. ap (λ (x : State). member n (x .marked)) (mark-served d k m e) ∙ with-mark-member k m (d .marked) ∙ rw e (both (eqb n k)))
+      (λ e. ap (λ (x : State). member n (x .marked)) (mark-refused d k m e) ∙ rw e (neither (eqb n k)))
+    where
+      both : (a : Bool) → cond a (eqb m 1) (member n (d .marked)) ≡ cond (a && true) (eqb m 1) (member n (d .marked))
+      both true = refl
+      both false = refl
+
+      neither : (a : Bool) → member n (d .marked) ≡ cond (a && false) (eqb m 1) (member n (d .marked))
+      neither true = refl
+      neither false = refl
+
+  instant-member : (d : State) (t set : ℕ) → member n (after-call d (Instant t set) .marked) ≡ member n (d .marked)
+  instant-member d t set =
+      by-test (eqb (refusal d t set) 0)
+      (λ e. ap (λ (x : State). member n (x .marked)) (served d t set e) ∙ ap (member n) (marked-g d t set))
+      (λ e. ap (λ (x : State). member n (x .marked)) (refused d t set e))
+
+  marks-along : (cs : List Call) (d : State) (b : Bool) → member n (d .marked) ≡ b → member n (after-calls d cs .marked) ≡ marked-by n b d cs
+  unfolding after-calls marked-by
+  marks-along [] d b e = e
+  marks-along (Instant t set ∷ cs) d b e = marks-along cs (after-call d (Instant t set)) b (instant-member d t set ∙ e)
+  marks-along (Mark k m ∷ cs) d b e =
+      marks-along cs (after-call d (Mark k m)) (cond (eqb n k && eqb (mark-refusal d k m) 0) (eqb m 1) b)
+      (mark-member d k m ∙ ap (λ (c : Bool). cond (eqb n k && eqb (mark-refusal d k m) 0) (eqb m 1) c) e)
+
+pub taken-marked : (d : State) (cs : List Call) (t set n u : ℕ) (m : Bool) (xs ys : List Event) → eqb n n ≡ true
+    → by-call (after-calls d cs) (Instant t set) ≡ xs ++ (Takes n u m ∷ ys) → m ≡ marked-by n (member n (d .marked)) d cs
+taken-marked d cs t set n u m xs ys s e =
+    let g : State = after-calls d cs in
+    let x : (n < 32) × (m ≡ member n (g .marked)) = marked-at (g .marked) xs n u m ys (subst (Marked (g .marked)) e (call-marked g t set)) s in
+    x .1 ∙ marks-along n (x .0) cs d (member n (d .marked)) refl
