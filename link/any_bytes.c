@@ -57,7 +57,7 @@ int main(void)
         int is_mark = round % 4 == 0;
         uint64_t shift = random_word() % 64;
         uint64_t time = random_word() >> shift;
-        uint32_t set = (uint32_t)random_word() & (uint32_t)first.d.words[9]; /* of the tasks that there are */
+        uint32_t set = (uint32_t)random_word() & first.d.sets[4]; /* of the tasks that there are */
         set = random_word() % 2 ? 0 : set;
         memcpy(&one, &first, sizeof first);
         memcpy(&other, &first, sizeof first);

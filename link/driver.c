@@ -110,7 +110,7 @@ static void call(unsigned number, uint64_t now)
     if (!core->is_due && now - core->base > ENOUGH) {
         open_core(core, now);
     }
-    gateway_answer answer;
+    gateway_answer answer = {0};
     uint8_t refused = gateway_instant(&core->dispatcher, now - core->base, core->released, &answer);
     core->released = 0;
     if (refused != 0) {

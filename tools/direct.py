@@ -82,14 +82,14 @@ def part_end(a, b, s):
     return number(16 if len(s) in (16, 26) else 0)
 
 
-# The numbers of an interval's units, as rules/specs/Registers has them: copy-ins that are settled, processors at rest, and a copy-out under way.
-SETTLED, AT_REST, COPYING_OUT = (1, 3, 4, 5), (0, 3), 1
+# What a processor at rest did, as rules/src/codes has it: it idled, or it executed.
+IDLED, EXECUTED = 0, 3
 
 
 def blockable(a, b, s):
-    """Of the tasks a those that an interval can block, by its copy-in, processor, copy-out and task, and the 32 priorities behind them."""
-    copyin, processor, copyout, task, *ranks = s
-    if copyin not in SETTLED or processor not in AT_REST or copyout == COPYING_OUT or processor == 0:
+    """Of the tasks a those that an interval can block, by what its processor did, its task, and the 32 priorities behind them."""
+    processor, task, *ranks = s
+    if processor == IDLED:
         return number(0)
     return task_set(other for other in members(a) if ranks[other] < ranks[task])
 
@@ -148,9 +148,9 @@ def file_or_not(_):
 
 
 def set_and_interval(rng):
-    """Intervals, most of them at their end, over priorities of which some are alike."""
-    return [(some_set(rng), 0, bytes((rng.choice((*SETTLED, *range(7))), rng.choice((0, 3, 3, 3, 1, 2)), rng.randrange(3), rng.randrange(32),
-                                      *(rng.randrange(9) for _ in range(32))))) for _ in range(EACH)]
+    """Intervals at their end, over priorities of which some are alike."""
+    return [(some_set(rng), 0, bytes((rng.choice((IDLED, EXECUTED, EXECUTED)), rng.randrange(32), *(rng.randrange(9) for _ in range(32)))))
+            for _ in range(EACH)]
 
 
 CALLS = (
@@ -183,23 +183,15 @@ use libc::STDIN_FILENO;
 use libc::STDOUT_FILENO;
 use entries::RecordEntry;
 use record_lines::Filled;
-use rules::Registers;
 
 fn blockable(s: &[u8], present: u32) -> u32 {
     let mut ranks = [0u8; 32];
     let mut k = 0;
     while k < 32 {
-        ranks[k] = s[4 + k];
+        ranks[k] = s[2 + k];
         k += 1;
     }
-    let r = Registers {
-        copyin: s[0],
-        processor: s[1],
-        copyout: s[2],
-        task: s[3],
-        ..rules::empty(0)
-    };
-    rules::blockable(r, present, &ranks)
+    rules::blockable(s[0], s[1], present, &ranks)
 }
 
 fn read(s: &[u8], at: usize) -> u32 {

@@ -31,13 +31,7 @@ mod raw {
             waits: &mut [u64; 32],
             time: u64,
             set: u32,
-            flags: &mut [u8; 3],
-            skipped: &mut u32,
-            due: &mut u64,
-            job_times: &mut [u64; 3],
-            job_bytes: &mut [u8; 2],
-            interval_times: &mut [u64; 2],
-            interval_bytes: &mut [u8; 7],
+            told: &mut super::Told,
         ) -> u8;
 
         pub fn gateway_mark_parts(sets: &mut [u32; 6], task: u8, mark: u8) -> u8;
@@ -109,15 +103,17 @@ pub struct Answer {
 #[derive(Clone)]
 pub struct Dispatcher {
     times: [u64; 7],
+    release: [u64; 32],
+    waits: [u64; 32],
     sets: [u32; 6],
+    columns: [u32; 96],
     codes: [u8; 9],
-    _unused: [u8; 7],
     priority: [u8; 32],
     blocked: [u8; 32],
-    release: [u64; 32],
-    columns: [u32; 96],
-    waits: [u64; 32],
+    unused: [u8; 7],
 }
+
+const _: () = assert!(std::mem::size_of::<Dispatcher>() == 1056);
 
 impl Dispatcher {
     /// Opens a dispatcher from task entries: 16 bytes each, as an input has them.
@@ -126,12 +122,12 @@ impl Dispatcher {
             times: [0; 7],
             sets: [0; 6],
             codes: [0; 9],
-            _unused: [0; 7],
+            columns: [0; 96],
             priority: [0; 32],
             blocked: [0; 32],
             release: [0; 32],
-            columns: [0; 96],
             waits: [0; 32],
+            unused: [0; 7],
         };
         let mut place = 0;
         // The slice and the arrays are live, and Rust lets no two of them overlap: the function asks no more.
@@ -183,13 +179,7 @@ impl Dispatcher {
                 &mut self.waits,
                 time,
                 set,
-                &mut told.flags,
-                &mut told.skipped,
-                &mut told.due,
-                &mut told.job_times,
-                &mut told.job_bytes,
-                &mut told.interval_times,
-                &mut told.interval_bytes,
+                told,
             )
         }
     }
@@ -227,22 +217,28 @@ impl fmt::Debug for Dispatcher {
     }
 }
 
-/// What an instant tells, as numbers: where a flag is 0, what belongs to it is as it was.
+/// What an instant tells, as numbers, laid out as `gateway_answer` of link/gateway.h: where a flag is 0, what belongs to it is as it was.
+#[repr(C)]
 #[derive(Clone, Copy, Debug, Default, PartialEq, Eq)]
 pub struct Told {
+    pub due: u64,
+    pub skipped: u32,
     /// A job is done; an interval closed, 1 before the releases, 2 after them; there is a due time.
     pub flags: [u8; 3],
-    pub skipped: u32,
-    pub due: u64,
+    pub unused: u8,
     /// Release, execution start, completion.
     pub job_times: [u64; 3],
     /// Task, blocked intervals.
     pub job_bytes: [u8; 2],
+    pub unused_too: [u8; 6],
     /// Begin, end.
     pub interval_times: [u64; 2],
     /// Half, task, work, task copied out, task chosen, its fate, task promoted; 255 is no task.
     pub interval_bytes: [u8; 7],
+    pub unused_last: u8,
 }
+
+const _: () = assert!(std::mem::size_of::<Told>() == 72);
 
 fn task(number: u8) -> Option<u8> {
     (number != 255).then_some(number)

@@ -309,7 +309,7 @@ class Memory(Housed):
 class FirstRuns(unittest.TestCase):
     def test_the_gateway_stands_on_no_more_than_it_needs(self):
         """What it prints is tied to the record in a crate above it: a first run waits neither for that nor for demand 3."""
-        self.assertEqual(set(crates_of("gateway")) & {"record", "guarantees", "dispatcher", "file_lines"}, set())
+        self.assertEqual(set(crates_of("gateway")) & {"record", "guarantees", "file_lines"}, set())
         self.assertIn("record_lines", crates_of("gateway"))
 
     def test_what_is_proved_is_said(self):

@@ -1,1 +1,5 @@
 pub mod Numbered
+pub mod ReadBack
+pub mod Composing
+pub mod Due
+pub mod Marking

@@ -1,6 +1,7 @@
 -- What a call promises, of its outcome and of the state that a refused one hands back. Assumes nothing.
 use mathlib.Core.Path.{ap}
-use Rattle.dispatcher.specs.Types.{ℕ, _≡_, _∙_, Dispatcher, Step, MarkStep}
+use Rattle.dispatcher.specs.Types.{ℕ, _≡_, _∙_, State, Occurred, Served, Dispatcher, Step, MarkStep}
+use Rattle.rules.specs.Instant.{at-g, occurred}
 use Rattle.rules.specs.Calls as rules
 use Rattle.rules.specs.Answers.{answer-number, answer-values, mark-number}
 use Rattle.rules.proofs.Numbers.{instant-number, mark-call-number}
@@ -22,3 +23,9 @@ mark-answered d n m r e u = record {
   number = ap (λ (s : rules.MarkStep). mark-number (s .answer)) e ∙ mark-call-number (state-of d) n m;
   untouched = u;
 }
+
+-- an instant by its steps
+pub is-served : {s : State} {o : Occurred} (d : State) (t set : ℕ) → s ≡ at-g d t set → o ≡ occurred d t set
+    → _≡_ {A = rules.Step} (record { state = s; answer = Served o }) (rules.served d t set)
+unfolding rules.served
+is-served d t set p q = rw (p, q)

@@ -2,13 +2,17 @@
 use Rattle.dispatcher.specs.Types.{ℕ, _≡_, State, Dispatcher, Answer, Step, MarkStep, Opening}
 use Rattle.rules.specs.Calls as rules
 use Rattle.rules.specs.Answers.{answer-number, answer-values, mark-number}
-use Rattle.rules.specs.Registers.{arrays, waits, Memory, state-in}
+use Rattle.rules.specs.Kept.{Kept, kept, by-task, Beside, beside, read}
 
-abbrev pub memory-of : Dispatcher → Memory
-memory-of d = record { table = d .table; clock = d .clock; arrays = arrays (d .release) (d .blocked); waiting = waits (d .waiting) (d .waits) }
+-- what it is kept as: the numbers, and the arrays beside them
+abbrev pub kept-of : Dispatcher → Kept
+kept-of d = kept (d .times) (d .sets) (d .codes)
+
+abbrev pub beside-of : Dispatcher → Beside
+beside-of d = beside (d .priority) (d .columns) (by-task (d .release) (d .blocked) (d .waits))
 
 abbrev pub state-of : Dispatcher → State
-state-of d = state-in (memory-of d) (d .registers)
+state-of d = read (kept-of d) (beside-of d)
 
 -- what a call hands back
 abbrev pub step-of : Step → rules.Step

@@ -1,3 +1,4 @@
 pub mod Types
+pub mod Telling
 pub mod Dispatcher
 pub mod Promises

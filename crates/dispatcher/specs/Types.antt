@@ -1,12 +1,7 @@
 -- The names that the definitions and the proofs share. Those that lower crates declare are passed on to the crates above.
-pub use Rattle.rules.specs.Types.{Table, Jobs, WaitingReleases, Processor, Idle, CopyingIn, Executing, Finished, CopyOut, NoCopyOut, CopyingOut, CopiedOut, CopyIn, Unchosen, NoneChosen, Copying, Loaded, Cancelled, Interval, Next, NoneNext, LoadedNext, PromotedNext, Outgoing, NoneOutgoing, AwaitsCopyOut, Phase, Between, Within, State, Stage, MaybeTask, NoTask, Task, JobEntry, IntervalEntry, Refusal, NoRefusal, Alone, AtEntry, TaskPart}
-pub use Rattle.rules.specs.declared.Clock.{Clock}
-pub use Rattle.rules.specs.declared.Clock.the-variants.{Unset, At}
-pub use Rattle.rules.specs.declared.Registers.{Registers}
+pub use Rattle.rules.specs.Types.{Clock, Unset, At, Closed, NoInterval, Span, Table, Jobs, WaitingReleases, Processor, Idle, CopyingIn, Executing, Finished, CopyOut, NoCopyOut, CopyingOut, CopiedOut, CopyIn, Unchosen, NoneChosen, Copying, Loaded, Cancelled, Interval, Next, NoneNext, LoadedNext, PromotedNext, Outgoing, NoneOutgoing, AwaitsCopyOut, Phase, Between, Within, State, Stage, MaybeTask, NoTask, Task, JobEntry, IntervalEntry, Refusal, NoRefusal, Alone, AtEntry, TaskPart}
 pub use Rattle.rules.specs.declared.Done.{Done}
 pub use Rattle.rules.specs.declared.Done.the-variants.{NoJob, Job}
-pub use Rattle.rules.specs.declared.Closed.{Closed}
-pub use Rattle.rules.specs.declared.Closed.the-variants.{NoInterval, Span}
 pub use Rattle.rules.specs.declared.Closing.{Closing}
 pub use Rattle.rules.specs.declared.Closing.the-variants.{Unclosed, BeforeReleases, AfterReleases}
 pub use Rattle.rules.specs.declared.Call.{Call}
@@ -17,8 +12,6 @@ pub use Rattle.rules.specs.declared.Occurred.{Occurred}
 pub use Rattle.rules.specs.declared.Answer.{Answer}
 pub use Rattle.rules.specs.declared.Answer.the-variants.{Refused, Served}
 pub use Rattle.dispatcher.specs.declared.Dispatcher.{Dispatcher}
-pub use Rattle.dispatcher.specs.declared.Tested.{Tested}
-pub use Rattle.dispatcher.specs.declared.Stepped.{Stepped}
 pub use Rattle.dispatcher.specs.declared.Step.{Step}
 pub use Rattle.dispatcher.specs.declared.MarkStep.{MarkStep}
 pub use Rattle.dispatcher.specs.declared.Opening.{Opening}

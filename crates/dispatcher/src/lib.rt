@@ -1,45 +1,35 @@
 // The dispatcher of one core by instants: opened from task entries, then called with releases and marks.
+mod answering;
 mod instant;
 mod mark;
 mod open_tasks;
+mod refusing;
+mod stepping;
+mod telling;
 
-pub use instant::refusal;
-pub use instant::steps_a_b;
-pub use instant::steps_c_to_f;
-pub use mark::mark_refusal;
 pub use mark::marked_with;
 pub use open_tasks::open;
+pub use open_tasks::opened;
+pub use refusing::mark_refusal;
+pub use refusing::refusal;
 use rules::Answer;
-use rules::Clock;
-use rules::Closed;
 use rules::MarkAnswer;
-use rules::Occurred;
-use rules::Registers;
+pub use stepping::steps;
+use table::Columns;
 use table::Refusal;
-use table::Table;
 
-// The state of the rules as an instant has it: the arrays by task stand beside the registers, so that nothing is taken apart or put
-// together from call to call. `waits` has the times of the waiting releases, and `waiting` the tasks that have one.
+// The state of the rules as it is kept: three arrays of numbers, whose places `rules::at` names; of each task the priority and the lengths;
+// and of each task's job the release time and the count of blocked intervals, and the time of its waiting release. C and Rust keep
+// these very arrays.
 pub struct Dispatcher {
-    pub table: Table,
-    pub clock: Clock,
+    pub times: [u64; 7],
     pub release: [u64; 32],
-    pub blocked: [u8; 32],
-    pub waiting: u32,
     pub waits: [u64; 32],
-    pub registers: Registers,
-}
-
-// After the test of step b or f: what is left, and the interval that ended.
-pub struct Tested {
-    pub registers: Registers,
-    pub closed: Closed,
-}
-
-// After steps a to g: what is left, and what occurred.
-pub struct Stepped {
-    pub registers: Registers,
-    pub occurred: Occurred,
+    pub sets: [u32; 6],
+    pub columns: Columns,
+    pub codes: [u8; 9],
+    pub priority: [u8; 32],
+    pub blocked: [u8; 32],
 }
 
 pub struct Step {

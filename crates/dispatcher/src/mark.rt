@@ -1,49 +1,43 @@
-// A mark call, with its refusals in their order. A refused call hands the state back as it was.
+// A mark call. A refused one hands the state back as it was.
 use crate::Dispatcher;
 use crate::MarkStep;
+use crate::refusing::mark_refusal;
 use rules::MarkAnswer;
-use rules::Registers;
+use rules::at;
 ghost use mathlib.Core.Path.{_≡_};
-ghost use mathlib.Core.Bool.{cond};
-ghost use lib.Dec.{eqb};
-ghost use Rattle.sets.specs.Sets.{insert, remove};
+ghost use lib.ListN.{length};
 ghost use Rattle.rules.specs.Calls as calls;
 ghost use Rattle.dispatcher.specs.Dispatcher.{state-of, MarkAnswers};
-ghost use Rattle.dispatcher.specs.Promises.{MarkRefuses};
+ghost use Rattle.dispatcher.specs.Promises.{MarksAt};
 
-// 16, 6, 17, in this order; 0 is none.
-pub fn mark_refusal(present: u32, pending: u32, waiting: u32, task: u8, mark: u8) -> u8
-    ensures { λ r. ⌜ MarkRefuses present pending waiting task mark r ⌝ }
+// That there are six sets is told where they are lent as a slice. Nothing is left of this in the program.
+fn sets_seen(sets: &[u32]) {}
+
+fn six(sets: &[u32; 6])
+    ensures { λ _. ⌜ length (now (sets .entry)) ≡ 6 ⌝ }
 {
-    if !sets::contains(present, task) {
-        return 16;
-    }
-    if mark > 1 {
-        return 6;
-    }
-    if sets::contains(sets::union(pending, waiting), task) {
-        return 17;
-    }
-    0
+    sets_seen(sets);
 }
 
-// The marked tasks with one task's mark set or taken away.
-pub fn marked_with(marked: u32, task: u8, mark: u8) -> u32
-    ensures { λ r. ⌜ r ≡ cond (eqb mark 1) (insert task marked) (remove task marked) ⌝ }
+// One task's mark set or taken away.
+pub fn marked_with(task: u8, mark: u8, sets: &mut [u32; 6])
+    ensures { λ _. ⌜ MarksAt task mark (now (sets .entry)) (now (sets .exit)) ⌝ }
 {
+    six(sets);
+    let marked = sets[at::MARKED];
     if mark == 1 {
-        return sets::insert(marked, task);
+        sets[at::MARKED] = sets::insert(marked, task);
+        return;
     }
-    sets::remove(marked, task)
+    sets[at::MARKED] = sets::remove(marked, task);
 }
 
 fn with_mark(d: Dispatcher, task: u8, mark: u8) -> Dispatcher
     ensures { λ r. ⌜ state-of r ≡ calls.with-mark (state-of d) task mark ⌝ }
 {
-    let r = d.registers;
-    let marked = marked_with(r.marked, task, mark);
-    let registers = Registers { marked, ..r };
-    Dispatcher { registers, ..d }
+    let mut sets = d.sets;
+    marked_with(task, mark, &mut sets);
+    Dispatcher { sets, ..d }
 }
 
 impl Dispatcher {
@@ -51,13 +45,7 @@ impl Dispatcher {
     pub fn mark(self, task: u8, mark: u8) -> MarkStep
         ensures { λ r. ⌜ MarkAnswers self task mark r ⌝ }
     {
-        let number = mark_refusal(
-            self.table.present,
-            self.registers.pending,
-            self.waiting,
-            task,
-            mark,
-        );
+        let number = mark_refusal(task, mark, &self.sets);
         if number == 0 {
             return MarkStep {
                 state: with_mark(self, task, mark),

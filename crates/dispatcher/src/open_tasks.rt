@@ -1,7 +1,7 @@
 // Opening a dispatcher from the task entries: 12, then 2, 1, 4, 5, 6, 7 entry by entry. A release entry is refused by 2.
 use crate::Dispatcher;
 use crate::Opening;
-use rules::Clock;
+use rules::codes;
 use table::Refusal;
 use table::Table;
 ghost use mathlib.Core.Path.{_≡_};
@@ -12,14 +12,18 @@ ghost use Rattle.dispatcher.specs.Dispatcher.{state-of, opening-of};
 pub fn opened(table: Table, marked: u32) -> Dispatcher
     ensures { λ r. ⌜ state-of r ≡ calls.opened table marked ⌝ }
 {
+    let present = table.present;
+    let priority = table.priority;
+    let columns = table.columns;
     Dispatcher {
-        table,
-        clock: Clock::Unset,
+        times: [0; 7],
         release: [0; 32],
-        blocked: [0; 32],
-        waiting: 0,
         waits: [0; 32],
-        registers: rules::empty(marked),
+        sets: [marked, 0, 0, 0, present, 0],
+        columns,
+        codes: [codes::NO_HALF, 0, 0, 0, 0, 0, codes::NO_INTERVAL, 0, 0],
+        priority,
+        blocked: [0; 32],
     }
 }
 

@@ -1,3 +1,1 @@
-pub mod Closings
-pub mod Telling
 pub mod Keeping

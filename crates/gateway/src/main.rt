@@ -1,5 +1,5 @@
 // Reads an input on standard input and prints its run, instant by instant: a J, I or S line for each entry of its record, or an R line
-// where the input is refused. No more of a record is kept than one instant leaves. A read that fails is no input, and at the first write that
+// where the input is refused. No more of a record is kept than a piece of it. A read that fails is no input, and at the first write that
 // fails the program stops; either is said in a line on standard error.
 use lines::Text;
 use streams::Got;
@@ -13,17 +13,14 @@ ghost use Rattle.run.specs.Cut.{file-most};
 // As many bytes of an input as are enough, which is proved: run/specs/Cut, `ReadFromFront`. What stands behind them is not read.
 const INPUT: usize = 33 * entries::TASK_SIZE + 4096 * entries::RELEASE_SIZE;
 
-// Room for the lines of many instants; those of one take fewer than 1,024 bytes.
+// A piece of a record: what many instants leave.
+const ENTRIES: usize = 4096;
+
+// Room for the lines of such a piece.
 const LINES: usize = 16384;
 
 // As many instants as no run has.
 const INSTANTS: usize = 32 * 4096 + 32;
-
-// How many bytes are kept to be printed, and whether nothing failed until now.
-struct Kept {
-    len: usize,
-    good: bool,
-}
 
 // Prints the first `count` bytes of `bytes`, and answers whether that was possible.
 fn print(bytes: &[u8], count: usize) -> bool
@@ -37,71 +34,40 @@ fn print_text(text: Text, out: &mut [u8]) {
     print(out, count);
 }
 
-// Prints the `len` bytes of `out` where there may be no room behind them for the lines of one instant, and answers how many are kept.
-fn make_room(out: &[u8], len: usize) -> Kept
-    requires { ⌜ len ≤ length (now out) ⌝ }
-    ensures { λ r. ⌜ r .len ≤ len ⌝ }
-{
-    if out.len() - len < 1024 {
-        let good = print(out, len);
-        return Kept { len: 0, good };
-    }
-    Kept { len, good: true }
-}
-
-// The lines of an instant's entries behind the `len` bytes of `out`.
-fn gather(entries: &[u8], out: &mut [u8], len: usize) -> Kept
-    requires { ⌜ len ≤ length (now out) ⌝ }
-    ensures { λ r. ⌜ r .len ≤ length (now (out .entry)) ⌝ }
-{
-    let room = make_room(out, len);
-    let start = room.len;
-    let filled = record_lines::fill(entries, 0, &mut out[start..]);
-    Kept {
-        len: start + filled.len,
-        good: room.good,
+// Prints the lines of the entries, as many at once as there is room for, and answers whether that was possible.
+fn print_lines(entries: &[u8], out: &mut [u8]) -> bool {
+    let mut at: usize = 0;
+    loop {
+        let filled = record_lines::fill(entries, at, out);
+        let len = filled.len;
+        if len == 0 {
+            return true;
+        }
+        if !print(out, len) {
+            return false;
+        }
+        at = filled.next;
     }
 }
 
 fn print_run(input: &[u8], part: TaskPart, out: &mut [u8])
     requires { ⌜ part .end ≤ length (now input) ⌝ }
 {
-    let mut release = [0u64; 32];
-    let mut blocked = [0u8; 32];
-    let mut waiting: u32 = 0;
-    let mut waits = [0u64; 32];
-    let mut entries = [0u8; run::MOST];
-    let mut r = rules::empty(part.marked);
+    let mut entries = [0u8; ENTRIES];
+    let table = part.table;
+    let mut d = dispatcher::opened(table, part.marked);
     let mut at = part.end;
-    let mut len = 0;
     let mut left = INSTANTS;
     while left != 0 {
-        let x = run::advance(
-            &input[at..],
-            r,
-            part.table.present,
-            &part.table.priority,
-            &part.table.columns,
-            &mut release,
-            &mut blocked,
-            &mut waiting,
-            &mut waits,
-            &mut entries,
-        );
-        if x.time == u64::MAX {
-            break;
-        }
+        let x = run::next_piece(&input[at..], d, left, &mut entries);
         let size = x.size;
-        let kept = gather(&entries[..size], out, len);
-        if !kept.good {
+        if !print_lines(&entries[..size], out) {
             return;
         }
-        len = kept.len;
-        r = x.registers;
         at += x.read;
-        left -= 1;
+        left = x.left;
+        d = x.state;
     }
-    print(out, len);
 }
 
 fn answer(input: &[u8], out: &mut [u8]) {

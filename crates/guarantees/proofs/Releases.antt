@@ -76,33 +76,33 @@ module _ (d : State) (set k : ℕ) (l : k < 32) where
   abbrev S : Bool
   S = member k set
 
-  resumed-member : member k (resumed d) ≡ (W && not P)
+  resumed-member : member k (resumed (d .jobs .pending) (d .waiting .tasks)) ≡ (W && not P)
   resumed-member = difference-member (d .waiting .tasks) (d .jobs .pending) k l
 
-  found-pending-member : member k (found-pending d) ≡ (P || (W && not P))
-  found-pending-member = united (d .jobs .pending) (resumed d) k l ∙ ap (λ (x : Bool). P || x) resumed-member
+  found-pending-member : member k (found-pending (d .jobs .pending) (d .waiting .tasks)) ≡ (P || (W && not P))
+  found-pending-member = united (d .jobs .pending) (resumed (d .jobs .pending) (d .waiting .tasks)) k l ∙ ap (λ (x : Bool). P || x) resumed-member
 
-  found-waiting-member : member k (found-waiting d) ≡ (W && not (W && not P))
-  found-waiting-member = difference-member (d .waiting .tasks) (resumed d) k l ∙ ap (λ (x : Bool). W && not x) resumed-member
+  found-waiting-member : member k (found-waiting (d .jobs .pending) (d .waiting .tasks)) ≡ (W && not (W && not P))
+  found-waiting-member = difference-member (d .waiting .tasks) (resumed (d .jobs .pending) (d .waiting .tasks)) k l ∙ ap (λ (x : Bool). W && not x) resumed-member
 
   -- taken: no job of the task is pending, and one waits or is handed in
   pub taken-member : member k (taken d set) ≡ is-taken P W S
   unfolding taken
   taken-member =
-      united (resumed d) (difference set (found-pending d)) k l
-      ∙ rw (resumed-member, difference-member set (found-pending d) k l, found-pending-member) (taken-formula P W S)
+      united (resumed (d .jobs .pending) (d .waiting .tasks)) (difference set (found-pending (d .jobs .pending) (d .waiting .tasks))) k l
+      ∙ rw (resumed-member, difference-member set (found-pending (d .jobs .pending) (d .waiting .tasks)) k l, found-pending-member) (taken-formula P W S)
 
   -- waits from now on: handed in, behind a pending job where none waits, or behind a waiting one that is taken
   pub deferred-member : member k (deferred d set) ≡ is-deferred P W S
   unfolding deferred
   deferred-member =
-      difference-member (intersection set (found-pending d)) (found-waiting d) k l
-      ∙ rw (intersection-member set (found-pending d) k l, found-pending-member, found-waiting-member) (deferred-formula P W S)
+      difference-member (intersection set (found-pending (d .jobs .pending) (d .waiting .tasks))) (found-waiting (d .jobs .pending) (d .waiting .tasks)) k l
+      ∙ rw (intersection-member set (found-pending (d .jobs .pending) (d .waiting .tasks)) k l, found-pending-member, found-waiting-member) (deferred-formula P W S)
 
   -- skipped: handed in while one waits behind a pending job
   pub skipped-member : member k (skipped d set) ≡ is-skipped P W S
   unfolding skipped
-  skipped-member = intersection-member set (found-waiting d) k l ∙ rw found-waiting-member (skipped-formula P W S)
+  skipped-member = intersection-member set (found-waiting (d .jobs .pending) (d .waiting .tasks)) k l ∙ rw found-waiting-member (skipped-formula P W S)
 
   -- waits after step c: with a pending job the one that waited or the one handed in, without one the one handed in behind the one that waited
   pub waits-member : member k (waits-after d set) ≡ is-waiting P W S
@@ -115,11 +115,11 @@ module _ (d : State) (set k : ℕ) (l : k < 32) where
 module _ (d : State) (set k : ℕ) where
   pub taken-task : member k (taken d set) ≡ true → k < 32
   unfolding taken
-  taken-task h = member-task k (taken d set) (union-small (resumed d) (difference set (found-pending d))) h
+  taken-task h = member-task k (taken d set) (union-small (resumed (d .jobs .pending) (d .waiting .tasks)) (difference set (found-pending (d .jobs .pending) (d .waiting .tasks)))) h
 
   pub deferred-task : member k (deferred d set) ≡ true → k < 32
   unfolding deferred
-  deferred-task h = member-task k (deferred d set) (difference-small (intersection set (found-pending d)) (found-waiting d)) h
+  deferred-task h = member-task k (deferred d set) (difference-small (intersection set (found-pending (d .jobs .pending) (d .waiting .tasks))) (found-waiting (d .jobs .pending) (d .waiting .tasks))) h
 
   -- ---- what a member says
 

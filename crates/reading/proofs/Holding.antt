@@ -1,5 +1,5 @@
 -- A run held against a record: how far the two agree. Assumes nothing.
-use mathlib.Core.Path.{_≡_, refl, sym, ap, ap₂, _∙_}
+use mathlib.Core.Path.{_≡_, refl, sym, ap, ap₂, _∙_, subst}
 use mathlib.Core.Bool.{Bool, true, false, cond, _&&_, true≢false, false≢true}
 use mathlib.Core.List.{List, [], _∷_, _++_, append-nil, append-assoc}
 use Prim.Native.Nat.{ℕ, zero, suc, _+_, _-_, _^_, _≤_, _<_}
@@ -11,24 +11,20 @@ use lib.Dec.{eqb}
 use lib.ListN.{length, take, drop, getD, length-take, length-drop, take-append-drop}
 use lib.Seq.{length-take-le, take-suc, take-all, take-at, drop-at, take-append-add, take-append-le}
 use Rattle.sets.proofs.Laws.{by-test, left, right}
-use Rattle.words.proofs.Laws.{rest-whole}
-use Rattle.rules.specs.Instant.{occurred}
-use Rattle.rules.specs.Registers.{Arrays, first-memory, state-in}
-use Rattle.rules.specs.Steps.{Empty}
-use Rattle.run.specs.Advance.{AdvancedTo}
-use Rattle.record.specs.Types.{Table, WaitingReleases, Registers, Advanced, Clock, At, TaskPart, NoRefusal}
-use Rattle.run.specs.Listed.{releases-at}
-use Rattle.run.specs.Run.{released-at}
-use Rattle.record.specs.Cursor.{most, served-bytes, Room, start, run-bytes, budget-at}
+use Rattle.rules.specs.Calls.{opened}
+use Rattle.dispatcher.specs.declared.Dispatcher.{Dispatcher}
+use Rattle.dispatcher.specs.Dispatcher.{state-of}
+use Rattle.run.specs.Run.{run, record-bytes}
+use Rattle.run.specs.Pieces.{Makes}
+use Rattle.run.proofs.Reaching.{same-slice, front}
+use Rattle.record.specs.Types.{TaskPart, NoRefusal, Piece}
+use Rattle.record.specs.Cursor.{Cursor, Served, Room, start, run-bytes, budget-at}
+use Rattle.record.proofs.Running.{is-start, splits, served-on}
 use Rattle.table.specs.TaskPart.{task-part}
 use Rattle.run.specs.Files.{Checked, Rejected, Releases, refusal-of, releases-of, part-of, file-part}
 use Rattle.record.proofs.Accepted.{accepted}
 use Rattle.record.proofs.Outcomes.{AllRead, accepted-whole, listed-all, same-run}
-use Rattle.run.proofs.Slices.{rest-length}
-use Rattle.run.proofs.Advancing.{size-most, same-size}
-use Rattle.record.proofs.Going.{Going, memory-in, cursor-in, first-cursor, sets-out, moves-to, moves-clock, splits, made-front}
-use Rattle.reading.specs.declared.replay.Held.{Held}
-use Rattle.reading.specs.Parts.{Tells, Holds}
+use Rattle.reading.specs.Parts.{Tells}
 use Rattle.reading.specs.Reading.{same-bytes, yielded-by, yields}
 
 -- ---- two lists of bytes
@@ -100,146 +96,63 @@ take-more (suc n) m [] = none m
         empty (suc m) = refl
 take-more (suc n) m (x ∷ s) = rw (suc-add n m) (ap (λ (l : List ℕ). x ∷ l) (take-more n m s))
 
--- ---- what is made is held against the record
-
-module _ (stored made : List ℕ) (size len : ℕ) (l : size ≤ length stored) (m : len ≤ length made) where
-  pub within-record : take len (drop size stored) ≡ take len made → size + len ≤ length stored
-  within-record e = omega (arith, ap length e, length-take-le len made m, length-take len (drop size stored), length-drop size stored)
-
-  -- there is room for more
-  pub hold-kept : 371 ≤ length made - len → Holds stored made size len (record { size = size; len = len; agrees = true })
-  hold-kept r = record { within = λ e. (l, omega arith); stays = λ e. refl; differs = λ e. absurd (true≢false e) }
-
-  pub hold-same : 371 ≤ length made → take len (drop size stored) ≡ take len made → Holds stored made size len (record { size = size + len; len = 0; agrees = true })
-  hold-same r e = record {
-    within = λ x. (within-record e, omega arith);
-    stays = λ x. append-nil (take (size + len) stored) ∙ sym (take-more size len stored) ∙ ap (λ (t : List ℕ). take size stored ++ t) e;
-    differs = λ x. absurd (true≢false x);
-  }
-
-  pub hold-differs : (take len (drop size stored) ≡ take len made → ⊥) → Holds stored made size len (record { size = size; len = len; agrees = false })
-  hold-differs n = record { within = λ e. absurd (false≢true e); stays = λ e. absurd (false≢true e); differs = λ e. n }
-
 -- ---- how far a run and a record agree
 
--- what the record has so far, what is made, and what is to come make the whole
-pub record Holding (s : List ℕ) (table : Table) (whole stored made : List ℕ) (a : Arrays) (w : WaitingReleases) (r : Registers) (at size len left : ℕ) : Type 0 where
-  pub n : ℕ
-  pub going : Going s table whole stored false a w r at n left stored
-  pub rest : take size stored ++ (take len made ++ run-bytes s (cursor-in (memory-in table (going .clock) a w) r at) left) ≡ whole
+-- what the record has so far and what is to come make the whole
+pub record Holding (s whole stored : List ℕ) (c : Cursor) (size left : ℕ) : Type 0 where
+  pub rest : take size stored ++ run-bytes s c left ≡ whole
   pub within : size ≤ length stored
-  pub room : len + most ≤ length made
+  pub served : Served s c
 
-pub begins : (s stored made : List ℕ) (k : TaskPart) (r : Registers) {budget : ℕ} → Empty (k .marked) r → Room s (start k) budget stored false → most ≤ length made
-    → Holding s (k .table) (run-bytes s (first-cursor k r) budget) stored made (first-memory (k .table) .arrays) (first-memory (k .table) .waiting) r (k .end) 0 0 budget
-unfolding sets-out
-begins s stored made k r e p l = record { n = 0; going = sets-out k r e p; rest = refl; within = omega arith; room = omega arith }
+module _ (s stored : List ℕ) (k : TaskPart) (budget : ℕ) (d : Dispatcher) (e : state-of d ≡ opened (k .table) (k .marked)) where
+  pub begins : Room s (start k) budget stored false → Holding s (run-bytes s (record { state = state-of d; at = k .end }) budget) stored (record { state = state-of d; at = k .end }) 0 budget
+  begins r = record { rest = refl; within = omega arith; served = subst (λ (c : Cursor). Served s c) (is-start k d e) (r .served) }
 
--- the record is the whole or not, where the next bytes are those made or not
-module _ (whole stored front made rest : List ℕ) (size len : ℕ) (f : front ≡ take size stored) (l : size ≤ length stored) (all : front ++ (take len made ++ rest) ≡ whole) where
-  pub unlike : len ≤ length made → (take len (drop size stored) ≡ take len made → ⊥) → whole ≡ stored → ⊥
-  unlike m n e =
-      let h : front ++ (take len made ++ rest) ≡ stored = all ∙ e in
-      n (ap (λ (x : List ℕ). take len (drop size x)) (sym h)
-      ∙ ap (take len) (drop-at front (take len made ++ rest) size (ap length f ∙ length-take-le size stored l))
-      ∙ take-at (take len made) rest len (length-take-le len made m))
+  pub as-started : {x : Bool} → x ≡ same-bytes (run-bytes s (record { state = state-of d; at = k .end }) budget) stored → x ≡ same-bytes (run-bytes s (start k) budget) stored
+  as-started {x} h = subst (λ (c : Cursor). x ≡ same-bytes (run-bytes s c budget) stored) (sym (is-start k d e)) h
 
-  pub alike : rest ≡ [] → len ≤ length made → take len (drop size stored) ≡ take len made → eqb (size + len) (length stored) ≡ same-bytes whole stored
-  alike none m e =
-      let is : whole ≡ take (size + len) stored =
-      sym all ∙ ap (λ (x : List ℕ). front ++ (take len made ++ x)) none ∙ ap (λ (x : List ℕ). front ++ x) (append-nil (take len made))
-      ∙ ap₂ (λ (x y : List ℕ). x ++ y) f (sym e) ∙ take-more size len stored in
-      let long : length whole ≡ size + len = ap length is ∙ length-take-le (size + len) stored (omega (arith, ap length e, length-take-le len made m, length-take len (drop size stored), length-drop size stored)) in
-      by-test (eqb (size + len) (length stored))
-      (λ x. x ∙ sym (same-true whole stored (is ∙ take-all (size + len) stored (omega (arith, eqb-true (size + len) (length stored) x)))))
-      (λ x. x ∙ same-false whole stored (λ y. eqb-false (size + len) (length stored) x (sym long ∙ ap length y)))
+module _ {s whole stored : List ℕ} (d : Dispatcher) {at size left : ℕ} (h : Holding s whole stored (record { state = state-of d; at = at }) size left) where
+  -- no instant is left: the record is the whole, or it is longer
+  pub ended : left ≡ 0 → eqb size (length stored) ≡ same-bytes whole stored
+  unfolding run record-bytes
+  ended e =
+      let is : whole ≡ take size stored = sym (h .rest) ∙ ap (λ (n : ℕ). take size stored ++ run-bytes s (record { state = state-of d; at = at }) n) e ∙ append-nil (take size stored) in
+      let long : length whole ≡ size = ap length is ∙ length-take-le size stored (h .within) in
+      by-test (eqb size (length stored))
+      (λ x. x ∙ sym (same-true whole stored (is ∙ take-all size stored (omega (arith, eqb-true size (length stored) x)))))
+      (λ x. x ∙ same-false whole stored (λ y. eqb-false size (length stored) x (sym long ∙ ap length y)))
 
--- ---- one instant
+  module _ {made : List ℕ} {x : Piece} {made' : List ℕ} (m : Makes (take (length s - at) (drop at s)) d left made x made') where
+    abbrev to-come : List ℕ
+    to-come = run-bytes s (record { state = state-of (x .state); at = at + x .read }) (x .left)
 
-module _ {s : List ℕ} {table : Table} {whole stored made : List ℕ} {a : Arrays} {w : WaitingReleases} {r : Registers} {at size len left : ℕ}
-    (g : Holding s table whole stored made a w r at size len left) where
-  -- the run has come to its end
-  pub ended : run-bytes s (cursor-in (memory-in table (g .going .clock) a w) r at) left ≡ [] → take len (drop size stored) ≡ take len made
-      → eqb (size + len) (length stored) ≡ same-bytes whole stored
-  ended none e = alike whole stored (take size stored) made _ size len refl (g .within) (g .rest) none (omega (arith, g .room)) e
+    pub whole-piece : x .size ≤ length made'
+    whole-piece = omega (arith, m .fits, same-slice m)
 
-  pub differs : (take len (drop size stored) ≡ take len made → ⊥) → false ≡ same-bytes whole stored
-  differs n = same-false whole stored (unlike whole stored (take size stored) made _ size len refl (g .within) (g .rest) (omega (arith, g .room)) n)
+    parts : take size stored ++ (take (x .size) made' ++ run-bytes s (record { state = state-of (x .state); at = at + x .read }) (x .left)) ≡ whole
+    parts =
+        ap (λ (l : List ℕ). take size stored ++ (l ++ to-come)) (front m)
+        ∙ ap (λ (l : List ℕ). take size stored ++ l) (sym (splits s at d m (h .served))) ∙ h .rest
 
-  module _ {x : Advanced} {after : Arrays} {later : WaitingReleases} {before rest-after : List ℕ}
-      (made-by : AdvancedTo (take (length s - at) (drop at s)) (memory-in table (g .going .clock) a w) r before x (memory-in table (g .going .clock) after later) rest-after)
-      (k : ℕ) (left-over : k ≡ length made - len) (lent-is : before ≡ take k (drop len made)) where
-    abbrev next : List ℕ
-    next = take len made ++ (rest-after ++ drop k (drop len made))
+    -- the next bytes of the record are others
+    pub differs : (take (x .size) (drop size stored) ≡ take (x .size) made' → ⊥) → false ≡ same-bytes whole stored
+    differs n = same-false whole stored (λ e.
+        let same : take size stored ++ (take (x .size) made' ++ to-come) ≡ stored = parts ∙ e in
+        n (ap (λ (l : List ℕ). take (x .size) (drop size l)) (sym same)
+        ∙ ap (take (x .size)) (drop-at (take size stored) (take (x .size) made' ++ to-come) size (length-take-le size stored (h .within)))
+        ∙ take-at (take (x .size) made') to-come (x .size) (length-take-le (x .size) made' whole-piece)))
 
-    lent-length : length before ≡ length made - len
-    lent-length = ap length (lent-is ∙ ap (λ (n : ℕ). take n (drop len made)) left-over ∙ rest-whole len made) ∙ length-drop len made
+    -- or they are those of the piece
+    pub reaches : take (x .size) (drop size stored) ≡ take (x .size) made' → size + x .size ≤ length stored
+    reaches e = omega (arith, ap length e, length-take-le (x .size) made' whole-piece, length-take (x .size) (drop size stored), length-drop size stored)
 
-    -- the piece keeps its length
-    pub same-piece : length (take len made ++ (rest-after ++ drop k (drop len made))) ≡ length made
-    same-piece =
-        ap (λ (n : ℕ). length (take len made ++ (rest-after ++ drop n (drop len made)))) left-over
-        ∙ rest-length len made rest-after (same-size made-by ∙ ap length (lent-is ∙ ap (λ (n : ℕ). take n (drop len made)) left-over))
-
-    -- no instant is left: the piece is as it was
-    pub unchanged : x .time ≡ 2 ^ 64 - 1 → take len made ++ (rest-after ++ drop k (drop len made)) ≡ made
-    unchanged e =
-        ap (λ (l : List ℕ). take len made ++ (l ++ drop k (drop len made))) (made-by .ended e .slice-is ∙ lent-is)
-        ∙ ap (λ (l : List ℕ). take len made ++ l) (take-append-drop k (drop len made)) ∙ take-append-drop len made
-
-    pub fits : len + x .size ≤ length made
-    fits = omega (arith, g .room, size-most made-by)
-
-    module _ (some : left ≡ 0 → ⊥) (on : x .time ≡ 2 ^ 64 - 1 → ⊥) where
-      bytes-are : take (len + x .size) (take len made ++ (rest-after ++ drop k (drop len made))) ≡ take len made ++ take (x .size) rest-after
-      bytes-are =
-          let front : length (take len made) ≡ len = length-take-le len made (omega (arith, g .room)) in
-          ap (λ (k : ℕ). take (k + x .size) next) (sym front)
-          ∙ take-append-add (take len made) (rest-after ++ drop k (drop len made)) (x .size)
-          ∙ ap (λ (l : List ℕ). take len made ++ l) (take-append-le (x .size) rest-after (drop k (drop len made)) (omega (arith, same-size made-by, lent-length, fits)))
-
-      abbrev moved : Going s table whole stored false after later (x .registers) (at + x .read) (g .n + x .size) (left - 1) stored
-      moved = moves-to (g .going) made-by some on (λ e. absurd (false≢true e)) (λ e. refl) refl
-
-      clock-is : moves-to (g .going) made-by some on {out′ = stored} (λ e. absurd (false≢true e)) (λ e. refl) refl .clock ≡ At (x .time)
-      clock-is = moves-clock (g .going) made-by some on (λ e. absurd (false≢true e)) (λ e. refl) refl
-
-      abbrev bytes : List ℕ
-      bytes = served-bytes (x .time) (occurred (state-in (memory-in table (g .going .clock) a w) r) (x .time) (released-at (x .time) (releases-at s at)))
-
-      abbrev to-come : List ℕ
-      to-come = run-bytes s (cursor-in (memory-in table (At (x .time)) after later) (x .registers) (at + x .read)) (left - 1)
-
-      front : take (x .size) rest-after ≡ served-bytes (x .time) (occurred (state-in (memory-in table (g .going .clock) a w) r) (x .time) (released-at (x .time) (releases-at s at)))
-      front = made-front (g .going) made-by some on (omega (arith, g .room, lent-length))
-
-      whole-is : take size stored
-          ++ (take (len + x .size) (take len made ++ (rest-after ++ drop k (drop len made)))
-          ++ run-bytes s (cursor-in (memory-in table (At (x .time)) after later) (x .registers) (at + x .read)) (left - 1))
-          ≡ whole
-      whole-is =
-          ap (λ (l : List ℕ). take size stored ++ l)
-          (ap (λ (l : List ℕ). l ++ to-come) (bytes-are ∙ ap (λ (l : List ℕ). take len made ++ l) front)
-          ∙ append-assoc (take len made) bytes to-come ∙ ap (λ (l : List ℕ). take len made ++ l) (sym (splits (g .going) made-by some on)))
-          ∙ g .rest
-
-      -- what was made was held against the record, or is kept
-      module _ (h : Held) (held : Holds stored (take len made ++ (rest-after ++ drop k (drop len made))) size (len + x .size) h) where
-        pub goes-on : h .agrees ≡ true → Holding s table whole stored (take len made ++ (rest-after ++ drop k (drop len made))) after later (x .registers) (at + x .read) (h .size) (h .len) (left - 1)
-        goes-on e = record {
-          n = g .n + x .size;
-          going = moved;
-          rest = ap (λ (k : Clock). take (h .size) stored ++ (take (h .len) next ++ run-bytes s (cursor-in (memory-in table k after later) (x .registers) (at + x .read)) (left - 1))) clock-is
-              ∙ sym (append-assoc (take (h .size) stored) (take (h .len) next) to-come)
-              ∙ ap (λ (l : List ℕ). l ++ to-come) (held .stays e) ∙ append-assoc (take size stored) (take (len + x .size) next) to-come ∙ whole-is;
-          within = held .within e .0;
-          room = held .within e .1;
-        }
-
-        pub stops : h .agrees ≡ false → false ≡ same-bytes whole stored
-        stops e =
-            same-false whole stored
-            (unlike whole stored (take size stored) next _ size (len + x .size) refl (g .within) whole-is (omega (arith, fits, same-piece)) (held .differs e))
+    pub goes-on : take (x .size) (drop size stored) ≡ take (x .size) made' → Holding s whole stored (record { state = state-of (x .state); at = at + x .read }) (size + x .size) (x .left)
+    goes-on e = record {
+      rest = ap (λ (l : List ℕ). l ++ to-come) (sym (take-more size (x .size) stored)) ∙ append-assoc (take size stored) (take (x .size) (drop size stored)) to-come
+          ∙ ap (λ (l : List ℕ). take size stored ++ (l ++ to-come)) e ∙ parts;
+      within = reaches e;
+      served = served-on s at d m (h .served);
+    }
 
 -- ---- an input by what checking it found
 

@@ -6,7 +6,7 @@ use Prim.Native.Nat.{zero, _-_, _^_, _≤_, _<_}
 use native.Mathlib.Omega.{arith}
 use borrow.Author.Tests.{eqb-true, eqb-false, eq-eqb, ne-eqb, leb-true, leb-false}
 use lib.Dec.{eqb, leb}
-use lib.ListN.{length, take, length-append}
+use lib.ListN.{length, take, getD, length-append}
 use lib.Seq.{length-take-le, take-append-seam, getD-append-seam}
 use Rattle.sets.proofs.Laws.{by-test}
 use Rattle.words.specs.Words.{bytesOf}
@@ -21,6 +21,7 @@ use Rattle.rules.specs.Calls.{opened, not-opened, opened-behind, opening}
 use Rattle.rules.specs.Calls as rules
 use Rattle.rules.specs.Registers.{state-in}
 use Rattle.dispatcher.specs.declared.Opening.{Opening}
+use Rattle.dispatcher.specs.declared.Dispatcher.{Dispatcher}
 use Rattle.dispatcher.specs.Dispatcher.{state-of, opening-of}
 use Rattle.guarantees.specs.Types.{Table, TaskPart, State}
 use Rattle.run.specs.Files.{Releases, refusal-of, releases-of}
@@ -70,8 +71,12 @@ opening-is tasks h =
 same-fields : (k : TaskPart) (t : Table) (m e : ℕ) (r : Refusal) → t ≡ k .table → m ≡ k .marked → e ≡ k .end → r ≡ k .refusal → record { table = t; marked = m; end = e; refusal = r } ≡ k
 same-fields k t m e r a b c d = rw (a, b, c, d)
 
+-- the table of a dispatcher where it is kept
+abbrev pub table-of : Dispatcher → Table
+table-of d = record { present = getD (d .sets) 4 0; priority = d .priority; columns = d .columns }
+
 pub opened-part : (tasks : List ℕ) (r : Opening) → opening-of r ≡ opening tasks → r .refusal ≡ NoRefusal
-    → Opened tasks (record { table = r .state .table; marked = r .state .registers .marked; end = length tasks; refusal = r .refusal })
+    → Opened tasks (record { table = table-of (r .state); marked = getD (r .state .sets) 0 0; end = length tasks; refusal = r .refusal })
 unfolding state-in opened
 opened-part tasks r e f =
     let h : opening tasks .refusal ≡ NoRefusal = ap (λ (o : rules.Opening). o .refusal) (sym e) ∙ f in
@@ -80,7 +85,7 @@ opened-part tasks r e f =
     record {
       opens = h;
       is =
-          same-fields (task-part tasks) (r .state .table) (r .state .registers .marked) (length tasks) (r .refusal)
+          same-fields (task-part tasks) (table-of (r .state)) (getD (r .state .sets) 0 0) (length tasks) (r .refusal)
           (ap (λ (d : State). d .table) s) (ap (λ (d : State). d .marked) s) (sym (o .whole)) (f ∙ sym (o .none-refused));
     }
 

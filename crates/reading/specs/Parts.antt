@@ -13,7 +13,6 @@ use Rattle.reading.specs.declared.collect.Decoded.the-variants.{Faulty, 
 use Rattle.reading.specs.declared.collect.Noted.{Noted}
 use Rattle.reading.specs.declared.collect.Collected.{Collected}
 use Rattle.reading.specs.declared.collect.Telling.{Telling}
-use Rattle.reading.specs.declared.replay.Held.{Held}
 use Rattle.reading.specs.Told.{release-of, told, key}
 use Rattle.reading.specs.Reading.{input-of}
 
@@ -86,12 +85,6 @@ pub record Collects (s before : List ℕ) (x : Collected) (after : List ℕ) : T
 pub record Tells (x : Bool) (a b : List ℕ) : Type 0 where
   pub same : x ≡ true → a ≡ b
   pub told : a ≡ b → x ≡ true
-
--- what is made is held against the record, or there is room for another instant's bytes; the two together stay, or they differ
-pub record Holds (stored made : List ℕ) (size len : ℕ) (x : Held) : Type 0 where
-  pub within : x .agrees ≡ true → (x .size ≤ length stored) × (x .len + 371 ≤ length made)
-  pub stays : x .agrees ≡ true → take (x .size) stored ++ take (x .len) made ≡ take size stored ++ take len made
-  pub differs : x .agrees ≡ false → take len (drop size stored) ≡ take len made → ⊥
 
 -- ---- The input that the numbers make
 

@@ -4,7 +4,9 @@ use crate::order::sort;
 use crate::rebuild::rebuild;
 use crate::replay::yields;
 use record::Outcome;
+use rules::at;
 use table::Refusal;
+use table::Table;
 use table::TaskPart;
 ghost use mathlib.Core.Path.{_≡_};
 ghost use Prim.Native.Nat.{_+_, _*_, _≤_};
@@ -139,11 +141,14 @@ fn read_checked(tasks: &[u8], stored: &[u8], out: &mut [u8]) -> Outcome
     match refusal {
         Refusal::NoRefusal => {
             let state = opened.state;
-            let table = state.table;
-            let registers = state.registers;
+            let table = Table {
+                present: state.sets[at::PRESENT],
+                priority: state.priority,
+                columns: state.columns,
+            };
             let part = TaskPart {
                 table,
-                marked: registers.marked,
+                marked: state.sets[at::MARKED],
                 end: tasks.len(),
                 refusal,
             };

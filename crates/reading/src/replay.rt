@@ -8,18 +8,11 @@ ghost use Prim.Native.Nat.{_≤_};
 ghost use lib.Dec.{eqb};
 ghost use lib.ListN.{length, take, drop};
 ghost use Rattle.record.specs.Cursor.{Room, start, run-bytes};
-ghost use Rattle.reading.specs.Parts.{Tells, Holds, ReadPart};
+ghost use Rattle.reading.specs.Parts.{Tells, ReadPart};
 ghost use Rattle.reading.specs.Reading.{same-bytes, yields};
 
 // How many bytes of a run are made before they are held against the record: long pieces are compared faster than what one instant leaves.
-const PIECE: usize = 2048;
-
-// How far a run and a record agree: `size` bytes of the record, and `len` more that are made and not held against it yet.
-pub struct Held {
-    pub size: usize,
-    pub len: usize,
-    pub agrees: bool,
-}
+const PIECE: usize = 4096;
 
 // A branch that stores no more than this is one that a compiler makes of many bytes at once.
 fn alike_with(alike: bool, x: u8, y: u8) -> bool
@@ -57,79 +50,28 @@ fn goes_on_with(stored: &[u8], at: usize, made: &[u8], n: usize) -> bool
     same(&stored[at..end], &made[..n])
 }
 
-// Where there may be no room for another instant's bytes, those that are made are held against the record.
-fn hold(stored: &[u8], made: &[u8], size: usize, len: usize) -> Held
-    requires { ⌜ size ≤ length (now stored) ⌝ }
-    requires { ⌜ len ≤ length (now made) ⌝ }
-    requires { ⌜ 371 ≤ length (now made) ⌝ }
-    ensures { λ r. ⌜ Holds (now (stored .entry)) (now (made .entry)) size len r ⌝ }
-{
-    if run::MOST <= made.len() - len {
-        return Held {
-            size,
-            len,
-            agrees: true,
-        };
-    }
-    if goes_on_with(stored, size, made, len) {
-        return Held {
-            size: size + len,
-            len: 0,
-            agrees: true,
-        };
-    }
-    Held {
-        size,
-        len,
-        agrees: false,
-    }
-}
-
 // Whether the record of a run, of at most `budget` instants, is `stored`.
 fn replays(s: &[u8], part: TaskPart, budget: usize, stored: &[u8]) -> bool
     requires { ⌜ Room (now s) (start part) budget (now stored) false ⌝ }
     ensures { λ r. ⌜ r ≡ same-bytes (run-bytes (now (s .entry)) (start part) budget) (now (stored .entry)) ⌝ }
 {
-    let mut release = [0u64; 32];
-    let mut blocked = [0u8; 32];
-    let mut waiting: u32 = 0;
-    let mut waits = [0u64; 32];
     let mut made = [0u8; PIECE];
-    let mut r = rules::empty(part.marked);
+    let table = part.table;
+    let mut d = dispatcher::opened(table, part.marked);
     let mut at = part.end;
     let mut size: usize = 0;
-    let mut len: usize = 0;
     let mut left = budget;
     while left != 0 {
-        let x = run::advance(
-            &s[at..],
-            r,
-            part.table.present,
-            &part.table.priority,
-            &part.table.columns,
-            &mut release,
-            &mut blocked,
-            &mut waiting,
-            &mut waits,
-            &mut made[len..],
-        );
-        if x.time == u64::MAX {
-            break;
-        }
-        let held = hold(stored, &made, size, len + x.size);
-        if !held.agrees {
+        let x = run::next_piece(&s[at..], d, left, &mut made);
+        if !goes_on_with(stored, size, &made, x.size) {
             return false;
         }
-        r = x.registers;
-        size = held.size;
-        len = held.len;
+        size += x.size;
         at += x.read;
-        left -= 1;
+        left = x.left;
+        d = x.state;
     }
-    if !goes_on_with(stored, size, &made, len) {
-        return false;
-    }
-    size + len == stored.len()
+    size == stored.len()
 }
 
 // Whether an input, of which the task part is read already, is accepted and its run's record is `stored`.

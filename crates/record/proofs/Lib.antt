@@ -1,5 +1,4 @@
 pub mod Running
-pub mod Going
 pub mod Accepted
 pub mod Released
 pub mod Lengths

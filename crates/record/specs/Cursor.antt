@@ -7,9 +7,11 @@ use Rattle.table.specs.TaskPart.{task-part}
 use Rattle.rules.specs.Calls.{opened}
 use Rattle.rules.specs.declared.Call.{Call}
 use Rattle.rules.specs.declared.Call.the-variants.{Instant, Mark}
-use Rattle.record.specs.Types.{Bool, true, false, List, [], _∷_, ℕ, _+_, TaskPart, NoRefusal, State, Occurred}
+use Rattle.record.specs.Types.{Bool, true, false, List, [], _∷_, ℕ, _+_, TaskPart, NoRefusal, State, Piece}
 use Rattle.run.specs.Listed.{releases-at}
-use Rattle.run.specs.Run.{record-bytes, moment-bytes, run, budget}
+use Rattle.run.specs.Run.{record-bytes, run, budget}
+use Rattle.run.specs.Pieces.{most}
+use Rattle.dispatcher.specs.Dispatcher.{state-of}
 use Rattle.record.specs.FileClaim.{Feeds, AllServed}
 
 -- how far a run has come: the state, and the place of the next release
@@ -19,16 +21,8 @@ pub record Cursor : Type 0 where
 
 -- ---- a whole run
 
--- what an instant leaves
-unfoldable pub served-bytes : ℕ → Occurred → List ℕ
-served-bytes t o = moment-bytes (record { time = t; occurred = o })
-
 abbrev pub run-bytes : List ℕ → Cursor → ℕ → List ℕ
 run-bytes s c budget = record-bytes (run budget (c .state) (releases-at s (c .at)))
-
--- the most bytes that one instant leaves: a job done, an interval ended, 32 releases skipped
-abbrev pub most : ℕ
-most = 371
 
 -- where a file's run begins, its task entries read
 abbrev pub start : TaskPart → Cursor
@@ -59,6 +53,34 @@ pub record Ran (s : List ℕ) (c : Cursor) (budget : ℕ) (before : List ℕ) (k
   pub size-is : size ≡ length (run-bytes s c budget)
   pub holds : keep ≡ true → after ≡ laid 0 (run-bytes s c budget) before
   pub unchanged : keep ≡ false → after ≡ before
+
+-- ---- the rest of a run, behind a piece that was made of it, whose `read` is a place of the input
+
+abbrev pub cursor-of : Piece → Cursor
+cursor-of x = record { state = state-of (x .state); at = x .read }
+
+abbrev pub rest-bytes : List ℕ → Piece → List ℕ
+rest-bytes s x = run-bytes s (cursor-of x) (x .left)
+
+pub record RestRoom (s : List ℕ) (x : Piece) (out : List ℕ) (keep : Bool) : Type 0 where
+  pub kept : keep ≡ true → x .size + length (rest-bytes s x) ≤ length out
+  pub few : x .size + most * x .left ≤ most * 131104
+  pub served : Served s (cursor-of x)
+
+pub record RestRan (s : List ℕ) (x : Piece) (before : List ℕ) (keep : Bool) (size : ℕ) (after : List ℕ) : Type 0 where
+  pub size-is : size ≡ x .size + length (rest-bytes s x)
+  pub holds : keep ≡ true → after ≡ laid (x .size) (rest-bytes s x) before
+  pub unchanged : keep ≡ false → after ≡ before
+
+-- the bytes of a piece are put at their place, where they are kept
+abbrev pub RoomAt : List ℕ → List ℕ → ℕ → Bool → Type 0
+RoomAt piece out place keep = keep ≡ true → place + length piece ≤ length out
+
+pub record KeptAt (piece before : List ℕ) (place : ℕ) (keep : Bool) (after : List ℕ) : Type 0 where
+  pub holds : keep ≡ true → after ≡ laid place piece before
+  pub unchanged : keep ≡ false → after ≡ before
+
+-- ---- a file
 
 -- as many instants as no run of the releases from a cursor on needs
 abbrev pub budget-at : List ℕ → Cursor → ℕ

@@ -1,50 +1,79 @@
 // A file's record, written into a lent slice.
 use crate::Outcome;
 use entries::RELEASE_SIZE;
+use run::Piece;
 use table::Refusal;
 use table::TaskPart;
 ghost use mathlib.Core.Path.{_≡_};
 ghost use Rattle.record.specs.Writing.{Wrote, written, file};
 ghost use Rattle.record.specs.FileClaim.{WroteWithClaim};
-ghost use Rattle.record.specs.Cursor.{Ran, Room, Runs, start, run-bytes, budget-at};
+ghost use Rattle.record.specs.Cursor.{Ran, Room, Runs, RoomAt, KeptAt, RestRoom, RestRan, start, run-bytes, budget-at};
 
-// The instants of a run, at most `budget` of them. With `keep` each one's entries are put behind those before; without, there is no
-// room for any, and only the record's length counts.
+// How many bytes of a run are made at a time where they are not made in their place.
+const SCRATCH: usize = 1024;
+
+// Where the record is kept, the bytes of a piece are copied to their place.
+fn keep_piece(piece: &[u8], out: &mut [u8], place: usize, keep: bool)
+    requires { ⌜ RoomAt (now piece) (now out) place keep ⌝ }
+    ensures { λ _. ⌜ KeptAt (now (piece .entry)) (now (out .entry)) place keep (now (out .exit)) ⌝ }
+{
+    if keep {
+        bytes::copy(piece, &mut out[place..]);
+    }
+}
+
+// The rest of a run, behind the piece `from` that was made of it: the length of the whole record. With `keep` the bytes of the rest are put
+// behind those before; without, nothing is put, and only the length counts. They are made in a scratch: where a slice has room for the
+// record and no more, its last instants are not made in it.
+fn go_on(s: &[u8], from: Piece, out: &mut [u8], keep: bool) -> usize
+    requires { ⌜ RestRoom (now s) from (now out) keep ⌝ }
+    ensures { λ r. ⌜ RestRan (now (s .entry)) from (now (out .entry)) keep r (now (out .exit)) ⌝ }
+{
+    let mut scratch = [0u8; SCRATCH];
+    let mut d = from.state;
+    let mut at = from.read;
+    let mut size = from.size;
+    let mut left = from.left;
+    while left != 0 {
+        let x = run::next_piece(&s[at..], d, left, &mut scratch);
+        let n = x.size;
+        keep_piece(&scratch[..n], out, size, keep);
+        size += n;
+        at += x.read;
+        left = x.left;
+        d = x.state;
+    }
+    size
+}
+
+// The instants of a run, at most `budget` of them: with `keep` in the slice itself, as far as there is room for whole instants.
 fn run_over(s: &[u8], part: TaskPart, budget: usize, out: &mut [u8], keep: bool) -> usize
     requires { ⌜ Room (now s) (start part) budget (now out) keep ⌝ }
     ensures { λ r. ⌜ Ran (now (s .entry)) (start part) budget (now (out .entry)) keep r (now (out .exit)) ⌝ }
 {
-    let mut release = [0u64; 32];
-    let mut blocked = [0u8; 32];
-    let mut waiting: u32 = 0;
-    let mut waits = [0u64; 32];
-    let mut r = rules::empty(part.marked);
-    let mut at = part.end;
-    let mut size: usize = 0;
-    let mut left = budget;
-    while left != 0 {
-        let place = if keep { size } else { out.len() };
-        let x = run::advance(
-            &s[at..],
-            r,
-            part.table.present,
-            &part.table.priority,
-            &part.table.columns,
-            &mut release,
-            &mut blocked,
-            &mut waiting,
-            &mut waits,
-            &mut out[place..],
+    let table = part.table;
+    let read = part.end;
+    let state = dispatcher::opened(table, part.marked);
+    if keep {
+        let x = run::next_piece(&s[read..], state, budget, out);
+        return go_on(
+            s,
+            Piece {
+                read: read + x.read,
+                ..x
+            },
+            out,
+            keep,
         );
-        if x.time == u64::MAX {
-            break;
-        }
-        r = x.registers;
-        size += x.size;
-        at += x.read;
-        left -= 1;
     }
-    size
+    let from = Piece {
+        state,
+        read,
+        size: 0,
+        left: budget,
+        ended: false,
+    };
+    go_on(s, from, out, keep)
 }
 
 // The record of a run, in a slice that is long enough, or the length needed. A record of n releases is at most 99 * n bytes long:

@@ -10,8 +10,8 @@ use Rattle.sets.proofs.Laws.{by-test, both, left, right, clash, none, ext, coll
 use Rattle.rules.specs.Order.{priority, higher-than, higher}
 use Rattle.rules.specs.Instant.{over, is-over, processor-task, awaiting-execution, blocks}
 use Rattle.rules.specs.Blocking.{executed-in, blockable, CanBlock}
-use Rattle.rules.specs.Registers.{copyin-in, processor-in, interval-in, phase-in, Memory, state-in}
-use Rattle.rules.specs.Steps.{executed-at-end, BlockableIn, blocks-at-end}
+use Rattle.rules.specs.Registers.{as-processor, copyin-in, processor-in, interval-in, phase-in, Memory, state-in}
+use Rattle.rules.specs.Steps.{BlockableIn}
 use Rattle.rules.proofs.Parts.{executes}
 use Rattle.rules.proofs.ClosingTest.{open-in}
 
@@ -60,11 +60,6 @@ is-blockable d small e = record { is = e; exactly = λ k. subst (λ (y : ℕ). (
 
 -- ---- over the registers
 
-executed-none : (p : Phase) → is-over p ≡ false → executed-in p ≡ NoTask
-unfolding is-over
-executed-none (Between next outgoing) h = refl
-executed-none (Within i) h = ap (λ (b : Bool). cond b (processor-task (i .processor)) NoTask) h
-
 executed-is : (r : Registers) → is-over (phase-in r) ≡ true → executed-in (phase-in r) ≡ processor-task (processor-in r)
 unfolding is-over interval-in
 executed-is r h =
@@ -78,32 +73,7 @@ module _ (m : Memory) (r : Registers) where
   executed-task : eqb (r .processor) 0 ≡ false → processor-task (processor-in r) ≡ Task (r .task)
   executed-task e = sym (executes (r .processor) (r .task) (r .start) (r .until) e)
 
-  -- none is executed at an interval's end
-  not-executed : executed-at-end r ≡ false → executed-in (phase-in r) ≡ NoTask
-  not-executed h =
-      by-test (is-over (phase-in r))
-      (λ o. by-test (eqb (r .processor) 0) (λ e. executed-is r o ∙ idle-task e) (λ e. clash (is-over (phase-in r)) o (rw e at h)))
-      (λ o. executed-none (phase-in r) o)
-
-  -- or one is
-  executed-so : executed-at-end r ≡ true → (eqb (r .processor) 0 ≡ false) × (is-over (phase-in r) ≡ true)
-  executed-so h = by-test (eqb (r .processor) 0) (λ e. absurd (false≢true (rw e at h))) (λ e. (e, rw e at h))
-
-  pub none-blockable : executed-at-end r ≡ false → 0 ≡ blockable (state-in m r)
-  unfolding blockable state-in
-  none-blockable h = sym (ap (λ (q : MaybeTask). higher (state-in m r) q (m .table .present)) (not-executed h))
-
-  pub some-blockable : {present : ℕ} {ranks : List ℕ} → executed-at-end r ≡ true → m .table .present ≡ present → m .table .priority ≡ ranks
-      → blockable (state-in m r) ≡ higher-than ranks (r .task) present
-  unfolding blockable state-in
-  some-blockable h t p =
-      ap (λ (q : MaybeTask). higher (state-in m r) q (m .table .present)) (executed-is r (executed-so h .1) ∙ executed-task (executed-so h .0)) ∙ rw (t, p)
-
   -- the jobs that it blocks
-
-  either-way : (b : Bool) (x : ℕ) → x ≡ 0 → 0 ≡ cond b x 0
-  either-way true x e = sym e
-  either-way false x e = refl
 
   nobody : (q : MaybeTask) → higher (state-in m r) q 0 ≡ 0
   unfolding higher-than
@@ -112,27 +82,52 @@ module _ (m : Memory) (r : Registers) where
       let p : ℕ → Bool = λ k. member k 0 && ltb (priority (state-in m r) k) (priority (state-in m r) n) in
       empty (higher-than (state-in m r .table .priority) n 0) (collect-small p) (λ k l. collected p k l ∙ ap (λ (b : Bool). b && ltb (priority (state-in m r) k) (priority (state-in m r) n)) (none k))
 
-  pub none-waits : {waiting : ℕ} → waiting ≡ awaiting-execution (copyin-in r) (r .ready) → waiting ≡ 0 → 0 ≡ blocks-at-end (state-in m r) r
-  unfolding blocks interval-in state-in
-  none-waits w e =
-      either-way (is-over (phase-in r)) (blocks (state-in m r) (interval-in r))
-      (ap (higher (state-in m r) (processor-task (processor-in r))) (sym w ∙ e) ∙ nobody (processor-task (processor-in r)))
+-- ---- at an interval's end, by what its processor did
 
-  pub none-at-end : executed-at-end r ≡ false → 0 ≡ blocks-at-end (state-in m r) r
-  unfolding blocks interval-in state-in
-  none-at-end h =
-      by-test (eqb (r .processor) 0)
-      (λ e.
-      either-way (is-over (phase-in r)) (blocks (state-in m r) (interval-in r))
-      (ap (λ (q : MaybeTask). higher (state-in m r) q (awaiting-execution (copyin-in r) (r .ready))) (idle-task e)))
-      (λ e. sym (ap (λ (b : Bool). cond b (blocks (state-in m r) (interval-in r)) 0) (rw e at h)))
+module _ (d : State) (i : Interval) (kind n present start until : ℕ)
+    (p : d .phase ≡ Within i) (e : over i ≡ true) (q : i .processor ≡ as-processor kind n start until) where
+  executed-there : executed-in (d .phase) ≡ processor-task (as-processor kind n start until)
+  executed-there =
+      ap executed-in p ∙ ap (λ (b : Bool). cond b (processor-task (i .processor)) NoTask) e ∙ ap processor-task q
 
-  pub some-at-end : {x waiting : ℕ} {ranks : List ℕ} → executed-at-end r ≡ true → m .table .priority ≡ ranks
-      → waiting ≡ awaiting-execution (copyin-in r) (r .ready) → x ≡ higher-than ranks (r .task) waiting → x ≡ blocks-at-end (state-in m r) r
+  small-there : d .table .present ≡ present → present < 2 ^ 32 → d .table .present < 2 ^ 32
+  small-there t l = subst (λ (x : ℕ). x < 2 ^ 32) (sym t) l
+
+  pub idled-blocks : eqb kind 0 ≡ true → d .table .present ≡ present → present < 2 ^ 32 → BlockableIn d 0
+  unfolding blockable
+  idled-blocks k t l =
+      is-blockable d (small-there t l)
+      (sym (ap (λ (x : MaybeTask). higher d x (d .table .present)) (executed-there ∙ idled)))
+    where
+      idled : processor-task (as-processor kind n start until) ≡ NoTask
+      idled = simp k
+
+  pub executed-blocks : {x : ℕ} {ranks : List ℕ} → eqb kind 0 ≡ false → d .table .present ≡ present → present < 2 ^ 32 → d .table .priority ≡ ranks
+      → x ≡ higher-than ranks n present → BlockableIn d x
+  unfolding blockable
+  executed-blocks k t l r h =
+      is-blockable d (small-there t l)
+      (h ∙ sym (ap (λ (x : MaybeTask). higher d x (d .table .present)) (executed-there ∙ sym (executes kind n start until k)) ∙ rw (t, r)))
+
+module _ (m : Memory) (r : Registers) where
+  pub none-idle : eqb (r .processor) 0 ≡ true → 0 ≡ blocks (state-in m r) (interval-in r)
   unfolding blocks interval-in state-in
-  some-at-end h p w e =
-      e ∙ sym (ap (λ (b : Bool). cond b (blocks (state-in m r) (interval-in r)) 0) (executed-so h .1)
-      ∙ ap (λ (q : MaybeTask). higher (state-in m r) q (awaiting-execution (copyin-in r) (r .ready))) (executed-task (executed-so h .0)) ∙ rw (p, w))
+  none-idle e = sym (ap (λ (q : MaybeTask). higher (state-in m r) q (awaiting-execution (copyin-in r) (r .ready))) (idle-task m r e))
+
+  pub none-wait : {waiting : ℕ} → waiting ≡ awaiting-execution (copyin-in r) (r .ready) → waiting ≡ 0 → 0 ≡ blocks (state-in m r) (interval-in r)
+  unfolding blocks interval-in state-in
+  none-wait w e = sym (ap (higher (state-in m r) (processor-task (processor-in r))) (sym w ∙ e) ∙ nobody m r (processor-task (processor-in r)))
+
+  pub some-blocks : {x waiting : ℕ} → eqb (r .processor) 0 ≡ false → waiting ≡ awaiting-execution (copyin-in r) (r .ready)
+      → x ≡ higher-than (m .table .priority) (r .task) waiting → x ≡ blocks (state-in m r) (interval-in r)
+  unfolding blocks interval-in state-in
+  some-blocks f w e =
+      e ∙ sym (ap (λ (q : MaybeTask). higher (state-in m r) q (awaiting-execution (copyin-in r) (r .ready))) (executed-task m r f) ∙ rw w)
+
+  pub set-is : is-over (phase-in r) ≡ true → eqb (r .processor) 0 ≡ false
+      → blockable (state-in m r) ≡ higher-than (m .table .priority) (r .task) (m .table .present)
+  unfolding blockable state-in
+  set-is h f = ap (λ (q : MaybeTask). higher (state-in m r) q (m .table .present)) (executed-is r h ∙ executed-task m r f)
 
 -- ---- jobs of tasks in the table, and others
 

@@ -16,11 +16,6 @@ unfolding step-b close-stage
 keeps-done s t (Between next outgoing) = refl
 keeps-done s t (Within i) = by-test (over i) (λ e. rw e) (λ e. rw e)
 
--- the releases of an instant are taken before the choice is made
-pub chosen-after : {x e : State} (d : State) (t new late : ℕ) → x ≡ steps-c-d d t new late → e ≡ step-e x t (x .phase) → e ≡ steps-c-to-e d t new late
-unfolding steps-c-to-e
-chosen-after d t new late p q = rw (q, p)
-
 -- ---- the state after steps b, f and g
 
 pub record Steps (d : State) (t set new late held : ℕ) (b f g : State) : Type 0 where

@@ -1,13 +1,30 @@
 -- The registers with some of them others, read back.
-use Rattle.rules.specs.Types.{Bool, true, false, cond, ℕ, _-_, _≡_, refl, _∙_, MaybeTask, Processor, CopyOut, CopyIn, Cancelled, Within, Registers}
+use Rattle.rules.specs.Types.{Bool, true, false, cond, List, ℕ, WaitingReleases, _-_, _≡_, refl, _∙_, MaybeTask, Processor, CopyOut, CopyIn, Cancelled, Within, Registers}
 use borrow.Author.Tests.{eq-eqb, ne-eqb}
 use lib.Dec.{eqb}
-use Rattle.sets.specs.Sets.{union, intersection, insert}
+use Rattle.sets.specs.Sets.{union, intersection, difference, insert}
 use Rattle.sets.proofs.Laws.{by-test}
-use Rattle.rules.specs.Instant.{processor-at, copyout-at, copyin-at, ended, completed, after-done, without-done, step-a, resting, settled, processor-task, copyout-task, copyin-task, copyin-fate, without-promoted, next-of, awaiting-copyout, stamped, with-candidates, step-c, cancel, work-of, begin-processor, begin-copyout, begin, is-over, closed-with, entry-with}
-use Rattle.rules.specs.Registers.{as-task, as-processor, as-copyout, as-next, as-outgoing, processor-in, copyout-in, copyin-in, interval-in, phase-in, Memory, state-in}
-use Rattle.rules.specs.Steps.{CopyInAt, GivenWay, taken-memory}
+use Rattle.rules.specs.Instant.{processor-at, copyout-at, copyin-at, ended, completed, after-done, without-done, step-a, resting, settled, processor-task, copyout-task, copyin-task, copyin-fate, without-promoted, next-of, awaiting-copyout, original, stamped, with-candidates, step-c, cancel, work-of, begin-processor, begin-copyout, begin, is-over, closed-with, entry-with}
+use Rattle.rules.specs.Registers.{Arrays, arrays, waits, as-task, as-processor, as-copyout, as-next, as-outgoing, processor-in, copyout-in, copyin-in, interval-in, phase-in, Memory, state-in}
+use Rattle.rules.specs.Steps.{CopyInAt, GivenWay}
 use Rattle.rules.proofs.Parts.{not-copying-out}
+
+-- ---- what the releases leave beside the numbers
+
+-- with other arrays and waiting releases
+abbrev pub with-kept : Memory → Arrays → WaitingReleases → Memory
+with-kept m a w = record { table = m .table; clock = m .clock; arrays = a; waiting = w }
+
+-- the arrays after the releases of a set at a time are taken
+abbrev pub taken-arrays : ℕ → ℕ → WaitingReleases → Arrays → Arrays
+taken-arrays new t w a = arrays (stamped new (original w t) 0 (a .release)) (stamped new (λ k. 0) 0 (a .blocked))
+
+-- and the waiting releases after that, with those of another set that wait from now on
+abbrev pub waits-after : ℕ → ℕ → ℕ → WaitingReleases → WaitingReleases
+waits-after new late t w = waits (union (difference (w .tasks) new) late) (stamped late (λ k. t) 0 (w .times))
+
+abbrev pub taken-memory : ℕ → ℕ → ℕ → Memory → Memory
+taken-memory new late t m = with-kept m (taken-arrays new t (m .waiting) (m .arrays)) (waits-after new late t (m .waiting))
 
 -- an open interval, by its units
 pub opened-with : (m : Memory) (r : Registers) (p : Processor) (o : CopyOut) (i : CopyIn)

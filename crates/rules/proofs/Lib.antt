@@ -8,3 +8,7 @@ pub mod Blocked
 pub mod Ticks
 pub mod Numbers
 pub mod Cut
+pub mod Releases
+pub mod Kept
+pub mod Instants
+pub mod Views

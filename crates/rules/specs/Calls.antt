@@ -29,7 +29,7 @@ opened table marked = record {
   table = table;
   marked = marked;
   clock = Unset;
-  half = 1;
+  half = 2;
   jobs = record { pending = 0; ready = 0; release = replicate 32 0; blocked = replicate 32 0 };
   waiting = record { tasks = 0; times = replicate 32 0 };
   phase = Between NoneNext NoneOutgoing;

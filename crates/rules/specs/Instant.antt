@@ -1,5 +1,5 @@
 -- What happens at one instant, steps a to g, in this order. Where it applies a definition names its rule of R1 to R6.
-use Rattle.rules.specs.Types.{Bool, true, false, cond, not, _&&_, List, [], _∷_, ℕ, suc, _+_, _-_, min, Table, Jobs, WaitingReleases, MaybeTask, NoTask, Task, Processor, Idle, CopyingIn, Executing, Finished, CopyOut, NoCopyOut, CopyingOut, CopiedOut, CopyIn, Unchosen, NoneChosen, Copying, Loaded, Cancelled, Interval, Next, NoneNext, LoadedNext, PromotedNext, Outgoing, NoneOutgoing, AwaitsCopyOut, Phase, Between, Within, State, JobEntry, IntervalEntry, Done, NoJob, Job, Closed, NoInterval, Span, Closing, Unclosed, BeforeReleases, AfterReleases, Due, Never, Tick, Occurred, Stage}
+use Rattle.rules.specs.Types.{Bool, true, false, cond, not, _&&_, List, [], _∷_, ℕ, suc, _+_, _-_, min, Table, Jobs, WaitingReleases, MaybeTask, NoTask, Task, Processor, Idle, CopyingIn, Executing, Finished, CopyOut, NoCopyOut, CopyingOut, CopiedOut, CopyIn, Unchosen, NoneChosen, Copying, Loaded, Cancelled, Interval, Next, NoneNext, LoadedNext, PromotedNext, Outgoing, NoneOutgoing, AwaitsCopyOut, Phase, Between, Within, State, JobEntry, IntervalEntry, Done, NoJob, Job, Closed, NoInterval, Span, Closing, Unclosed, BeforeReleases, AfterReleases, Due, Never, Tick, Occurred, Stage, ReleaseFates}
 use lib.Dec.{eqb}
 use lib.ListN.{getD}
 use Rattle.table.specs.Table.{copyin-length, execution-length, copyout-length}
@@ -211,29 +211,39 @@ step-b s t (Within i) = close-stage s t i (over i)
 -- ---- c. The releases of this instant are taken, wait or are skipped. Those that are taken belong to the open interval, else to the one that
 -- step g begins.
 
--- "At the instant its job completes, step c takes the waiting one before that instant's own releases": a waiting release of a task with
--- no pending job any more
-abbrev pub resumed : State → ℕ
-resumed d = difference (d .waiting .tasks) (d .jobs .pending)
+-- By the tasks with a pending job and those with a waiting release. "At the instant its job completes, step c takes the waiting one before that
+-- instant's own releases": a waiting release of a task with no pending job any more
+abbrev pub resumed : ℕ → ℕ → ℕ
+resumed pending waiting = difference waiting pending
 
 -- what the instant's own releases then find: the tasks with a pending job, and those with a release that goes on waiting
-abbrev pub found-pending : State → ℕ
-found-pending d = union (d .jobs .pending) (resumed d)
+abbrev pub found-pending : ℕ → ℕ → ℕ
+found-pending pending waiting = union pending (resumed pending waiting)
 
-abbrev pub found-waiting : State → ℕ
-found-waiting d = difference (d .waiting .tasks) (resumed d)
+abbrev pub found-waiting : ℕ → ℕ → ℕ
+found-waiting pending waiting = difference waiting (resumed pending waiting)
 
--- one of a task with no pending job is taken,
+-- one of a task with no pending job is taken; one of a task with a pending job waits if none waits; and "only a release that finds one waiting
+-- is skipped, so a release at the instant of taking waits in its turn"
+unfoldable pub released : ℕ → ℕ → ℕ → ReleaseFates
+released pending waiting set = record {
+  taken = union (resumed pending waiting) (difference set (found-pending pending waiting));
+  deferred = difference (intersection set (found-pending pending waiting)) (found-waiting pending waiting);
+  skipped = intersection set (found-waiting pending waiting);
+}
+
+-- the same of a state
 unfoldable pub taken : State → ℕ → ℕ
-taken d set = union (resumed d) (difference set (found-pending d))
+unfolding released
+taken d set = released (d .jobs .pending) (d .waiting .tasks) set .taken
 
--- one of a task with a pending job waits if none waits,
 unfoldable pub deferred : State → ℕ → ℕ
-deferred d set = difference (intersection set (found-pending d)) (found-waiting d)
+unfolding released
+deferred d set = released (d .jobs .pending) (d .waiting .tasks) set .deferred
 
--- and "only a release that finds one waiting is skipped, so a release at the instant of taking waits in its turn"
 unfoldable pub skipped : State → ℕ → ℕ
-skipped d set = intersection set (found-waiting d)
+unfolding released
+skipped d set = released (d .jobs .pending) (d .waiting .tasks) set .skipped
 
 -- the value of f for each task of a set, from task k on
 unfoldable pub stamped : ℕ → (ℕ → ℕ) → ℕ → List ℕ → List ℕ

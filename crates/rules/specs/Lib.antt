@@ -1,11 +1,14 @@
 pub mod State
+pub mod Named
 pub mod Types
 pub mod With
 pub mod Order
 pub mod Instant
 pub mod Blocking
 pub mod Registers
+pub mod Kept
 pub mod Calls
 pub mod Cut
-pub mod Steps
 pub mod Answers
+pub mod View
+pub mod Steps

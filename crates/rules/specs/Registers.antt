@@ -1,8 +1,6 @@
--- The state as the code has it: numbers that go by value (`Registers`) beside memory that is lent (`Memory`). Read back, they are the
--- state that the rules speak of.
-use Rattle.rules.specs.Types.{Bool, cond, _||_, List, ℕ, _-_, Table, Clock, Unset, At, MaybeTask, NoTask, Task, Processor, Idle, CopyingIn, Executing, Finished, CopyOut, NoCopyOut, CopyingOut, CopiedOut, CopyIn, Unchosen, NoneChosen, Copying, Loaded, Cancelled, Interval, Next, NoneNext, LoadedNext, PromotedNext, Outgoing, NoneOutgoing, AwaitsCopyOut, Phase, Between, Within, State, WaitingReleases, Registers}
+-- The numbers of a dispatcher by name (specs/Named), and what stands beside them, read back as the state that the rules speak of.
+use Rattle.rules.specs.Types.{Bool, cond, _||_, List, ℕ, _-_, Table, Clock, MaybeTask, NoTask, Task, Processor, Idle, CopyingIn, Executing, Finished, CopyOut, NoCopyOut, CopyingOut, CopiedOut, CopyIn, Unchosen, NoneChosen, Copying, Loaded, Cancelled, Interval, Next, NoneNext, LoadedNext, PromotedNext, Outgoing, NoneOutgoing, AwaitsCopyOut, Phase, Between, Within, State, WaitingReleases, Registers}
 use lib.Dec.{eqb, ltb}
-use lib.ListN.{replicate}
 
 -- 32 and more stand for no task
 abbrev pub as-task : ℕ → MaybeTask
@@ -90,24 +88,6 @@ pub record Memory : Type 0 where
 
 abbrev pub waits : ℕ → List ℕ → WaitingReleases
 waits tasks times = record { tasks = tasks; times = times }
-
-abbrev pub with-arrays : Memory → Arrays → Memory
-with-arrays m a = record { table = m .table; clock = m .clock; arrays = a; waiting = m .waiting }
-
--- with other waiting releases too
-abbrev pub with-kept : Memory → Arrays → WaitingReleases → Memory
-with-kept m a w = record { table = m .table; clock = m .clock; arrays = a; waiting = w }
-
--- with other counts alone
-abbrev pub with-counts : Memory → List ℕ → Memory
-with-counts m blocked = with-arrays m (arrays (m .arrays .release) blocked)
-
-abbrev pub at-tick : Memory → ℕ → Memory
-at-tick m t = record { table = m .table; clock = At t; arrays = m .arrays; waiting = m .waiting }
-
--- at opening: 0 for each task, and none waits
-abbrev pub first-memory : Table → Memory
-first-memory table = record { table = table; clock = Unset; arrays = arrays (replicate 32 0) (replicate 32 0); waiting = waits 0 (replicate 32 0) }
 
 -- ---- The state
 

@@ -2,9 +2,13 @@
 use mathlib.Core.List.{List}
 use Prim.Native.Nat.{ℕ}
 use Rattle.table.specs.declared.Table.{Table}
-use Rattle.rules.specs.declared.Clock.{Clock}
 use Rattle.rules.specs.declared.Done.{Done}
-use Rattle.rules.specs.declared.Closed.{Closed}
+use Rattle.entries.specs.declared.IntervalEntry.{IntervalEntry}
+
+-- the time of the last instant
+pub data Clock : Type 0 where
+  Unset : Clock
+  At : (time : ℕ) → Clock
 
 -- the jobs by task number: a release that was taken is pending until its copy-out ends, and ready while pending with no copy-in
 -- under way, done or promoted
@@ -66,7 +70,7 @@ pub data Phase : Type 0 where
   Between : (next : Next) (outgoing : Outgoing) → Phase
   Within : Interval → Phase
 
--- `half` is the processor's half in the open or the last interval
+-- `half` is the processor's half in the open or the last interval, and 2 before the first, which swaps to 0
 pub record State : Type 0 where
   pub table : Table
   pub marked : ℕ
@@ -75,6 +79,11 @@ pub record State : Type 0 where
   pub jobs : Jobs
   pub waiting : WaitingReleases
   pub phase : Phase
+
+-- the interval that ended, if one did
+pub data Closed : Type 0 where
+  NoInterval : Closed
+  Span : IntervalEntry → Closed
 
 -- within an instant: the state after some of the steps, with what they did
 pub record Stage : Type 0 where

@@ -1,41 +1,77 @@
--- What each function over the registers promises: read back, its outcome is that of the rules, whatever stands in the memory that it is
--- not handed.
-use Rattle.rules.specs.Types.{Bool, true, false, cond, List, ℕ, _-_, _^_, _≤_, _≡_, _⊎_, Table, WaitingReleases, MaybeTask, Cancelled, State, Done, Closed, Due, Never, Tick, Stage, Registers, Unit}
+-- What each step over lent arrays promises: the rules' step of the state that was read before, whatever stands in the arrays that it is not lent.
+use Rattle.rules.specs.Types.{Bool, true, false, cond, List, ℕ, _-_, _^_, _<_, _≤_, _≡_, _⊎_, MaybeTask, Table, Cancelled, Interval, Within, Next, Outgoing, State, Stage, Closed, Job, Due, Never, Tick, JobEntry, IntervalEntry, View}
 use mathlib.Core.Logic.{_↔_}
 use lib.Dec.{eqb}
-use Rattle.sets.specs.Sets.{member, union, difference}
+use lib.ListN.{getD, set}
+use Rattle.sets.specs.Sets.{member}
+use Rattle.entries.specs.Entries.{task-byte}
+use Rattle.rules.specs.With.{at-clock}
 use Rattle.rules.specs.Order.{outranks}
-use Rattle.rules.specs.Instant.{processor-at, copyin-at, step-a, resting, settled, is-over, blocks, promoted, processor-task, copyout-task, copyin-task, copyin-fate, without-promoted, next-of, awaiting-copyout, counted, closed-with, original, stamped, step-c, step-d, steps-c-d, step-e, begin-processor, begin-copyout, begin, step-g, processor-due, copyout-due, copyin-due}
 use Rattle.rules.specs.Blocking.{blockable, CanBlock}
-use Rattle.rules.specs.Calls.{opened}
-use Rattle.rules.specs.Registers.{as-task, as-processor, as-copyout, as-copyin, as-next, as-outgoing, copyin-in, interval-in, phase-in, Arrays, arrays, Memory, waits, with-arrays, with-kept, first-memory, state-in}
+use Rattle.rules.specs.Instant.{copyin-at, settled, processor-task, copyout-task, copyin-task, copyin-fate, is-over, promoted, resting, awaiting-execution, over, blocks, counted, without-promoted, next-of, awaiting-copyout, processor-at, step-a, step-d, steps-c-d, step-e, begin, step-g, closed-with, entry-with, begin-processor, work-of, wanted, held-over, sooner, copyout-due, copyin-due, due}
+use Rattle.rules.specs.Registers.{as-task, as-next, as-outgoing, as-processor, as-copyout, as-copyin, processor-in, copyin-in, interval-in, phase-in}
+use Rattle.rules.specs.View.{on-processor, processor-until, viewed}
+use Rattle.rules.specs.Kept.{Kept, kept, Whole, ByTask, by-task, Beside, beside, registers-in, read, Becomes, Step, StepAlone, copyout-ends}
 
 -- ---- Order
 
 abbrev pub Outranks : List ℕ → ℕ → ℕ → Bool → Type 0
 Outranks priority by n x = (d : State) → d .table .priority ≡ priority → x ≡ outranks d n (as-task by)
 
+-- ---- The instant's time
+
+abbrev pub TimedAt : ℕ → List ℕ → List ℕ → List ℕ → List ℕ → List ℕ → Type 0
+TimedAt t sets times codes times' codes' =
+    (b : Beside) → Becomes (λ d. at-clock d t) (kept times sets codes) b (kept times' sets codes') b
+
 -- ---- a
 
-abbrev pub ProcessorAt : List ℕ → ℕ → Unit → Unit → Type 0
-ProcessorAt columns t p x =
-    (table : Table) → table .columns ≡ columns
-    → as-processor (x .kind) (x .task) (x .start) (x .until) ≡ processor-at table t (as-processor (p .kind) (p .task) (p .start) (p .until))
+-- the job whose copy-out ends now
+abbrev pub CompletedJob : ℕ → List ℕ → List ℕ → List ℕ → List ℕ → JobEntry → Type 0
+CompletedJob t times codes release blocked x =
+    (sets priority columns waits : List ℕ) → copyout-ends t times codes ≡ true
+    → let d : State = read (kept times sets codes) (beside priority columns (by-task release blocked waits)) in Job x ≡ step-a d t (d .phase) .done
 
--- and an open interval stays open
+-- step a of what is left once its job is no longer pending is that of what was there
+pub record CopiesOut (t : ℕ) (k k' : Kept) (b : Beside) : Type 0 where
+  pub whole : Whole k'
+  pub no-more : copyout-ends t (k' .times) (k' .codes) ≡ false
+  pub state : step-a (read k' b) t (read k' b .phase) .state ≡ step-a (read k b) t (read k b .phase) .state
+
+abbrev pub CopiedOutAt : List ℕ → List ℕ → List ℕ → List ℕ → Type 0
+CopiedOutAt sets codes sets' codes' =
+    (t : ℕ) (times : List ℕ) (b : Beside) → Whole (kept times sets codes) → copyout-ends t times codes ≡ true
+    → CopiesOut t (kept times sets codes) (kept times sets' codes') b
+
+-- the copy-in after its end, if it ends now; an open interval stays open
 pub record CopyInAt (kind until t x : ℕ) : Type 0 where
   pub is : (n : ℕ) → as-copyin x n until ≡ copyin-at t (as-copyin kind n until)
   pub stays : eqb x 6 ≡ eqb kind 6
 
-abbrev pub Completed : Registers → ℕ → Arrays → Done → Type 0
-Completed r t a x = (m : Memory) → x ≡ step-a (state-in (with-arrays m a) r) t (phase-in r) .done
+-- the copy-in is set to another kind
+pub record CopyInSet (t : ℕ) (times codes codes' : List ℕ) : Type 0 where
+  pub choice : ℕ
+  pub codes-are : codes' ≡ set codes 6 choice
+  pub is : CopyInAt (getD codes 6 0) (getD times 5 0) t choice
 
-abbrev pub Ended : Registers → ℕ → List ℕ → Registers → Type 0
-Ended r t columns x =
-    (m : Memory) → m .table .columns ≡ columns
-    → state-in m x ≡ step-a (state-in m r) t (phase-in r) .state
+-- and the processor
+pub record ProcessorTo (t : ℕ) (columns times codes times' codes' : List ℕ) : Type 0 where
+  pub kind : ℕ
+  pub start : ℕ
+  pub until : ℕ
+  pub times-are : times' ≡ set (set times 1 start) 2 until
+  pub codes-are : codes' ≡ set codes 2 kind
+  pub is : (table : Table) → table .columns ≡ columns
+      → as-processor kind (getD codes 3 0) start until
+      ≡ processor-at table t (as-processor (getD codes 2 0) (getD codes 3 0) (getD times 1 0) (getD times 2 0))
 
--- ---- b
+-- where no copy-out ends now
+abbrev pub OthersEndAt : ℕ → List ℕ → List ℕ → List ℕ → List ℕ → List ℕ → Type 0
+OthersEndAt t columns times codes times' codes' =
+    (priority sets : List ℕ) → copyout-ends t times codes ≡ false
+    → Step (λ d. step-a d t (d .phase) .state) priority columns (kept times sets codes) (kept times' sets codes')
+
+-- ---- b and f: whether the interval is at its end; and at its end, the job that is promoted and what is recorded
 
 abbrev pub Resting : ℕ → Bool → Type 0
 Resting kind x = (n start until : ℕ) → x ≡ resting (as-processor kind n start until)
@@ -43,35 +79,15 @@ Resting kind x = (n start until : ℕ) → x ≡ resting (as-processor kind n st
 abbrev pub Settled : ℕ → Bool → Type 0
 Settled kind x = (n until : ℕ) → x ≡ settled (as-copyin kind n until)
 
--- an interval is at its end whose processor, which is not idle, executed a job
-abbrev pub executed-at-end : Registers → Bool
-executed-at-end r = cond (eqb (r .processor) 0) false (is-over (phase-in r))
+abbrev pub OverAt : List ℕ → Bool → Type 0
+OverAt codes x = (times sets : List ℕ) → x ≡ is-over (phase-in (registers-in (kept times sets codes)))
 
--- the set of tasks that the interval can block: as it is defined, and in words
-pub record BlockableIn (d : State) (x : ℕ) : Type 0 where
-  pub is : x ≡ blockable d
-  pub exactly : (k : ℕ) → (member k x ≡ true) ↔ CanBlock d k
-
-abbrev pub Blockable : Registers → ℕ → List ℕ → ℕ → Type 0
-Blockable r present priority x = (m : Memory) → m .table .present ≡ present → m .table .priority ≡ priority → BlockableIn (state-in m r) x
-
--- the jobs that an interval blocks, if it is at its end
-abbrev pub blocks-at-end : State → Registers → ℕ
-blocks-at-end d r = cond (is-over (phase-in r)) (blocks d (interval-in r)) 0
-
-abbrev pub BlockedJobs : Registers → ℕ → List ℕ → ℕ → Type 0
-BlockedJobs r present priority x = (m : Memory) → m .table .present ≡ present → m .table .priority ≡ priority → x ≡ blocks-at-end (state-in m r) r
-
--- one more for each of them
-abbrev pub CountsBlocked : Registers → ℕ → List ℕ → List ℕ → List ℕ → Type 0
-CountsBlocked r present priority before after =
-    (m : Memory) → m .table .present ≡ present → m .table .priority ≡ priority
-    → after ≡ counted (blocks-at-end (state-in m r) r) 0 before
-
-abbrev pub Promoted : Registers → List ℕ → ℕ → Type 0
-Promoted r priority x =
-    (m : Memory) → m .table .priority ≡ priority
-    → as-task x ≡ promoted (state-in m r) (interval-in r) (copyin-in r)
+abbrev pub PromotedAt : List ℕ → List ℕ → List ℕ → ℕ → Type 0
+PromotedAt priority sets codes x =
+    (times columns : List ℕ) (o : ByTask)
+    → let k : Kept = kept times sets codes in
+    is-over (phase-in (registers-in k)) ≡ true
+    → as-task x ≡ promoted (read k (beside priority columns o)) (interval-in (registers-in k)) (copyin-in (registers-in k))
 
 abbrev pub ProcessorTask : ℕ → ℕ → MaybeTask → Type 0
 ProcessorTask kind n x = (start until : ℕ) → x ≡ processor-task (as-processor kind n start until)
@@ -85,122 +101,190 @@ CopyInTask kind n x = (until : ℕ) → x ≡ copyin-task (as-copyin kind n unti
 abbrev pub CopyInFate : ℕ → ℕ → Type 0
 CopyInFate kind x = (n until : ℕ) → x ≡ copyin-fate (as-copyin kind n until)
 
-abbrev pub AwaitingCopyOut : ℕ → ℕ → Type 0
-AwaitingCopyOut kind x = (n start until : ℕ) → as-outgoing x n start ≡ awaiting-copyout (as-processor kind n start until)
+abbrev pub EntryAt : ℕ → ℕ → List ℕ → List ℕ → IntervalEntry → Type 0
+EntryAt t p times codes x =
+    (sets : List ℕ) → x ≡ entry-with (getD codes 0 0) t (interval-in (registers-in (kept times sets codes))) (as-task p)
 
-abbrev pub BetweenWith : Registers → ℕ → ℕ → ℕ → Registers → Type 0
-BetweenWith r ready work n x =
-    (m : Memory) (p : MaybeTask)
-    → ready ≡ without-promoted (r .ready) p → as-next work n ≡ next-of (copyin-in r) p
-    → state-in m x ≡ closed-with (state-in m r) (interval-in r) p
+-- the copy-out of the next interval, where the processor is at its end
+abbrev pub NextCopyOut : ℕ → ℕ → Type 0
+NextCopyOut kind x =
+    (n start until : ℕ) → resting (as-processor kind n start until) ≡ true
+    → as-outgoing x n start ≡ awaiting-copyout (as-processor kind n start until)
 
-abbrev pub ClosedTo : Registers → ℕ → Registers → Type 0
-ClosedTo r p x =
-    (m : Memory)
-    → state-in m x ≡ closed-with (state-in m r) (interval-in r) (as-task p)
+-- its work and its task, and the jobs that are ready
+pub record NextSet (p : ℕ) (sets codes sets' codes' : List ℕ) : Type 0 where
+  pub ready : ℕ
+  pub work : ℕ
+  pub task : ℕ
+  pub sets-are : sets' ≡ set sets 2 ready
+  pub codes-are : codes' ≡ set (set codes 1 work) 3 task
+  pub ready-is : ready ≡ without-promoted (getD sets 2 0) (as-task p)
+  pub is : (until : ℕ) → as-next work task ≡ next-of (as-copyin (getD codes 6 0) (getD codes 7 0) until) (as-task p)
 
--- after the test of steps b and f: what is left, and the interval that ended
-pub record TestedTo (s : Stage) (m : Memory) (x : Registers) (closed : Closed) : Type 0 where
-  pub state : state-in m x ≡ s .state
-  pub interval : closed ≡ s .closed
+abbrev pub ClosedAt : ℕ → Kept → Kept → Type 0
+ClosedAt p k k' =
+    resting (processor-in (registers-in k)) ≡ true
+    → StepAlone (λ d. closed-with d (interval-in (registers-in k)) (as-task p)) k k'
 
--- ---- c
+-- with other counts
+abbrev pub with-counts : Beside → List ℕ → Beside
+with-counts b blocked = beside (b .priority) (b .columns) (by-task (b .by-task .release) blocked (b .by-task .waits))
 
--- what becomes of an instant's releases, by the tasks with a pending job and those with a waiting release
-abbrev pub BecomesOf : (State → ℕ → ℕ) → ℕ → ℕ → ℕ → ℕ → Type 0
-BecomesOf fate set pending waiting x = (d : State) → d .jobs .pending ≡ pending → d .waiting .tasks ≡ waiting → x ≡ fate d set
+-- the test of steps b and f: what is left, and the interval that ended
+pub record TestedAt (after : Stage) (k' : Kept) (b' : Beside) (x : Closed) : Type 0 where
+  pub whole : Whole k'
+  pub state : read k' b' ≡ after .state
+  pub closed-is : x ≡ after .closed
 
--- the arrays after the releases of a set at a time are taken
-abbrev pub taken-arrays : ℕ → ℕ → WaitingReleases → Arrays → Arrays
-taken-arrays new t w a = arrays (stamped new (original w t) 0 (a .release)) (stamped new (λ k. 0) 0 (a .blocked))
+-- ---- Blocked, at an interval's end
 
--- and the waiting releases after that, with those of another set that wait from now on
-abbrev pub waits-after : ℕ → ℕ → ℕ → WaitingReleases → WaitingReleases
-waits-after new late t w = waits (union (difference (w .tasks) new) late) (stamped late (λ k. t) 0 (w .times))
+abbrev pub AwaitingAt : List ℕ → List ℕ → ℕ → Type 0
+AwaitingAt sets codes x =
+    (times : List ℕ) → x ≡ awaiting-execution (copyin-in (registers-in (kept times sets codes))) (getD sets 2 0)
 
-abbrev pub taken-memory : ℕ → ℕ → ℕ → Memory → Memory
-taken-memory new late t m = with-kept m (taken-arrays new t (m .waiting) (m .arrays)) (waits-after new late t (m .waiting))
+-- the set of tasks that the interval can block: as it is defined, and in words
+pub record BlockableIn (d : State) (x : ℕ) : Type 0 where
+  pub is : x ≡ blockable d
+  pub exactly : (k : ℕ) → (member k x ≡ true) ↔ CanBlock d k
 
-abbrev pub Taken : Registers → ℕ → Registers → Type 0
-Taken r new x = (m : Memory) (t late : ℕ) → state-in (taken-memory new late t m) x ≡ step-c (state-in m r) t new late
+-- by what its processor did, and with which task
+abbrev pub Blockable : ℕ → ℕ → ℕ → List ℕ → ℕ → Type 0
+Blockable kind n present priority x =
+    (d : State) (i : Interval) (start until : ℕ)
+    → d .phase ≡ Within i → over i ≡ true → i .processor ≡ as-processor kind n start until
+    → d .table .present ≡ present → d .table .priority ≡ priority → BlockableIn d x
 
--- ---- d
+-- the jobs that it blocks
+abbrev pub BlockedAt : List ℕ → List ℕ → List ℕ → ℕ → Type 0
+BlockedAt priority sets codes x =
+    (times columns : List ℕ) (o : ByTask)
+    → let k : Kept = kept times sets codes in
+    is-over (phase-in (registers-in k)) ≡ true → x ≡ blocks (read k (beside priority columns o)) (interval-in (registers-in k))
+
+-- one more for each of them
+abbrev pub CountsAt : List ℕ → List ℕ → List ℕ → List ℕ → List ℕ → Type 0
+CountsAt priority sets codes before after =
+    (times columns : List ℕ) (o : ByTask)
+    → let k : Kept = kept times sets codes in
+    is-over (phase-in (registers-in k)) ≡ true
+    → after ≡ counted (blocks (read k (beside priority columns o)) (interval-in (registers-in k))) 0 before
+
+-- ---- c and d
+
+abbrev pub HeldOverAt : List ℕ → ℕ → ℕ → Type 0
+HeldOverAt codes taken x = (times sets : List ℕ) → x ≡ held-over (phase-in (registers-in (kept times sets codes))) taken
 
 -- a copy-in that has given way was under way, or finished
 pub record GivenWay (kind x : ℕ) : Type 0 where
   pub is : (n until : ℕ) → as-copyin x n until ≡ Cancelled n (cond (eqb kind 3) 3 2)
   pub stays : eqb x 6 ≡ false
 
-abbrev pub CancelledTo : Registers → ℕ → List ℕ → Registers → Type 0
-CancelledTo r new priority x =
-    (m : Memory) → m .table .priority ≡ priority
-    → state-in m x ≡ step-d (state-in m r) new (phase-in r)
+abbrev pub GivesWayAt : ℕ → List ℕ → List ℕ → List ℕ → List ℕ → List ℕ → Type 0
+GivesWayAt taken priority sets codes sets' codes' =
+    (times columns : List ℕ)
+    → Step (λ d. step-d d taken (d .phase)) priority columns (kept times sets codes) (kept times sets' codes')
 
--- ---- c and d
+pub record SetsFit (sets : List ℕ) : Type 0 where
+  pub pending-fits : getD sets 1 0 < 2 ^ 32
+  pub ready-fits : getD sets 2 0 < 2 ^ 32
+  pub candidates-fit : getD sets 3 0 < 2 ^ 32
+  pub waiting-fits : getD sets 5 0 < 2 ^ 32
 
-abbrev pub StepsCD : Registers → ℕ → ℕ → ℕ → List ℕ → Arrays → WaitingReleases → Registers → Arrays → WaitingReleases → Type 0
-StepsCD r t new late priority before waited x after waits =
-    (m : Memory) → m .table .priority ≡ priority
-    → state-in (with-kept m after waits) x ≡ steps-c-d (state-in (with-kept m before waited) r) t new late
+abbrev pub TakesAt : ℕ → ℕ → ℕ → List ℕ → List ℕ → List ℕ → ByTask → List ℕ → List ℕ → ByTask → Type 0
+TakesAt t taken deferred priority sets codes o sets' codes' o' =
+    (times columns : List ℕ) → Whole (kept times sets codes)
+    → Becomes (λ d. steps-c-d d t taken deferred)
+    (kept times sets codes) (beside priority columns o) (kept times sets' codes') (beside priority columns o')
 
 -- ---- e
 
-abbrev pub Chosen : Registers → ℕ → List ℕ → List ℕ → Registers → Type 0
-Chosen r t priority columns x =
-    (m : Memory) → m .table .priority ≡ priority → m .table .columns ≡ columns
-    → state-in m x ≡ step-e (state-in m r) t (phase-in r)
+abbrev pub ChosenAt : ℕ → List ℕ → List ℕ → Kept → Kept → Type 0
+ChosenAt t priority columns k k' = Step (λ d. step-e d t (d .phase)) priority columns k k'
+
+-- where the choice has not been made and the engine is free
+abbrev pub MadeChoice : ℕ → List ℕ → List ℕ → Kept → Kept → Type 0
+MadeChoice t priority columns k k' =
+    getD (k .codes) 6 0 ≡ 0 → (getD (k .codes) 4 0 ≡ 1 → ⊥) → ChosenAt t priority columns k k'
 
 -- ---- g
 
-abbrev pub BeginProcessor : ℕ → ℕ → ℕ → List ℕ → Unit → Type 0
-BeginProcessor work n t columns x =
-    (table : Table) → table .columns ≡ columns
-    → as-processor (x .kind) n t (x .until) ≡ begin-processor table t (as-next work n)
+abbrev pub WantedAt : List ℕ → List ℕ → Bool → Type 0
+WantedAt sets codes x =
+    (start : ℕ)
+    → x ≡ wanted (as-next (getD codes 1 0) (getD codes 3 0)) (as-outgoing (getD codes 4 0) (getD codes 5 0) start) (getD sets 2 0)
 
-abbrev pub BeginCopyOut : ℕ → ℕ → ℕ → List ℕ → Unit → Type 0
-BeginCopyOut kind n t columns x =
-    (table : Table) (start : ℕ) → table .columns ≡ columns
-    → as-copyout (x .kind) n start (x .until) ≡ begin-copyout table t (as-outgoing kind n start)
+-- what the processor is set to: its kind, until when, and the interval's work
+pub record ProcessorSet (work n t : ℕ) (columns times codes times' codes' : List ℕ) : Type 0 where
+  pub kind : ℕ
+  pub until : ℕ
+  pub works : ℕ
+  pub times-are : times' ≡ set times 2 until
+  pub codes-are : codes' ≡ set (set codes 1 works) 2 kind
+  pub is : (table : Table) → table .columns ≡ columns → as-processor kind n t until ≡ begin-processor table t (as-next work n)
+  pub works-is : works ≡ work-of (as-next work n)
 
-abbrev pub BeginAt : Registers → ℕ → ℕ → List ℕ → Registers → Type 0
-BeginAt r t new columns x =
-    (m : Memory) → m .table .columns ≡ columns
-    → state-in m x ≡ begin (state-in m r) t new (as-next (r .work) (r .task)) (as-outgoing (r .copyout) (r .outtask) (r .outstart))
+abbrev pub SetTo : ℕ → ℕ → ℕ → List ℕ → List ℕ → List ℕ → List ℕ → List ℕ → Type 0
+SetTo work n t columns times codes times' codes' = work ≡ getD codes 1 0 → ProcessorSet work n t columns times codes times' codes'
 
-abbrev pub Begun : Registers → ℕ → ℕ → List ℕ → List ℕ → Registers → Type 0
-Begun r t new priority columns x =
-    (m : Memory)
-    → m .table .priority ≡ priority → m .table .columns ≡ columns
-    → state-in m x ≡ step-g (state-in m r) t new (phase-in r)
+abbrev pub next-in : Kept → Next
+next-in k = as-next (getD (k .codes) 1 0) (getD (k .codes) 3 0)
 
--- ---- The next due time
+abbrev pub outgoing-in : Kept → Outgoing
+outgoing-in k = as-outgoing (getD (k .codes) 4 0) (getD (k .codes) 5 0) (getD (k .times) 3 0)
 
-abbrev pub ProcessorDue : ℕ → ℕ → Due → Type 0
-ProcessorDue kind until x = (n start : ℕ) → x ≡ processor-due (as-processor kind n start until)
+-- an interval begins, whether or not one is wanted
+abbrev pub OpenedAt : ℕ → ℕ → List ℕ → List ℕ → Kept → Kept → Type 0
+OpenedAt t taken priority columns k k' =
+    Step (λ d. let b : State = begin d t taken (next-in k) (outgoing-in k) in step-e b t (b .phase)) priority columns k k'
 
-abbrev pub CopyOutDue : ℕ → ℕ → Due → Type 0
-CopyOutDue kind until x = (n start : ℕ) → x ≡ copyout-due (as-copyout kind n start until)
+abbrev pub BegunAt : ℕ → ℕ → List ℕ → List ℕ → Kept → Kept → Type 0
+BegunAt t taken priority columns k k' = Step (λ d. step-g d t taken (d .phase)) priority columns k k'
 
-abbrev pub CopyInDue : ℕ → ℕ → Due → Type 0
-CopyInDue kind until x = (n : ℕ) → x ≡ copyin-due (as-copyin kind n until)
-
--- ---- The next due time as a plain number
+-- ---- The next due time: as a plain number, and whether there is one
 
 -- a number stands for a due time: it is that tick, or it is the last tick and nothing is due
 pub record Stands (x : ℕ) (p : Due) : Type 0 where
   pub is : (p ≡ Tick x) ⊎ ((x ≡ 2 ^ 64 - 1) × (p ≡ Never))
   pub small : x ≤ 2 ^ 64 - 1
 
-abbrev pub ProcessorTick : ℕ → ℕ → ℕ → Type 0
-ProcessorTick kind until x = (n start : ℕ) → Stands x (processor-due (as-processor kind n start until))
+abbrev pub TickStands : ℕ → ℕ → Type 0
+TickStands t x = Stands x (Tick t)
 
-abbrev pub CopyOutTick : ℕ → ℕ → ℕ → Type 0
-CopyOutTick kind until x = (n start : ℕ) → Stands x (copyout-due (as-copyout kind n start until))
+abbrev pub copyout-at-due : List ℕ → List ℕ → Due
+copyout-at-due times codes = copyout-due (as-copyout (getD codes 4 0) (getD codes 5 0) (getD times 3 0) (getD times 4 0))
 
-abbrev pub CopyInTick : ℕ → ℕ → ℕ → Type 0
-CopyInTick kind until x = (n : ℕ) → Stands x (copyin-due (as-copyin kind n until))
+abbrev pub copyin-at-due : List ℕ → List ℕ → Due
+copyin-at-due times codes = copyin-due (as-copyin (getD codes 6 0) (getD codes 7 0) (getD times 5 0))
 
--- ---- At opening
+abbrev pub CopyOutTick : List ℕ → List ℕ → ℕ → Type 0
+CopyOutTick times codes x = Stands x (copyout-at-due times codes)
 
-abbrev pub Empty : ℕ → Registers → Type 0
-Empty marked x = (table : Table) → state-in (first-memory table) x ≡ opened table marked
+abbrev pub EngineTick : List ℕ → List ℕ → ℕ → Type 0
+EngineTick times codes x = Stands x (sooner (copyout-at-due times codes) (copyin-at-due times codes))
+
+abbrev pub DueTick : List ℕ → List ℕ → ℕ → Type 0
+DueTick times codes x = (sets : List ℕ) → Stands x (due (phase-in (registers-in (kept times sets codes))))
+
+pub record IsDue (x : Bool) (d : Due) : Type 0 where
+  pub some : x ≡ true → d ≡ Never → ⊥
+  pub none : x ≡ false → d ≡ Never
+
+abbrev pub SomeDue : List ℕ → Bool → Type 0
+SomeDue codes x = (times sets : List ℕ) → IsDue x (due (phase-in (registers-in (kept times sets codes))))
+
+-- ---- What goes on now
+
+abbrev pub OnProcessor : ℕ → Bool → Type 0
+OnProcessor kind x =
+    (n start until : ℕ)
+    → (task-byte (on-processor (as-processor kind n start until)) ≡ cond x n 255) × (processor-until (as-processor kind n start until) ≡ cond x until 0)
+
+abbrev pub ViewedAt : List ℕ → List ℕ → List ℕ → View → Type 0
+ViewedAt times sets codes x = (b : Beside) → x ≡ viewed (read (kept times sets codes) b)
+
+-- where none is open, and where one is
+abbrev pub NoneOpen : List ℕ → List ℕ → View → Type 0
+NoneOpen sets codes x = (times : List ℕ) (b : Beside) → getD codes 6 0 ≡ 6 → x ≡ viewed (read (kept times sets codes) b)
+
+abbrev pub OneOpen : List ℕ → List ℕ → List ℕ → View → Type 0
+OneOpen times sets codes x = (b : Beside) → (getD codes 6 0 ≡ 6 → ⊥) → x ≡ viewed (read (kept times sets codes) b)

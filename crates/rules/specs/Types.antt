@@ -1,18 +1,15 @@
 -- The names that the definitions and the laws share: the declared types and their variants, and the library's.
 pub use Rattle.table.specs.declared.Table.{Table}
-pub use Rattle.rules.specs.State.{Jobs, WaitingReleases, Processor, Idle, CopyingIn, Executing, Finished, CopyOut, NoCopyOut, CopyingOut, CopiedOut, CopyIn, Unchosen, NoneChosen, Copying, Loaded, Cancelled, Interval, Next, NoneNext, LoadedNext, PromotedNext, Outgoing, NoneOutgoing, AwaitsCopyOut, Phase, Between, Within, State, Stage}
-pub use Rattle.rules.specs.declared.Clock.{Clock}
-pub use Rattle.rules.specs.declared.Clock.the-variants.{Unset, At}
+pub use Rattle.rules.specs.State.{Clock, Unset, At, Closed, NoInterval, Span, Jobs, WaitingReleases, Processor, Idle, CopyingIn, Executing, Finished, CopyOut, NoCopyOut, CopyingOut, CopiedOut, CopyIn, Unchosen, NoneChosen, Copying, Loaded, Cancelled, Interval, Next, NoneNext, LoadedNext, PromotedNext, Outgoing, NoneOutgoing, AwaitsCopyOut, Phase, Between, Within, State, Stage}
 pub use Rattle.entries.specs.declared.MaybeTask.{MaybeTask}
 pub use Rattle.entries.specs.declared.MaybeTask.the-variants.{NoTask, Task}
-pub use Rattle.rules.specs.declared.Registers.{Registers}
-pub use Rattle.rules.specs.declared.Unit.{Unit}
+pub use Rattle.rules.specs.Named.{Registers}
+pub use Rattle.rules.specs.declared.ReleaseFates.{ReleaseFates}
+pub use Rattle.rules.specs.declared.View.{View}
 pub use Rattle.entries.specs.declared.JobEntry.{JobEntry}
 pub use Rattle.entries.specs.declared.IntervalEntry.{IntervalEntry}
 pub use Rattle.rules.specs.declared.Done.{Done}
 pub use Rattle.rules.specs.declared.Done.the-variants.{NoJob, Job}
-pub use Rattle.rules.specs.declared.Closed.{Closed}
-pub use Rattle.rules.specs.declared.Closed.the-variants.{NoInterval, Span}
 pub use Rattle.rules.specs.declared.Closing.{Closing}
 pub use Rattle.rules.specs.declared.Closing.the-variants.{Unclosed, BeforeReleases, AfterReleases}
 pub use Rattle.rules.specs.declared.Call.{Call}

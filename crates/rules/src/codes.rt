@@ -1,5 +1,8 @@
 // The numbers that stand for what a unit does, as specs/Registers reads them.
 
+// The processor's half is 0 or 1; before the first interval it has none.
+pub const NO_HALF: u8 = 2;
+
 // The processor.
 pub const IDLE: u8 = 0;
 

@@ -1,74 +1,11 @@
-// The next due time: when the next phase ends.
-use crate::Due;
-use crate::Registers;
+// The next due time: when the next phase ends. As a plain number it is cheaper than the enum: the last tick stands for none.
+use crate::at;
 use crate::codes;
 ghost use mathlib.Core.Path.{_≡_};
-ghost use Rattle.rules.specs.Instant as instant;
-ghost use Rattle.rules.specs.Registers.{phase-in};
-ghost use Rattle.rules.specs.Steps.{ProcessorDue, CopyOutDue, CopyInDue, Stands, ProcessorTick, CopyOutTick, CopyInTick};
 ghost use Prim.Native.Nat.{min};
+ghost use Rattle.rules.specs.Steps.{TickStands, CopyOutTick, EngineTick, DueTick, SomeDue};
 
-pub fn sooner(a: Due, b: Due) -> Due
-    ensures { λ r. ⌜ r ≡ instant.sooner a b ⌝ }
-{
-    match a {
-        Due::Never => b,
-        Due::Tick(x) => match b {
-            Due::Never => a,
-            Due::Tick(y) => {
-                if x <= y {
-                    return a;
-                }
-                b
-            }
-        },
-    }
-}
-
-fn processor_due(kind: u8, until: u64) -> Due
-    ensures { λ x. ⌜ ProcessorDue kind until x ⌝ }
-{
-    if kind == codes::COPYING_IN {
-        return Due::Tick(until);
-    }
-    if kind == codes::EXECUTING {
-        return Due::Tick(until);
-    }
-    Due::Never
-}
-
-fn copyout_due(kind: u8, until: u64) -> Due
-    ensures { λ x. ⌜ CopyOutDue kind until x ⌝ }
-{
-    if kind != codes::COPYING_OUT {
-        return Due::Never;
-    }
-    Due::Tick(until)
-}
-
-fn copyin_due(kind: u8, until: u64) -> Due
-    ensures { λ x. ⌜ CopyInDue kind until x ⌝ }
-{
-    if kind == codes::COPYING {
-        return Due::Tick(until);
-    }
-    Due::Never
-}
-
-pub fn due(r: Registers) -> Due
-    ensures { λ x. ⌜ x ≡ instant.due (phase-in r) ⌝ }
-{
-    if r.copyin == codes::NO_INTERVAL {
-        return Due::Never;
-    }
-    let engine = sooner(
-        copyout_due(r.copyout, r.outuntil),
-        copyin_due(r.copyin, r.inuntil),
-    );
-    sooner(processor_due(r.processor, r.until), engine)
-}
-
-// The smaller of two ticks, where the last tick stands for none.
+// The smaller of two ticks.
 pub fn least(a: u64, b: u64) -> u64
     ensures { λ x. ⌜ x ≡ min a b ⌝ }
 {
@@ -78,46 +15,66 @@ pub fn least(a: u64, b: u64) -> u64
     b
 }
 
-fn processor_tick(kind: u8, until: u64) -> u64
-    ensures { λ x. ⌜ ProcessorTick kind until x ⌝ }
+// A time that is handed in by value is a tick that a clock has.
+fn tick(t: u64) -> u64
+    ensures { λ x. ⌜ TickStands t x ⌝ }
 {
+    t
+}
+
+fn copyout_tick(times: &[u64; 7], codes: &[u8; 9]) -> u64
+    ensures { λ x. ⌜ CopyOutTick (now (times .entry)) (now (codes .entry)) x ⌝ }
+{
+    if codes[at::COPYOUT] == codes::COPYING_OUT {
+        return tick(times[at::OUTUNTIL]);
+    }
+    u64::MAX
+}
+
+fn engine_tick(times: &[u64; 7], codes: &[u8; 9]) -> u64
+    ensures { λ x. ⌜ EngineTick (now (times .entry)) (now (codes .entry)) x ⌝ }
+{
+    let due = copyout_tick(times, codes);
+    if codes[at::COPYIN] == codes::COPYING {
+        return least(due, tick(times[at::INUNTIL]));
+    }
+    due
+}
+
+pub fn due_tick(times: &[u64; 7], codes: &[u8; 9]) -> u64
+    ensures { λ x. ⌜ DueTick (now (times .entry)) (now (codes .entry)) x ⌝ }
+{
+    if codes[at::COPYIN] == codes::NO_INTERVAL {
+        return u64::MAX;
+    }
+    let due = engine_tick(times, codes);
+    let kind = codes[at::PROCESSOR];
     if kind == codes::EXECUTING {
-        return until;
+        return least(due, tick(times[at::UNTIL]));
     }
-    if kind != codes::COPYING_IN {
-        return u64::MAX;
+    if kind == codes::COPYING_IN {
+        return least(due, tick(times[at::UNTIL]));
     }
-    until
+    due
 }
 
-fn copyout_tick(kind: u8, until: u64) -> u64
-    ensures { λ x. ⌜ CopyOutTick kind until x ⌝ }
+// Whether some phase is under way.
+pub fn some_due(codes: &[u8; 9]) -> bool
+    ensures { λ x. ⌜ SomeDue (now (codes .entry)) x ⌝ }
 {
-    if kind != codes::COPYING_OUT {
-        return u64::MAX;
+    let copyin = codes[at::COPYIN];
+    if copyin == codes::NO_INTERVAL {
+        return false;
     }
-    until
-}
-
-fn copyin_tick(kind: u8, until: u64) -> u64
-    ensures { λ x. ⌜ CopyInTick kind until x ⌝ }
-{
-    if kind != codes::COPYING {
-        return u64::MAX;
+    if copyin == codes::COPYING {
+        return true;
     }
-    until
-}
-
-// The due time as a plain number; the last tick stands for none.
-pub fn due_tick(r: Registers) -> u64
-    ensures { λ x. ⌜ Stands x (instant.due (phase-in r)) ⌝ }
-{
-    if r.copyin == codes::NO_INTERVAL {
-        return u64::MAX;
+    if codes[at::COPYOUT] == codes::COPYING_OUT {
+        return true;
     }
-    let engine = least(
-        copyout_tick(r.copyout, r.outuntil),
-        copyin_tick(r.copyin, r.inuntil),
-    );
-    least(engine, processor_tick(r.processor, r.until))
+    let kind = codes[at::PROCESSOR];
+    if kind == codes::EXECUTING {
+        return true;
+    }
+    kind == codes::COPYING_IN
 }

@@ -1,112 +1,97 @@
 // a. Phases that end now end. A copy-out's end completes its job.
-use crate::Done;
-use crate::Registers;
-use crate::Unit;
 use crate::arrays::byte_of;
 use crate::arrays::time_of;
+use crate::at;
 use crate::codes;
 use crate::times::later;
 use entries::JobEntry;
 use table::Columns;
-ghost use Rattle.rules.specs.Registers.{arrays};
-ghost use Rattle.rules.specs.Steps.{ProcessorAt, CopyInAt, Completed, Ended};
+ghost use mathlib.Core.Path.{_≡_};
+ghost use lib.ListN.{getD};
+ghost use Rattle.rules.specs.Kept.{copyout-ends};
+ghost use Rattle.rules.specs.Steps.{CompletedJob, CopiedOutAt, CopyInSet, ProcessorTo, OthersEndAt};
 
-// The processor's own copy-in is followed by the execution.
-fn processor_at(p: Unit, t: u64, columns: &Columns) -> Unit
-    ensures { λ x. ⌜ ProcessorAt (now (columns .entry)) t p x ⌝ }
+pub fn copyout_ends(t: u64, times: &[u64; 7], codes: &[u8; 9]) -> bool
+    ensures { λ r. ⌜ r ≡ copyout-ends t (now (times .entry)) (now (codes .entry)) ⌝ }
 {
-    if p.until != t {
-        return p;
+    if codes[at::COPYIN] == codes::NO_INTERVAL {
+        return false;
     }
-    if p.kind == codes::COPYING_IN {
-        let until = later(t, table::execution_length(columns, p.task));
-        return Unit {
-            kind: codes::EXECUTING,
-            start: t,
-            until,
-            ..p
-        };
+    if codes[at::COPYOUT] != codes::COPYING_OUT {
+        return false;
     }
-    if p.kind == codes::EXECUTING {
-        return Unit {
-            kind: codes::FINISHED,
-            ..p
-        };
-    }
-    p
-}
-
-fn copyin_at(kind: u8, until: u64, t: u64) -> u8
-    ensures { λ x. ⌜ CopyInAt kind until t x ⌝ }
-{
-    if kind == codes::COPYING {
-        if until == t {
-            return codes::LOADED;
-        }
-    }
-    kind
+    times[at::OUTUNTIL] == t
 }
 
 // The job whose copy-out ends now.
-pub fn completed(r: Registers, t: u64, release: &[u64; 32], blocked: &[u8; 32]) -> Done
-    ensures { λ x. ⌜ Completed r t (arrays (now (release .entry)) (now (blocked .entry))) x ⌝ }
+pub fn completed_job(
+    t: u64,
+    times: &[u64; 7],
+    codes: &[u8; 9],
+    release: &[u64; 32],
+    blocked: &[u8; 32],
+) -> JobEntry
+    ensures { λ x. ⌜ CompletedJob t (now (times .entry)) (now (codes .entry)) (now (release .entry)) (now (blocked .entry)) x ⌝ }
 {
-    if r.copyin == codes::NO_INTERVAL {
-        return Done::NoJob;
+    let task = codes[at::OUTTASK];
+    JobEntry {
+        task,
+        release: time_of(release, task),
+        start: times[at::OUTSTART],
+        completion: t,
+        blocked: byte_of(blocked, task),
     }
-    if r.copyout == codes::COPYING_OUT {
-        if r.outuntil == t {
-            let entry = JobEntry {
-                task: r.outtask,
-                release: time_of(release, r.outtask),
-                start: r.outstart,
-                completion: t,
-                blocked: byte_of(blocked, r.outtask),
-            };
-            return Done::Job(entry);
-        }
-    }
-    Done::NoJob
 }
 
-// A job is pending until its copy-out ends.
-pub fn ended(r: Registers, t: u64, columns: &Columns) -> Registers
-    ensures { λ x. ⌜ Ended r t (now (columns .entry)) x ⌝ }
+// It is pending no more.
+pub fn copied_out(sets: &mut [u32; 6], codes: &mut [u8; 9])
+    ensures { λ _. ⌜ CopiedOutAt (now (sets .entry)) (now (codes .entry)) (now (sets .exit)) (now (codes .exit)) ⌝ }
 {
-    if r.copyin == codes::NO_INTERVAL {
-        return r;
-    }
-    let p = processor_at(
-        Unit {
-            start: r.start,
-            until: r.until,
-            kind: r.processor,
-            task: r.task,
-        },
-        t,
-        columns,
-    );
-    let copyin = copyin_at(r.copyin, r.inuntil, t);
-    if r.copyout == codes::COPYING_OUT {
-        if r.outuntil == t {
-            return Registers {
-                pending: sets::remove(r.pending, r.outtask),
-                processor: p.kind,
-                task: p.task,
-                start: p.start,
-                until: p.until,
-                copyout: codes::COPIED_OUT,
-                copyin,
-                ..r
-            };
+    sets[at::PENDING] = sets::remove(sets[at::PENDING], codes[at::OUTTASK]);
+    codes[at::COPYOUT] = codes::COPIED_OUT;
+}
+
+fn copyin_ends(kind: u8, t: u64, times: &[u64; 7], codes: &mut [u8; 9])
+    requires { ⌜ kind ≡ getD (now codes) 6 0 ⌝ }
+    ensures { λ _. ⌜ CopyInSet t (now (times .entry)) (now (codes .entry)) (now (codes .exit)) ⌝ }
+{
+    if kind == codes::COPYING {
+        if times[at::INUNTIL] == t {
+            codes[at::COPYIN] = codes::LOADED;
         }
     }
-    Registers {
-        processor: p.kind,
-        task: p.task,
-        start: p.start,
-        until: p.until,
-        copyin,
-        ..r
+}
+
+// The processor's own copy-in is followed by the execution.
+fn processor_ends(t: u64, times: &mut [u64; 7], codes: &mut [u8; 9], columns: &Columns)
+    ensures { λ _. ⌜ ProcessorTo t (now (columns .entry))
+        (now (times .entry)) (now (codes .entry)) (now (times .exit)) (now (codes .exit)) ⌝ }
+{
+    if times[at::UNTIL] != t {
+        return;
     }
+    let kind = codes[at::PROCESSOR];
+    if kind == codes::COPYING_IN {
+        let until = later(t, table::execution_length(columns, codes[at::TASK]));
+        codes[at::PROCESSOR] = codes::EXECUTING;
+        times[at::START] = t;
+        times[at::UNTIL] = until;
+        return;
+    }
+    if kind == codes::EXECUTING {
+        codes[at::PROCESSOR] = codes::FINISHED;
+    }
+}
+
+// The other two phases, where no copy-out ends now, or its job has been completed.
+pub fn others_end(t: u64, times: &mut [u64; 7], codes: &mut [u8; 9], columns: &Columns)
+    ensures { λ _. ⌜ OthersEndAt t (now (columns .entry))
+        (now (times .entry)) (now (codes .entry)) (now (times .exit)) (now (codes .exit)) ⌝ }
+{
+    let kind = codes[at::COPYIN];
+    if kind == codes::NO_INTERVAL {
+        return;
+    }
+    copyin_ends(kind, t, times, codes);
+    processor_ends(t, times, codes, columns);
 }

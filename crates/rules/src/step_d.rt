@@ -1,16 +1,17 @@
 // d. If a marked release was taken whose priority is higher than that of a copy-in under way on the engine, this copy-in is
 // cancelled and its job is ready again (R3). It also throws out a lower-priority copy-in that the engine has already finished in the
 // open interval.
-use crate::Registers;
 use crate::arrays::defer;
 use crate::arrays::take;
+use crate::at;
 use crate::codes;
 use crate::order::first;
 use crate::order::outranks;
-use crate::step_c::taken;
 ghost use mathlib.Core.Path.{_≡_};
-ghost use Rattle.rules.specs.Registers.{is-held, arrays, waits as waiting-releases};
-ghost use Rattle.rules.specs.Steps.{GivenWay, CancelledTo, StepsCD};
+ghost use Prim.Native.Nat.{_<_, _^_};
+ghost use Rattle.rules.specs.Registers.{is-held};
+ghost use Rattle.rules.specs.Kept.{by-task};
+ghost use Rattle.rules.specs.Steps.{GivenWay, GivesWayAt, SetsFit, TakesAt};
 
 // The engine holds a job: its copy-in is under way, or finished.
 fn holds(kind: u8) -> bool
@@ -32,44 +33,68 @@ fn given_way(kind: u8) -> u8
     codes::CANCELLED
 }
 
-fn cancelled(r: Registers, new: u32, priority: &[u8; 32]) -> Registers
-    ensures { λ x. ⌜ CancelledTo r new (now (priority .entry)) x ⌝ }
+fn give_way(taken: u32, sets: &mut [u32; 6], codes: &mut [u8; 9], priority: &[u8; 32])
+    ensures { λ _. ⌜ GivesWayAt taken (now (priority .entry))
+        (now (sets .entry)) (now (codes .entry)) (now (sets .exit)) (now (codes .exit)) ⌝ }
 {
-    if !holds(r.copyin) {
-        return r;
+    let kind = codes[at::COPYIN];
+    if !holds(kind) {
+        return;
     }
-    let by = first(priority, sets::intersection(new, r.marked));
-    if outranks(priority, by, r.intask) {
-        return Registers {
-            ready: sets::insert(r.ready, r.intask),
-            copyin: given_way(r.copyin),
-            ..r
-        };
+    let by = first(priority, sets::intersection(taken, sets[at::MARKED]));
+    let n = codes[at::INTASK];
+    if outranks(priority, by, n) {
+        sets[at::READY] = sets::insert(sets[at::READY], n);
+        codes[at::COPYIN] = given_way(kind);
     }
-    r
+}
+
+// What is handed in by value fits its type; what stands in a lent array is not known to.
+fn fits(x: u32)
+    ensures { λ _. ⌜ x < 2 ^ 32 ⌝ }
+{}
+
+// Nothing is left of this in the program.
+fn sets_fit(sets: &[u32; 6])
+    ensures { λ _. ⌜ SetsFit (now (sets .entry)) ⌝ }
+{
+    fits(sets[at::PENDING]);
+    fits(sets[at::READY]);
+    fits(sets[at::CANDIDATES]);
+    fits(sets[at::WAITING]);
 }
 
 // Steps c and d, with the tasks whose release is taken and those whose release waits. Most instants of a run have no release, and then
-// nothing changes.
-pub fn steps_c_d(
-    r: Registers,
+// nothing changes. The jobs that are taken are pending and ready, and the marked ones candidates in the open interval; where none is open,
+// nothing reads the candidates.
+pub fn take_releases(
     t: u64,
-    new: u32,
-    late: u32,
+    taken: u32,
+    deferred: u32,
+    sets: &mut [u32; 6],
+    codes: &mut [u8; 9],
     priority: &[u8; 32],
     release: &mut [u64; 32],
     blocked: &mut [u8; 32],
-    waiting: &mut u32,
     waits: &mut [u64; 32],
-) -> Registers
-    ensures { λ x. ⌜ StepsCD r t new late (now (priority .entry)) (arrays (now (release .entry)) (now (blocked .entry))) (waiting-releases (now (waiting .entry)) (now (waits .entry))) x (arrays (now (release .exit)) (now (blocked .exit))) (waiting-releases (now (waiting .exit)) (now (waits .exit))) ⌝ }
+)
+    ensures { λ _. ⌜ TakesAt t taken deferred (now (priority .entry))
+        (now (sets .entry)) (now (codes .entry)) (by-task (now (release .entry)) (now (blocked .entry)) (now (waits .entry)))
+        (now (sets .exit)) (now (codes .exit)) (by-task (now (release .exit)) (now (blocked .exit)) (now (waits .exit))) ⌝ }
 {
-    let before = *waiting;
-    if sets::union(new, late) == 0 {
-        return r;
+    if sets::union(taken, deferred) == 0 {
+        sets_fit(sets);
+        return;
     }
-    take(new, t, before, waits, release, blocked);
-    *waiting = sets::union(sets::difference(before, new), late);
-    defer(late, t, waits);
-    cancelled(taken(r, new), new, priority)
+    let before = sets[at::WAITING];
+    take(taken, t, before, waits, release, blocked);
+    sets[at::WAITING] = sets::union(sets::difference(before, taken), deferred);
+    defer(deferred, t, waits);
+    sets[at::PENDING] = sets::union(sets[at::PENDING], taken);
+    sets[at::READY] = sets::union(sets[at::READY], taken);
+    sets[at::CANDIDATES] = sets::union(
+        sets[at::CANDIDATES],
+        sets::intersection(taken, sets[at::MARKED]),
+    );
+    give_way(taken, sets, codes, priority);
 }

@@ -1,34 +1,55 @@
 // e. If an interval is open, the engine is free and the choice has not been made, it is made: the highest-priority ready job begins
 // copy-in, or none does (R2). It is made once an interval.
-use crate::Registers;
+use crate::at;
 use crate::codes;
 use crate::order::first;
 use crate::times::later;
 use table::Columns;
-ghost use Rattle.rules.specs.Steps.{Chosen};
+ghost use Rattle.rules.specs.Kept.{kept};
+ghost use Rattle.rules.specs.Steps.{MadeChoice, ChosenAt};
 
-pub fn chosen(r: Registers, t: u64, priority: &[u8; 32], columns: &Columns) -> Registers
-    ensures { λ x. ⌜ Chosen r t (now (priority .entry)) (now (columns .entry)) x ⌝ }
+pub fn make_choice(
+    t: u64,
+    times: &mut [u64; 7],
+    sets: &mut [u32; 6],
+    codes: &mut [u8; 9],
+    priority: &[u8; 32],
+    columns: &Columns,
+)
+    ensures { λ _. ⌜ MadeChoice t (now (priority .entry)) (now (columns .entry))
+        (kept (now (times .entry)) (now (sets .entry)) (now (codes .entry)))
+        (kept (now (times .exit)) (now (sets .exit)) (now (codes .exit))) ⌝ }
 {
-    if r.copyin != codes::UNCHOSEN {
-        return r;
-    }
-    if r.copyout == codes::COPYING_OUT {
-        return r;
-    }
-    let n = first(priority, r.ready);
+    let ready = sets[at::READY];
+    let n = first(priority, ready);
     if n < codes::NO_TASK {
         let inuntil = later(t, table::copyin_length(columns, n));
-        return Registers {
-            ready: sets::remove(r.ready, n),
-            copyin: codes::COPYING,
-            intask: n,
-            inuntil,
-            ..r
-        };
+        sets[at::READY] = sets::remove(ready, n);
+        codes[at::COPYIN] = codes::COPYING;
+        codes[at::INTASK] = n;
+        times[at::INUNTIL] = inuntil;
+        return;
     }
-    Registers {
-        copyin: codes::NONE_CHOSEN,
-        ..r
+    codes[at::COPYIN] = codes::NONE_CHOSEN;
+}
+
+pub fn choose(
+    t: u64,
+    times: &mut [u64; 7],
+    sets: &mut [u32; 6],
+    codes: &mut [u8; 9],
+    priority: &[u8; 32],
+    columns: &Columns,
+)
+    ensures { λ _. ⌜ ChosenAt t (now (priority .entry)) (now (columns .entry))
+        (kept (now (times .entry)) (now (sets .entry)) (now (codes .entry)))
+        (kept (now (times .exit)) (now (sets .exit)) (now (codes .exit))) ⌝ }
+{
+    if codes[at::COPYIN] != codes::UNCHOSEN {
+        return;
     }
+    if codes[at::COPYOUT] == codes::COPYING_OUT {
+        return;
+    }
+    make_choice(t, times, sets, codes, priority, columns);
 }

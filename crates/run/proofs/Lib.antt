@@ -2,6 +2,6 @@ pub mod Slices
 pub mod Listing
 pub mod Checking
 pub mod InOrder
-pub mod Stages
 pub mod Advancing
+pub mod Reaching
 pub mod Cut

@@ -3,7 +3,7 @@ use mathlib.Core.Path.{_≡_, refl, sym, ap, ap₂, _∙_, subst}
 use mathlib.Core.Bool.{Bool, true, false, cond}
 use mathlib.Core.List.{List, [], _∷_, _++_, append-assoc, append-nil}
 use Prim.Native.Nat.{ℕ, zero, suc, _+_, _-_, _*_, _≤_, _<_}
-use native.Mathlib.Nat.{add-zero, add-assoc}
+use native.Mathlib.Nat.{add-zero, add-assoc, zero-add}
 use native.Mathlib.Omega.{arith}
 use borrow.Author.Tests.{le-leb, lt-leb, leb-true, leb-false}
 use lib.Dec.{leb}
@@ -103,7 +103,7 @@ laid-both at a b s l =
     next (take at s ++ a) s (laid at a s) b (at + length a) n (laid (at + length a) b (laid at a s)) refl one in
     behind at (a ++ b) s (laid (at + length a) b (laid at a s)) l (rw (append-assoc (take at s) a b) at two)
 
-laid-length : (at : ℕ) (e s : List ℕ) → at + length e ≤ length s → length (laid at e s) ≡ length s
+pub laid-length : (at : ℕ) (e s : List ℕ) → at + length e ≤ length s → length (laid at e s) ≡ length s
 laid-length at e s l =
     omega (
       arith,
@@ -142,6 +142,20 @@ rest-length place out t e =
     ∙ ap length (take-append-drop (length out - place) (drop place out)))
     ∙ sym (length-append (take place out) (drop place out))
     ∙ ap length (take-append-drop place out)
+
+-- what was put into it, where there is room for all of it
+module _ (es : List (List ℕ)) (place : ℕ) (out t : List ℕ) (puts : t ≡ put-all 0 es (take (length out - place) (drop place out))) where
+  pub rest-laid : place + length (joined es) ≤ length out → take place out ++ (t ++ drop (length out - place) (drop place out)) ≡ laid place (joined es) out
+  rest-laid l =
+      let w : take (length out - place) (drop place out) ≡ drop place out = rest-whole place out in
+      let fits : 0 + length (joined es) ≤ length (take (length out - place) (drop place out)) = rw w (omega (arith, length-drop place out)) in
+      lent (λ (x : List ℕ). joined es ++ drop (length (joined es)) x) place out t
+      (puts ∙ put-all-laid 0 es (take (length out - place) (drop place out)) fits
+      ∙ ap (λ (n : ℕ). joined es ++ drop n (take (length out - place) (drop place out))) (zero-add (length (joined es))))
+      ∙ ap (λ (x : List ℕ). take place out ++ (joined es ++ x)) (drop-drop (length (joined es)) place out)
+
+pub rest-same : (place : ℕ) (out t : List ℕ) → t ≡ take (length out - place) (drop place out) → take place out ++ (t ++ drop (length out - place) (drop place out)) ≡ out
+rest-same place out t e = lent (λ (x : List ℕ). x) place out t e ∙ take-append-drop place out
 
 -- ---- the skipped releases, from task to task
 

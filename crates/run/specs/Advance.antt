@@ -1,11 +1,13 @@
--- A run advanced by one instant. The steps are the rules'; a run's instants are never refused, so that nothing is refused here.
+-- A run advanced by one instant, over the arrays that keep a dispatcher. The steps are the rules'; a run's instants are never refused, so
+-- that nothing is refused here.
 use mathlib.Core.Path.{_≡_}
 use lib.ListN.{length}
-use Rattle.rules.specs.Instant.{due, sooner, steps-c-to-f, at-b, at-g, occurred}
-use Rattle.rules.specs.Registers.{phase-in, Arrays, Memory, with-arrays, with-kept, with-counts, at-tick, state-in}
-use Rattle.rules.specs.Steps.{Stands}
+use Rattle.rules.specs.Instant.{due, sooner, step-a, step-e, step-f, at-g, occurred}
+use Rattle.rules.specs.Registers.{phase-in}
+use Rattle.rules.specs.Steps.{Stands, CopiesOut}
+use Rattle.rules.specs.Kept.{Kept, kept, Whole, by-task, Beside, beside, registers-in, read}
 use Rattle.entries.specs.Entries.{interval-bytes}
-use Rattle.run.specs.Types.{List, [], _∷_, _++_, ℕ, _-_, _*_, _^_, _≤_, Release, State, WaitingReleases, Registers, Stage, Closed, NoInterval, Span, Batch, Placed, Advanced}
+use Rattle.run.specs.Types.{List, [], _∷_, ℕ, _-_, _*_, _^_, _≤_, State, Stage, Closed, NoInterval, Span, Batch, Advanced}
 use Rattle.run.specs.Listed.{releases-at}
 use Rattle.run.specs.Run.{first-time, released-at, released-after}
 use Rattle.run.specs.Putting.{done-entries, moment-entries, Puts}
@@ -19,68 +21,72 @@ pub record Gathered (rest : List ℕ) (t : ℕ) (b : Batch) : Type 0 where
   pub read-is : b .read ≡ 10 * (length (releases-at rest 0) - length (released-after t (releases-at rest 0)))
   pub within : b .read ≤ length rest
 
+-- when the next instant is: the sooner of the next release and the next due time; the last tick stands for none
+abbrev pub NextTick : List ℕ → List ℕ → List ℕ → ℕ → Type 0
+NextTick rest times codes x =
+    (sets : List ℕ) → Stands x (sooner (first-time (releases-at rest 0)) (due (phase-in (registers-in (kept times sets codes)))))
+
 -- ---- The steps, with the entries that they leave
 
 abbrev pub span-entries : Closed → List (List ℕ)
 span-entries NoInterval = []
 span-entries (Span e) = interval-bytes e ∷ []
 
--- steps a and b
-abbrev pub stage-entries : Stage → List (List ℕ)
-stage-entries s = done-entries (s .done) ++ span-entries (s .closed)
+-- the copy-out of step a
+pub record CopyOutPut (t : ℕ) (k k' : Kept) (b : Beside) (out : List ℕ) (place : ℕ) (out' : List ℕ) : Type 0 where
+  pub copies : CopiesOut t k k' b
+  pub puts : Puts 0 (done-entries (step-a (read k b) t (read k b .phase) .done)) out place out'
 
-pub record SteppedAB (r : Registers) (t : ℕ) (m : Memory) (out : List ℕ) (x : Placed) (after out-after : List ℕ) : Type 0 where
-  pub state : state-in (with-counts (at-tick m t) after) (x .registers) ≡ at-b (state-in m r) t .state
-  pub puts : Puts 0 (stage-entries (at-b (state-in m r) t)) out (x .end) out-after
+abbrev pub CopyOutEnds : ℕ → List ℕ → List ℕ → List ℕ → List ℕ → List ℕ → List ℕ → ℕ → List ℕ → List ℕ → List ℕ → Type 0
+CopyOutEnds t times release blocked sets codes out place sets' codes' out' =
+    (priority columns waits : List ℕ) → Whole (kept times sets codes)
+    → CopyOutPut t (kept times sets codes) (kept times sets' codes')
+    (beside priority columns (by-task release blocked waits)) out place out'
 
-abbrev pub StepsAB : Registers → ℕ → ℕ → List ℕ → List ℕ → Arrays → List ℕ → Placed → List ℕ → List ℕ → Type 0
-StepsAB r t present priority columns before out x after out-after =
-    (m : Memory) → m .table .present ≡ present → m .table .priority ≡ priority → m .table .columns ≡ columns → SteppedAB r t (with-arrays m before) out x after out-after
+-- the test of steps b and f, from a place on
+pub record TestPut (after : Stage) (k' : Kept) (b' : Beside) (at : ℕ) (out : List ℕ) (place : ℕ) (out' : List ℕ) : Type 0 where
+  pub whole : Whole k'
+  pub state : read k' b' ≡ after .state
+  pub puts : Puts at (span-entries (after .closed)) out place out'
 
-pub record SteppedCToF (at : ℕ) (r : Registers) (t new late : ℕ) (m : Memory) (out : List ℕ) (x : Placed) (after : Memory) (out-after : List ℕ) : Type 0 where
-  pub state : state-in after (x .registers) ≡ steps-c-to-f (state-in m r) t new late .state
-  pub puts : Puts at (span-entries (steps-c-to-f (state-in m r) t new late .closed)) out (x .end) out-after
+abbrev pub EndsBefore : ℕ → ℕ → List ℕ → Kept → List ℕ → List ℕ → ℕ → Kept → List ℕ → List ℕ → Type 0
+EndsBefore t at priority k blocked out place k' blocked' out' =
+    (columns release waits : List ℕ) → Whole k
+    → TestPut (step-f (read k (beside priority columns (by-task release blocked waits))) t)
+    k' (beside priority columns (by-task release blocked' waits)) at out place out'
 
-abbrev pub StepsCToF : ℕ → Registers → ℕ → ℕ → ℕ → ℕ → List ℕ → List ℕ → Arrays → WaitingReleases → List ℕ → Placed → Arrays → WaitingReleases → List ℕ → Type 0
-StepsCToF at r t new late present priority columns before waited out x after waits out-after =
-    (m : Memory) → m .table .present ≡ present → m .table .priority ≡ priority → m .table .columns ≡ columns
-    → SteppedCToF at r t new late (with-kept m before waited) out x (with-kept m after waits) out-after
+-- with the choice of step e before it
+abbrev pub EndsAfter : ℕ → ℕ → List ℕ → List ℕ → Kept → List ℕ → List ℕ → ℕ → Kept → List ℕ → List ℕ → Type 0
+EndsAfter t at priority columns k blocked out place k' blocked' out' =
+    (release waits : List ℕ) → Whole k
+    → let d : State = read k (beside priority columns (by-task release blocked waits)) in
+    TestPut (step-f (step-e d t (d .phase)) t) k' (beside priority columns (by-task release blocked' waits)) at out place out'
 
 -- steps a to g
-pub record SteppedAToG (r : Registers) (t set : ℕ) (m : Memory) (out : List ℕ) (x : Placed) (after : Memory) (out-after : List ℕ) : Type 0 where
-  pub state : state-in (at-tick after t) (x .registers) ≡ at-g (state-in m r) t set
-  pub puts : Puts 0 (moment-entries (record { time = t; occurred = occurred (state-in m r) t set })) out (x .end) out-after
-
-abbrev pub StepsAToG : Registers → ℕ → ℕ → ℕ → List ℕ → List ℕ → Arrays → WaitingReleases → List ℕ → Placed → Arrays → WaitingReleases → List ℕ → Type 0
-StepsAToG r t set present priority columns before waited out x after waits out-after =
-    (m : Memory) → m .table .present ≡ present → m .table .priority ≡ priority → m .table .columns ≡ columns
-    → SteppedAToG r t set (with-kept m before waited) out x (with-kept m after waits) out-after
+pub record Steps (t set : ℕ) (k : Kept) (b : Beside) (out : List ℕ) (place : ℕ) (k' : Kept) (b' : Beside) (out' : List ℕ) : Type 0 where
+  pub state : read k' b' ≡ at-g (read k b) t set
+  pub puts : Puts 0 (moment-entries (record { time = t; occurred = occurred (read k b) t set })) out place out'
 
 -- ---- A run advanced
 
 -- no instant is left: nothing changes
-pub record Ended (r : Registers) (m : Memory) (out : List ℕ) (x : Advanced) (after : Memory) (out-after : List ℕ) : Type 0 where
-  pub registers-are : x .registers ≡ r
-  pub memory-is : after ≡ m
+pub record Ended (k : Kept) (b : Beside) (out : List ℕ) (x : Advanced) (k' : Kept) (b' : Beside) (out' : List ℕ) : Type 0 where
+  pub numbers-are : k' ≡ k
+  pub beside-is : b' ≡ b
   pub none-read : x .read ≡ 0
   pub none-put : x .size ≡ 0
-  pub slice-is : out-after ≡ out
+  pub slice-is : out' ≡ out
 
 -- the instant at its time, with the releases of that time, is made: what is left, how many bytes of the releases were read, and the
 -- entries that it leaves
-pub record Made (rest : List ℕ) (m : Memory) (r : Registers) (out : List ℕ) (x : Advanced) (after : Memory) (out-after : List ℕ) : Type 0 where
-  pub gathered : (b : Batch) × (b .read ≡ x .read) × Gathered rest (x .time) b
-  pub state : state-in (at-tick after (x .time)) (x .registers) ≡ at-g (state-in m r) (x .time) (released-at (x .time) (releases-at rest 0))
-  pub puts : Puts 0 (moment-entries (record { time = x .time; occurred = occurred (state-in m r) (x .time) (released-at (x .time) (releases-at rest 0)) })) out (x .size) out-after
+pub record Made (rest : List ℕ) (k : Kept) (b : Beside) (out : List ℕ) (x : Advanced) (k' : Kept) (b' : Beside) (out' : List ℕ) :
+    Type 0 where
+  pub gathered : (g : Batch) × (g .read ≡ x .read) × Gathered rest (x .time) g
+  pub steps : Steps (x .time) (released-at (x .time) (releases-at rest 0)) k b out (x .size) k' b' out'
 
 -- `rest` has the releases that are left, as entries that were checked
-pub record AdvancedTo (rest : List ℕ) (m : Memory) (r : Registers) (out : List ℕ) (x : Advanced) (after : Memory) (out-after : List ℕ) : Type 0 where
-  -- when the next instant is: the sooner of the next release and the next due time; the last tick stands for none
-  pub time-is : Stands (x .time) (sooner (first-time (releases-at rest 0)) (due (phase-in r)))
-  pub ended : x .time ≡ 2 ^ 64 - 1 → Ended r m out x after out-after
-  pub made : (x .time ≡ 2 ^ 64 - 1 → ⊥) → Made rest m r out x after out-after
-
-abbrev pub Advances : List ℕ → Registers → ℕ → List ℕ → List ℕ → Arrays → WaitingReleases → List ℕ → Advanced → Arrays → WaitingReleases → List ℕ → Type 0
-Advances rest r present priority columns before waited out x after waits out-after =
-    (m : Memory) → m .table .present ≡ present → m .table .priority ≡ priority → m .table .columns ≡ columns
-    → AdvancedTo rest (with-kept m before waited) r out x (with-kept m after waits) out-after
+pub record Advances (rest : List ℕ) (k : Kept) (b : Beside) (out : List ℕ) (x : Advanced) (k' : Kept) (b' : Beside) (out' : List ℕ) :
+    Type 0 where
+  pub time-is : Stands (x .time) (sooner (first-time (releases-at rest 0)) (due (read k b .phase)))
+  pub ended : x .time ≡ 2 ^ 64 - 1 → Ended k b out x k' b' out'
+  pub made : (x .time ≡ 2 ^ 64 - 1 → ⊥) → Made rest k b out x k' b' out'

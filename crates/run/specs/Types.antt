@@ -1,10 +1,7 @@
 -- The names that the definitions share. Those that lower crates declare are passed on to the crates above.
-pub use Rattle.rules.specs.Types.{Table, TaskPart, Refusal, NoRefusal, Alone, AtEntry, JobEntry, IntervalEntry, State, WaitingReleases, Stage, Interval, Phase, Between, Within}
-pub use Rattle.rules.specs.declared.Registers.{Registers}
+pub use Rattle.rules.specs.Types.{Closed, NoInterval, Span, Table, TaskPart, Refusal, NoRefusal, Alone, AtEntry, JobEntry, IntervalEntry, State, WaitingReleases, Stage, Interval, Phase, Between, Within}
 pub use Rattle.rules.specs.declared.Done.{Done}
 pub use Rattle.rules.specs.declared.Done.the-variants.{NoJob, Job}
-pub use Rattle.rules.specs.declared.Closed.{Closed}
-pub use Rattle.rules.specs.declared.Closed.the-variants.{NoInterval, Span}
 pub use Rattle.rules.specs.declared.Closing.{Closing}
 pub use Rattle.rules.specs.declared.Closing.the-variants.{Unclosed, BeforeReleases, AfterReleases}
 pub use Rattle.rules.specs.declared.Due.{Due}
@@ -18,10 +15,11 @@ pub use Rattle.entries.specs.declared.Release.{Release}
 pub use Rattle.entries.specs.declared.Entry.{Entry}
 pub use Rattle.entries.specs.declared.Entry.the-variants.{Malformed, TaskEntry, ReleaseEntry}
 pub use Rattle.run.specs.declared.releases.Batch.{Batch}
-pub use Rattle.run.specs.declared.instant.Placed.{Placed}
 pub use Rattle.run.specs.declared.Last.{Last}
 pub use Rattle.run.specs.declared.Last.the-variants.{NoneBefore, Before}
 pub use Rattle.run.specs.declared.Advanced.{Advanced}
+pub use Rattle.run.specs.declared.Piece.{Piece}
+pub use Rattle.dispatcher.specs.declared.Dispatcher.{Dispatcher}
 pub use mathlib.Core.Bool.{Bool, true, false, cond, not, _&&_, _||_}
 pub use mathlib.Core.List.{List, [], _∷_, _++_}
 pub use Prim.Native.Nat.{ℕ, zero, suc, _+_, _-_, _*_, _^_, _≤_}

@@ -1,173 +1,204 @@
-// One instant of a run, with its entries put into the lent slice as things occur. The steps are the rules'; the promises hold for every
-// memory that has the arrays that are lent.
+// One instant of a run over the arrays that keep a dispatcher, each changed where it is, with its entries put into the lent slice as things
+// occur. The test of an interval's end stands twice: as one function with two callers it is not inlined.
 use crate::Advanced;
-use crate::putting::done_at;
 use crate::putting::interval_at;
+use crate::putting::job_at;
 use crate::putting::skips_at;
 use crate::releases::gather;
 use crate::releases::next_tick;
-use rules::Registers;
+use rules::at;
+use rules::codes;
 use table::Columns;
-ghost use Prim.Native.Nat.{_≤_};
-ghost use Rattle.rules.specs.Registers.{arrays, waits as waiting-releases};
-ghost use Rattle.run.specs.Advance.{StepsAB, StepsCToF, StepsAToG, Advances};
+ghost use Prim.Native.Nat.{_≤_, _<_, _-_, _^_};
+ghost use Rattle.rules.specs.Kept.{kept, by-task, beside};
+ghost use Rattle.run.specs.Advance.{CopyOutEnds, EndsBefore, EndsAfter, Steps, Advances};
 
-// What is left of the state, and the place behind what was put.
-pub struct Placed {
-    pub registers: Registers,
-    pub end: usize,
-}
-
-// Steps a and b: the job that is done, and the interval that ends before the releases.
-fn steps_a_b(
-    out: &mut [u8],
-    r: Registers,
+// Step a of the copy-out: the job that is done.
+fn end_copyout(
     t: u64,
-    present: u32,
-    priority: &[u8; 32],
-    columns: &Columns,
+    times: &[u64; 7],
+    sets: &mut [u32; 6],
+    codes: &mut [u8; 9],
     release: &[u64; 32],
-    blocked: &mut [u8; 32],
-) -> Placed
-    ensures { λ x. ⌜ StepsAB r t present (now (priority .entry)) (now (columns .entry)) (arrays (now (release .entry)) (now (blocked .entry))) (now (out .entry)) x (now (blocked .exit)) (now (out .exit)) ⌝ }
+    blocked: &[u8; 32],
+    out: &mut [u8],
+) -> usize
+    ensures { λ x. ⌜ CopyOutEnds t (now (times .entry)) (now (release .entry)) (now (blocked .entry))
+        (now (sets .entry)) (now (codes .entry)) (now (out .entry)) x (now (sets .exit)) (now (codes .exit)) (now (out .exit)) ⌝ }
 {
-    let done = rules::completed(r, t, release, blocked);
-    let end = done_at(out, 0, done);
-    let a = rules::ended(r, t, columns);
-    if rules::is_over(a) {
-        let p = rules::promoted(a, priority);
-        rules::count_blocked(a, present, priority, blocked);
-        let last = interval_at(out, end, rules::interval_entry(a, t, p));
-        return Placed {
-            registers: rules::close(a, p),
-            end: last,
-        };
+    if rules::copyout_ends(t, times, codes) {
+        let end = job_at(
+            out,
+            0,
+            rules::completed_job(t, times, codes, release, blocked),
+        );
+        rules::copied_out(sets, codes);
+        return end;
     }
-    Placed { registers: a, end }
+    0
 }
 
-// Steps c to f, with the tasks whose release is taken and those whose release waits: the interval that ends after the releases.
-fn steps_c_to_f(
-    out: &mut [u8],
-    at: usize,
-    r: Registers,
+// Step b: the interval that ends before the releases.
+fn end_before(
     t: u64,
-    new: u32,
-    late: u32,
-    present: u32,
+    times: &mut [u64; 7],
+    sets: &mut [u32; 6],
+    codes: &mut [u8; 9],
     priority: &[u8; 32],
-    columns: &Columns,
-    release: &mut [u64; 32],
     blocked: &mut [u8; 32],
-    waiting: &mut u32,
-    waits: &mut [u64; 32],
-) -> Placed
-    requires { ⌜ at ≤ 1000 ⌝ }
-    ensures { λ x. ⌜ StepsCToF at r t new late present (now (priority .entry)) (now (columns .entry)) (arrays (now (release .entry)) (now (blocked .entry))) (waiting-releases (now (waiting .entry)) (now (waits .entry))) (now (out .entry)) x (arrays (now (release .exit)) (now (blocked .exit))) (waiting-releases (now (waiting .exit)) (now (waits .exit))) (now (out .exit)) ⌝ }
+    out: &mut [u8],
+    place: usize,
+) -> usize
+    requires { ⌜ place ≤ 1000 ⌝ }
+    ensures { λ x. ⌜ EndsBefore t place (now (priority .entry))
+        (kept (now (times .entry)) (now (sets .entry)) (now (codes .entry))) (now (blocked .entry)) (now (out .entry)) x
+        (kept (now (times .exit)) (now (sets .exit)) (now (codes .exit))) (now (blocked .exit)) (now (out .exit)) ⌝ }
 {
-    let d = rules::steps_c_d(r, t, new, late, priority, release, blocked, waiting, waits);
-    let e = rules::chosen(d, t, priority, columns);
-    if rules::is_over(e) {
-        let p = rules::promoted(e, priority);
-        rules::count_blocked(e, present, priority, blocked);
-        let last = interval_at(out, at, rules::interval_entry(e, t, p));
-        return Placed {
-            registers: rules::close(e, p),
-            end: last,
-        };
+    if rules::is_over(codes) {
+        let p = rules::promoted(sets, codes, priority);
+        rules::count_blocked(sets, codes, priority, blocked);
+        let end = interval_at(out, place, rules::interval_entry(t, p, times, codes));
+        rules::close(p, times, sets, codes);
+        return end;
     }
-    Placed {
-        registers: e,
-        end: at,
-    }
+    place
 }
 
-// Steps a to g.
-fn steps_a_to_g(
+// Steps e and f: the choice, and the interval that ends after the releases. Where none is open there is nothing to do.
+fn end_after<'a>(
+    t: u64,
+    times: &mut [u64; 7],
+    sets: &mut [u32; 6],
+    codes: &mut [u8; 9],
+    priority: &'a [u8; 32],
+    columns: &'a Columns,
+    blocked: &mut [u8; 32],
     out: &mut [u8],
-    r: Registers,
+    place: usize,
+) -> usize
+    requires { ⌜ place ≤ 1000 ⌝ }
+    ensures { λ x. ⌜ EndsAfter t place (now (priority .entry)) (now (columns .entry))
+        (kept (now (times .entry)) (now (sets .entry)) (now (codes .entry))) (now (blocked .entry)) (now (out .entry)) x
+        (kept (now (times .exit)) (now (sets .exit)) (now (codes .exit))) (now (blocked .exit)) (now (out .exit)) ⌝ }
+{
+    if codes[at::COPYIN] == codes::NO_INTERVAL {
+        return place;
+    }
+    rules::choose(t, times, sets, codes, priority, columns);
+    if rules::is_over(codes) {
+        let p = rules::promoted(sets, codes, priority);
+        rules::count_blocked(sets, codes, priority, blocked);
+        let end = interval_at(out, place, rules::interval_entry(t, p, times, codes));
+        rules::close(p, times, sets, codes);
+        return end;
+    }
+    place
+}
+
+// Steps a to g: the place behind the entries.
+fn steps<'a>(
     t: u64,
     set: u32,
-    present: u32,
-    priority: &[u8; 32],
-    columns: &Columns,
+    times: &mut [u64; 7],
+    sets: &mut [u32; 6],
+    codes: &mut [u8; 9],
+    priority: &'a [u8; 32],
+    columns: &'a Columns,
     release: &mut [u64; 32],
     blocked: &mut [u8; 32],
-    waiting: &mut u32,
     waits: &mut [u64; 32],
-) -> Placed
-    ensures { λ x. ⌜ StepsAToG r t set present (now (priority .entry)) (now (columns .entry)) (arrays (now (release .entry)) (now (blocked .entry))) (waiting-releases (now (waiting .entry)) (now (waits .entry))) (now (out .entry)) x (arrays (now (release .exit)) (now (blocked .exit))) (waiting-releases (now (waiting .exit)) (now (waits .exit))) (now (out .exit)) ⌝ }
+    out: &mut [u8],
+) -> usize
+    ensures { λ x. ⌜ Steps t set
+        (kept (now (times .entry)) (now (sets .entry)) (now (codes .entry)))
+        (beside (now (priority .entry)) (now (columns .entry))
+        (by-task (now (release .entry)) (now (blocked .entry)) (now (waits .entry))))
+        (now (out .entry)) x
+        (kept (now (times .exit)) (now (sets .exit)) (now (codes .exit)))
+        (beside (now (priority .entry)) (now (columns .entry)) (by-task (now (release .exit)) (now (blocked .exit)) (now (waits .exit))))
+        (now (out .exit)) ⌝ }
 {
-    let b = steps_a_b(out, r, t, present, priority, columns, release, blocked);
-    let open = b.registers;
-    let late = rules::to_defer(set, open.pending, *waiting);
-    let new = rules::to_take(set, open.pending, *waiting);
-    let last = skips_at(out, b.end, rules::to_skip(set, open.pending, *waiting), t);
-    let f = steps_c_to_f(
-        out,
-        last,
-        open,
+    rules::stamp(t, times, sets, codes);
+    let done = end_copyout(t, times, sets, codes, release, blocked, out);
+    rules::others_end(t, times, codes, columns);
+    let first = end_before(t, times, sets, codes, priority, blocked, out, done);
+    let r = rules::released(sets[at::PENDING], sets[at::WAITING], set);
+    let skipped = skips_at(out, first, r.skipped, t);
+    let held = rules::held_over(codes, r.taken);
+    rules::take_releases(
         t,
-        new,
-        late,
-        present,
+        r.taken,
+        r.deferred,
+        sets,
+        codes,
         priority,
-        columns,
         release,
         blocked,
-        waiting,
         waits,
     );
-    let held = rules::held_over(open, new);
-    let registers = rules::begun(f.registers, t, held, priority, columns);
-    let end = f.end;
-    Placed { registers, end }
+    let last = end_after(
+        t,
+        times,
+        sets,
+        codes,
+        priority,
+        columns,
+        blocked,
+        out,
+        skipped,
+    );
+    rules::begin_interval(t, held, times, sets, codes, priority, columns);
+    last
 }
 
 // The next instant of a run: `rest` has the releases that are left. The entries that it leaves are put into the front of `out`, as far as
 // they fit whole. The table's arrays are lent together, and so for one lifetime.
 pub fn advance<'a>(
     rest: &[u8],
-    r: Registers,
-    present: u32,
+    times: &mut [u64; 7],
+    sets: &mut [u32; 6],
+    codes: &mut [u8; 9],
     priority: &'a [u8; 32],
     columns: &'a Columns,
     release: &mut [u64; 32],
     blocked: &mut [u8; 32],
-    waiting: &mut u32,
     waits: &mut [u64; 32],
     out: &mut [u8],
 ) -> Advanced
-    ensures { λ x. ⌜ Advances (now (rest .entry)) r present (now (priority .entry)) (now (columns .entry)) (arrays (now (release .entry)) (now (blocked .entry))) (waiting-releases (now (waiting .entry)) (now (waits .entry))) (now (out .entry)) x (arrays (now (release .exit)) (now (blocked .exit))) (waiting-releases (now (waiting .exit)) (now (waits .exit))) (now (out .exit)) ⌝ }
+    ensures { λ x. ⌜ Advances (now (rest .entry))
+        (kept (now (times .entry)) (now (sets .entry)) (now (codes .entry)))
+        (beside (now (priority .entry)) (now (columns .entry))
+        (by-task (now (release .entry)) (now (blocked .entry)) (now (waits .entry))))
+        (now (out .entry)) x
+        (kept (now (times .exit)) (now (sets .exit)) (now (codes .exit)))
+        (beside (now (priority .entry)) (now (columns .entry)) (by-task (now (release .exit)) (now (blocked .exit)) (now (waits .exit))))
+        (now (out .exit)) ⌝ }
 {
-    let time = next_tick(rest, r);
+    let time = next_tick(rest, times, codes);
     if time == u64::MAX {
         return Advanced {
-            registers: r,
             time,
             read: 0,
             size: 0,
         };
     }
     let batch = gather(rest, time);
-    let x = steps_a_to_g(
-        out,
-        r,
+    let size = steps(
         time,
         batch.set,
-        present,
+        times,
+        sets,
+        codes,
         priority,
         columns,
         release,
         blocked,
-        waiting,
         waits,
+        out,
     );
-    let registers = x.registers;
     Advanced {
-        registers,
         time,
         read: batch.read,
-        size: x.end,
+        size,
     }
 }

@@ -6,13 +6,12 @@ use entries::IntervalEntry;
 use entries::JOB_SIZE;
 use entries::JobEntry;
 use entries::SKIPPED_SIZE;
-use rules::Done;
 ghost use mathlib.Core.List.{[], _∷_};
 ghost use Prim.Native.Nat.{_≤_};
 ghost use Rattle.entries.specs.Entries.{job-bytes, interval-bytes, skipped-bytes};
-ghost use Rattle.run.specs.Putting.{done-entries, skips-entries, Puts};
+ghost use Rattle.run.specs.Putting.{skips-entries, Puts};
 
-fn job_at(out: &mut [u8], at: usize, e: JobEntry) -> usize
+pub fn job_at(out: &mut [u8], at: usize, e: JobEntry) -> usize
     requires { ⌜ at ≤ 1000 ⌝ }
     ensures { λ r. ⌜ Puts at (job-bytes e ∷ []) (now (out .entry)) r (now (out .exit)) ⌝ }
 {
@@ -40,16 +39,6 @@ fn skipped_at(out: &mut [u8], at: usize, task: u8, time: u64) -> usize
         entries::put_skipped(&mut out[at..], task, time);
     }
     at + SKIPPED_SIZE
-}
-
-pub fn done_at(out: &mut [u8], at: usize, done: Done) -> usize
-    requires { ⌜ at ≤ 1000 ⌝ }
-    ensures { λ r. ⌜ Puts at (done-entries done) (now (out .entry)) r (now (out .exit)) ⌝ }
-{
-    match done {
-        Done::NoJob => at,
-        Done::Job(e) => job_at(out, at, e),
-    }
 }
 
 // The skipped releases by rising task number. The loop goes from member to member.

@@ -1,13 +1,10 @@
 // The releases of a file's run, read from the bytes as their time comes. The slices that are lent have the releases that are left.
 use entries::RELEASE_SIZE;
-use rules::Registers;
 ghost use Prim.Native.Nat.{_-_, _^_, _<_};
-ghost use Rattle.rules.specs.Instant.{due, sooner};
-ghost use Rattle.rules.specs.Registers.{phase-in};
 ghost use Rattle.rules.specs.Steps.{Stands};
 ghost use Rattle.run.specs.Listed.{releases-at};
 ghost use Rattle.run.specs.Run as run;
-ghost use Rattle.run.specs.Advance.{Gathered};
+ghost use Rattle.run.specs.Advance.{Gathered, NextTick};
 
 // The set released at a time, and how many bytes its entries have.
 pub struct Batch {
@@ -41,8 +38,8 @@ pub fn gather(rest: &[u8], t: u64) -> Batch
 }
 
 // When the next instant of a run is: the sooner of its next release and the next due time; the last tick stands for none.
-pub fn next_tick(rest: &[u8], r: Registers) -> u64
-    ensures { λ x. ⌜ Stands x (sooner (run.first-time (releases-at (now (rest .entry)) 0)) (due (phase-in r))) ⌝ }
+pub fn next_tick(rest: &[u8], times: &[u64; 7], codes: &[u8; 9]) -> u64
+    ensures { λ x. ⌜ NextTick (now (rest .entry)) (now (times .entry)) (now (codes .entry)) x ⌝ }
 {
-    rules::least(first_tick(rest), rules::due_tick(r))
+    rules::least(first_tick(rest), rules::due_tick(times, codes))
 }

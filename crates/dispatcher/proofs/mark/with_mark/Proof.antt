@@ -1,15 +1,15 @@
--- `dispatcher::mark::with_mark` meets its contract. Assumes nothing.
+-- `dispatcher::mark::with_mark` meets its contract: the sets with the mark, and all else as it was. Assumes nothing.
+use Rattle.dispatcher.specs.Dispatcher.{beside-of}
 use borrow.Author.Needs.{needs}
-use Rattle.rules.specs.Registers.{interval-in, phase-in, state-in}
 use Rattle.dispatcher.proofs.mark.with_mark.Statement.{statement}
 use Rattle.dispatcher.proofs.mark.with_mark.Tie as tie
 
-marked-with-requires : tie.Need-marked-with-requires
-marked-with-requires c κs = search needs
-
 returns : tie.Need-returns
-unfolding state-in phase-in interval-in
-returns c = simp (c .before .before .before .before .marked-with .ensures)
+returns c =
+    let d = c .before .before .before .before .before .before .before .before .before .before .args .d in
+    c .before .before .before .before .before .before .before .marked-with .ensures (d .times) (d .codes) (beside-of d)
 
 pub with-mark-spec : {M : Type 1} → statement M
-with-mark-spec = tie.close (tie.spec marked-with-requires returns)
+with-mark-spec = tie.close
+    (tie.spec
+    (λ c κs. search needs) returns)

@@ -1,13 +1,15 @@
--- `dispatcher::opened` meets its contract: what the registers at opening promise, at this table. Assumes nothing.
-use borrow.Author.Needs.{needs}
+-- `dispatcher::open_tasks::opened` meets its contract: number by number. Assumes nothing.
+use mathlib.Core.Path.{refl}
+use Rattle.rules.specs.Registers.{interval-in, phase-in, state-in}
+use Rattle.rules.specs.Calls.{opened}
 use Rattle.dispatcher.proofs.open_tasks.opened.Statement.{statement}
 use Rattle.dispatcher.proofs.open_tasks.opened.Tie as tie
 
-empty-requires : tie.Need-empty-requires
-empty-requires c κs = search needs
-
 returns : tie.Need-returns
-returns c = c .empty .ensures _
+unfolding state-in phase-in interval-in opened
+returns c = refl
 
 pub opened-spec : {M : Type 1} → statement M
-opened-spec = tie.close (tie.spec empty-requires returns)
+opened-spec = tie.close
+    (tie.spec
+    returns)

@@ -8,58 +8,31 @@ use borrow.Author.Needs.{needs}
 use Rattle.reading.proofs.listing.read_checked.Statement.{statement}
 use Rattle.reading.proofs.listing.read_checked.Tie as tie
 
-open-requires : tie.Need-open-requires
-open-requires c κs = search needs
-
-enum-told : tie.Need-enum-told
-enum-told c = search needs
-
 read-opened-requires : tie.Need-read-opened-requires
-read-opened-requires c κs =
-    let o = c .before .before .before .before .before .before .«open» in
-    let e = c .before .before .before .before .enum-told .given .1 in
-    opened-part (c .before .before .before .before .before .before .before .before .before .before .args .tasks .now) (o .result) (o .ensures .opens) e
-
-enum-told-2 : tie.Need-enum-told-2
-enum-told-2 c = search needs
-
-enum-told-3 : tie.Need-enum-told-3
-enum-told-3 c = search needs
-
-same-length : tie.Need-same-length
-same-length c = search needs
+read-opened-requires c κs = let o = c .before .before .before .before .before .before .before .before .«open» in opened-part (c .before .before .before .before .before .before .before .before .before .before .before .before .args .tasks .now) (o .result) (o .ensures .opens) (c .before .before .before .before .before .before .enum-told .given .1)
 
 returns : tie.Need-returns
 returns c =
-    let a = c .before .before .before .before .before .before .before .before .before .before .before .before .before .args in
-    let o = c .before .before .before .before .before .before .before .before .before .«open» in
-    let e = ap (λ (o : Opening). o .refusal) (o .ensures .opens) in
-    opened (a .tasks .now) (a .stored .now) (a .out .now) (o .result .refusal) e (c .before .before .before .before .before .before .before .enum-told .given .1) (c .before .before .read-opened .ensures)
+    let a = c .before .before .before .before .before .before .before .before .before .before .before .before .before .before .before .args in
+    let o = c .before .before .before .before .before .before .before .before .before .before .before .«open» in
+    opened (a .tasks .now) (a .stored .now) (a .out .now) (o .result .refusal) (ap (λ (o : Opening). o .refusal) (o .ensures .opens)) (c .before .before .before .before .before .before .before .before .before .enum-told .given .1) (c .before .before .read-opened .ensures)
 
 returns-2 : tie.Need-returns-2
 returns-2 c =
     let a = c .before .before .before .before .before .before .args in
     let o = c .before .before .«open» in
-    let e = ap (λ (o : Opening). o .refusal) (o .ensures .opens) in
-    not-opened (a .tasks .now) (a .stored .now) (a .out .now) (o .result .refusal) e (alone (c .enum-told2 .given .1))
+    not-opened (a .tasks .now) (a .stored .now) (a .out .now) (o .result .refusal) (ap (λ (o : Opening). o .refusal) (o .ensures .opens)) (alone (c .enum-told2 .given .1))
 
 returns-3 : tie.Need-returns-3
 returns-3 c =
     let a = c .before .before .before .before .before .before .args in
     let o = c .before .before .«open» in
-    let e = ap (λ (o : Opening). o .refusal) (o .ensures .opens) in
-    not-opened (a .tasks .now) (a .stored .now) (a .out .now) (o .result .refusal) e (at-entry (c .enum-told3 .given .1))
+    not-opened (a .tasks .now) (a .stored .now) (a .out .now) (o .result .refusal) (ap (λ (o : Opening). o .refusal) (o .ensures .opens)) (at-entry (c .enum-told3 .given .1))
 
 pub read-checked-spec : {M : Type 1} → statement M
 read-checked-spec =
     tie.close
     (tie.spec
-    open-requires
-    enum-told
-    read-opened-requires
-    enum-told-2
-    enum-told-3
-    same-length
-    returns
-    returns-2
+    (λ c κs. search needs) (λ c. search needs) (λ c. search needs) (λ c. search needs) read-opened-requires
+    (λ c. search needs) (λ c. search needs) (λ c. search needs) returns returns-2
     returns-3)

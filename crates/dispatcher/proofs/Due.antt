@@ -1,0 +1,50 @@
+-- The next due time as a plain number: whether it is before a time, and what is told of it. Assumes nothing.
+use mathlib.Core.Path.{_≡_, refl, sym, ap, _∙_}
+use mathlib.Core.Bool.{Bool, true, false}
+use mathlib.Core.List.{List}
+use mathlib.Core.Logic.{⊎-elim}
+use Prim.Native.Nat.{ℕ, _-_, _*_, _^_, _≤_, _<_}
+use native.Mathlib.Omega.{arith}
+use borrow.Author.Tests.{lt-ltb, le-ltb}
+use lib.ListN.{set}
+use Rattle.rules.specs.Instant.{due}
+use Rattle.rules.specs.Calls.{before-now}
+use Rattle.rules.specs.Registers.{phase-in}
+use Rattle.rules.specs.Kept.{kept, registers-in}
+use Rattle.rules.specs.Steps.{Stands, IsDue}
+use Rattle.dispatcher.specs.Types.{Due, Never, Tick}
+use Rattle.dispatcher.specs.Telling.{due-told, due-number}
+use Rattle.dispatcher.specs.Promises.{DueTold}
+
+-- a phase ends before a time, or none does
+pub due-before : {x : ℕ} (p : Due) (t : ℕ) → Stands x p → x < t → t < 2 ^ 64 → before-now p t ≡ true
+due-before {x} p t s l f =
+    ⊎-elim
+    (λ e. ap (λ (q : Due). before-now q t) e ∙ lt-ltb x t l)
+    (λ w. absurd (omega (arith, w .0, l, f)))
+    (s .is)
+
+pub due-not-before : {x : ℕ} (p : Due) (t : ℕ) → Stands x p → t ≤ x → before-now p t ≡ false
+due-not-before {x} p t s l =
+    ⊎-elim
+    (λ e. ap (λ (q : Due). before-now q t) e ∙ le-ltb x t l)
+    (λ w. ap (λ (q : Due). before-now q t) (w .1))
+    (s .is)
+
+-- ---- what is told
+
+module _ (times sets codes told : List ℕ) where
+  abbrev next : Due
+  next = due (phase-in (registers-in (kept times sets codes)))
+
+  tells : {x : ℕ} → next ≡ Tick x → DueTold times sets codes told (set told 0 x) (2 ^ 48)
+  tells e = record { told-is = sym (ap (λ (p : Due). due-told p told) e); number-is = sym (ap (λ (p : Due). 2 ^ 48 * due-number p) e) }
+
+  pub tells-tick : {x : ℕ} → Stands x next → (x ≡ 2 ^ 64 - 1 → ⊥) → DueTold times sets codes told (set told 0 x) (2 ^ 48)
+  tells-tick s ne = ⊎-elim (λ e. tells e) (λ w. absurd (ne (w .0))) (s .is)
+
+  pub tells-some : {x : ℕ} {some : Bool} → Stands x next → IsDue some next → some ≡ true → DueTold times sets codes told (set told 0 x) (2 ^ 48)
+  tells-some s i h = ⊎-elim (λ e. tells e) (λ w. absurd (i .some h (w .1))) (s .is)
+
+  pub tells-none : {some : Bool} → IsDue some next → some ≡ false → DueTold times sets codes told told 0
+  tells-none i h = record { told-is = sym (ap (λ (p : Due). due-told p told) (i .none h)); number-is = sym (ap (λ (p : Due). 2 ^ 48 * due-number p) (i .none h)) }

@@ -1,0 +1,45 @@
+-- `dispatcher::stepping::end_after` meets its contract: the choice is made, and the interval closes where it is at its end. Assumes nothing.
+use mathlib.Core.Path.{refl}
+use native.Mathlib.Omega.{arith}
+use Rattle.rules.specs.Kept.{kept, beside, by-task}
+use Rattle.rules.proofs.Instants.{stays, closes-with, none-ends, behind}
+use Rattle.dispatcher.proofs.Composing.{closes-told, stays-told}
+use borrow.Author.Needs.{needs}
+use Rattle.dispatcher.proofs.stepping.end_after.Statement.{statement}
+use Rattle.dispatcher.proofs.stepping.end_after.Tie as tie
+
+returns : tie.Need-returns
+returns c =
+    let a = c .before .before .args in (
+      λ release waits w.
+          stays-told 2 (none-ends (a .t) (kept (a .times .now) (a .sets .now) (a .codes .now)) (beside (a .priority .now) (a .columns .now) (by-task release (a .blocked .now) waits)) w (c .if1 .taken)),
+      omega arith,
+    )
+
+returns-2 : tie.Need-returns-2
+returns-2 c =
+    let a = c .before .before .before .before .before .before .before .before .before .before .before .before .before .before .before .before .before .before .before .before .before .before .before .before .args in (
+      λ release waits w.
+          let b = beside (a .priority .now) (a .columns .now) (by-task release (a .blocked .now) waits) in
+          let x = c .before .before .before .before .before .before .before .before .before .before .before .before .before .before .before .before .before .before .choose .ensures (by-task release (a .blocked .now) waits) w in
+          closes-told 2 (behind (a .t) (x .state) (closes-with (a .t) _ b (c .before .before .before .before .before .before .before .before .before .before .before .before .before .before .before .before .is-over .ensures) (c .before .before .before .before .before .before .before .before .before .before .before .before .promoted .result) (x .whole) (c .before .before .before .before .before .before .before .before .before .before .before .before .before .before .before .if2 .taken)
+          (c .before .before .before .before .before .before .before .before .before .before .before .before .promoted .ensures) (c .before .before .before .before .before .before .before .before .count-blocked .ensures) refl (c .close .ensures))) (c .before .before .before .before .tell-interval .ensures (c .before .before .before .before .before .before .before .before .before .before .before .before .before .before .before .before .before .before .choose .last .1 .1 .0)),
+      omega arith,
+    )
+
+returns-3 : tie.Need-returns-3
+returns-3 c =
+    let a = c .before .before .before .before .before .before .before .before .before .args in (
+      λ release waits w.
+          let b = beside (a .priority .now) (a .columns .now) (by-task release (a .blocked .now) waits) in
+          let x = c .before .before .before .choose .ensures (by-task release (a .blocked .now) waits) w in
+          stays-told 2 (behind (a .t) (x .state) (stays (a .t) _ b (c .before .is-over .ensures) (x .whole) (c .if2 .left))),
+      omega arith,
+    )
+
+pub end-after-spec : {M : Type 1} → statement M
+end-after-spec =
+    tie.close
+    (tie.spec
+    (λ c. search needs) returns (λ c κs. search needs) (λ c κs. search needs) (λ c κs. search needs)
+    (λ c κs. search needs) (λ c κs. search needs) (λ c κs. search needs) returns-2 returns-3)

@@ -1,0 +1,33 @@
+-- `dispatcher::stepping::end_before` meets its contract: the interval closes where it is at its end. Assumes nothing.
+use mathlib.Core.Path.{refl}
+use native.Mathlib.Omega.{arith}
+use Rattle.rules.specs.Kept.{kept, beside, by-task}
+use Rattle.rules.proofs.Instants.{stays, closes-with}
+use Rattle.dispatcher.proofs.Composing.{closes-told, stays-told}
+use borrow.Author.Needs.{needs}
+use Rattle.dispatcher.proofs.stepping.end_before.Statement.{statement}
+use Rattle.dispatcher.proofs.stepping.end_before.Tie as tie
+
+returns : tie.Need-returns
+returns c =
+    let a = c .before .before .before .before .before .before .before .before .before .before .before .before .before .before .before .before .before .before .args in (
+      λ columns release waits w.
+          closes-told 1 (closes-with (a .t) (kept (a .times .now) (a .sets .now) (a .codes .now)) (beside (a .priority .now) columns (by-task release (a .blocked .now) waits)) (c .before .before .before .before .before .before .before .before .before .before .before .before .before .before .before .before .is-over .ensures) (c .before .before .before .before .before .before .before .before .before .before .before .before .promoted .result) w (c .before .before .before .before .before .before .before .before .before .before .before .before .before .before .before .if1 .taken)
+          (c .before .before .before .before .before .before .before .before .before .before .before .before .promoted .ensures) (c .before .before .before .before .before .before .before .before .count-blocked .ensures) refl (c .close .ensures)) (c .before .before .before .before .tell-interval .ensures (a .sets .now)),
+      omega arith,
+    )
+
+returns-2 : tie.Need-returns-2
+returns-2 c =
+    let a = c .before .before .before .args in (
+      λ columns release waits w.
+          stays-told 1 (stays (a .t) (kept (a .times .now) (a .sets .now) (a .codes .now)) (beside (a .priority .now) columns (by-task release (a .blocked .now) waits)) (c .before .is-over .ensures) w (c .if1 .left)),
+      omega arith,
+    )
+
+pub end-before-spec : {M : Type 1} → statement M
+end-before-spec =
+    tie.close
+    (tie.spec
+    (λ c κs. search needs) (λ c κs. search needs) (λ c κs. search needs) (λ c κs. search needs) (λ c κs. search needs)
+    returns returns-2)

@@ -1,0 +1,135 @@
+// Steps a to g over the arrays that keep a dispatcher, each changed where it is. What occurs is told as it occurs: an answer that is made first
+// and told afterwards costs as much again. The test of an interval's end stands twice: as one function with two callers it is not inlined.
+use crate::telling::nine;
+use crate::telling::summed;
+use crate::telling::tell_due;
+use crate::telling::tell_interval;
+use crate::telling::tell_job;
+use rules::at;
+use rules::codes;
+use table::Columns;
+ghost use Prim.Native.Nat.{_^_, _≤_};
+ghost use Rattle.rules.specs.Kept.{kept, by-task, beside};
+ghost use Rattle.dispatcher.specs.Promises.{EndsCopyOut, EndsBefore, EndsAfter, StepsTo};
+
+fn end_copyout(
+    t: u64,
+    times: &[u64; 7],
+    sets: &mut [u32; 6],
+    codes: &mut [u8; 9],
+    release: &[u64; 32],
+    blocked: &[u8; 32],
+    told: &mut [u64; 9],
+) -> u64
+    ensures { λ x. ⌜ EndsCopyOut t (now (release .entry)) (now (blocked .entry)) (now (times .entry))
+        (now (sets .entry)) (now (codes .entry)) (now (told .entry)) (now (sets .exit)) (now (codes .exit)) (now (told .exit)) x ⌝ }
+    ensures { λ x. ⌜ x ≤ 2 ^ 32 ⌝ }
+{
+    if rules::copyout_ends(t, times, codes) {
+        tell_job(
+            rules::completed_job(t, times, codes, release, blocked),
+            told,
+        );
+        rules::copied_out(sets, codes);
+        return 4294967296;
+    }
+    0
+}
+
+fn end_before(
+    t: u64,
+    times: &mut [u64; 7],
+    sets: &mut [u32; 6],
+    codes: &mut [u8; 9],
+    priority: &[u8; 32],
+    blocked: &mut [u8; 32],
+    told: &mut [u64; 9],
+) -> u64
+    ensures { λ x. ⌜ EndsBefore t (now (priority .entry))
+        (kept (now (times .entry)) (now (sets .entry)) (now (codes .entry))) (now (blocked .entry)) (now (told .entry))
+        (kept (now (times .exit)) (now (sets .exit)) (now (codes .exit))) (now (blocked .exit)) (now (told .exit)) x ⌝ }
+    ensures { λ x. ⌜ x ≤ 2 ^ 40 ⌝ }
+{
+    if rules::is_over(codes) {
+        let p = rules::promoted(sets, codes, priority);
+        rules::count_blocked(sets, codes, priority, blocked);
+        tell_interval(t, p, times, codes, told);
+        rules::close(p, times, sets, codes);
+        return 1099511627776;
+    }
+    0
+}
+
+fn end_after(
+    t: u64,
+    times: &mut [u64; 7],
+    sets: &mut [u32; 6],
+    codes: &mut [u8; 9],
+    priority: &[u8; 32],
+    columns: &Columns,
+    blocked: &mut [u8; 32],
+    told: &mut [u64; 9],
+) -> u64
+    ensures { λ x. ⌜ EndsAfter t (now (priority .entry)) (now (columns .entry))
+        (kept (now (times .entry)) (now (sets .entry)) (now (codes .entry))) (now (blocked .entry)) (now (told .entry))
+        (kept (now (times .exit)) (now (sets .exit)) (now (codes .exit))) (now (blocked .exit)) (now (told .exit)) x ⌝ }
+    ensures { λ x. ⌜ x ≤ 2 ^ 41 ⌝ }
+{
+    if codes[at::COPYIN] == codes::NO_INTERVAL {
+        return 0;
+    }
+    rules::choose(t, times, sets, codes, priority, columns);
+    if rules::is_over(codes) {
+        let p = rules::promoted(sets, codes, priority);
+        rules::count_blocked(sets, codes, priority, blocked);
+        tell_interval(t, p, times, codes, told);
+        rules::close(p, times, sets, codes);
+        return 2199023255552;
+    }
+    0
+}
+
+pub fn steps<'a>(
+    t: u64,
+    set: u32,
+    times: &mut [u64; 7],
+    sets: &mut [u32; 6],
+    codes: &mut [u8; 9],
+    priority: &'a [u8; 32],
+    columns: &'a Columns,
+    release: &mut [u64; 32],
+    blocked: &mut [u8; 32],
+    waits: &mut [u64; 32],
+    told: &mut [u64; 9],
+)
+    ensures { λ _. ⌜ StepsTo t set
+        (kept (now (times .entry)) (now (sets .entry)) (now (codes .entry)))
+        (beside (now (priority .entry)) (now (columns .entry)) (by-task (now (release .entry)) (now (blocked .entry)) (now (waits .entry))))
+        (now (told .entry))
+        (kept (now (times .exit)) (now (sets .exit)) (now (codes .exit)))
+        (beside (now (priority .entry)) (now (columns .entry)) (by-task (now (release .exit)) (now (blocked .exit)) (now (waits .exit))))
+        (now (told .exit)) ⌝ }
+{
+    nine(told);
+    rules::stamp(t, times, sets, codes);
+    let done = end_copyout(t, times, sets, codes, release, blocked, told);
+    rules::others_end(t, times, codes, columns);
+    let first = end_before(t, times, sets, codes, priority, blocked, told);
+    let r = rules::released(sets[at::PENDING], sets[at::WAITING], set);
+    let held = rules::held_over(codes, r.taken);
+    rules::take_releases(
+        t,
+        r.taken,
+        r.deferred,
+        sets,
+        codes,
+        priority,
+        release,
+        blocked,
+        waits,
+    );
+    let last = end_after(t, times, sets, codes, priority, columns, blocked, told);
+    rules::begin_interval(t, held, times, sets, codes, priority, columns);
+    let next = tell_due(times, codes, told);
+    told[1] = summed(r.skipped, done, first, last, next);
+}

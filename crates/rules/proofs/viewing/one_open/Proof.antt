@@ -1,0 +1,24 @@
+-- `rules::viewing::one_open` meets its contract: field by field. Assumes nothing.
+use lib.ListN.{getD}
+use Rattle.rules.specs.Kept.{kept}
+use Rattle.rules.proofs.Views.{one-goes-on}
+use borrow.Author.Needs.{needs}
+use Rattle.rules.proofs.viewing.one_open.Statement.{statement}
+use Rattle.rules.proofs.viewing.one_open.Tie as tie
+
+returns : tie.Need-returns
+returns c b ne =
+    let a = c .before .before .before .before .before .before .before .before .before .before .before .before .before .before .before .before .before .before .before .before .before .before .before .args in
+    one-goes-on (kept (a .times .now) (a .sets .now) (a .codes .now)) b (c .before .before .before .before .before .before .before .before .before .before .before .before .before .before .before .before .before .before .before .before .before .is-working .result) ne (c .before .before .before .before .before .before .before .before .before .before .before .before .before .before .before .before .end-where .ensures) (c .before .before .before .before .before .before .task-where .ensures)
+    (c .before .before .before .before .before .before .before .before .before .before .before .before .before .before .before .before .before .before .before .before .before .is-working .ensures (getD (a .codes .now) 3 0) (getD (a .times .now) 1 0) (getD (a .times .now) 2 0))
+    (c .before .before .before .before .before .before .before .before .before .before .before .before .before .before .end-where2 .ensures) (c .before .before .before .before .task-where2 .ensures) (c .before .before .before .before .before .before .before .before .before .before .before .before .end-where3 .ensures) (c .before .before .task-where3 .ensures) (c .half-shown .ensures)
+
+pub one-open-spec : {M : Type 1} → statement M
+one-open-spec =
+    tie.close
+    (tie.spec
+    (λ c. search needs) (λ c κs. search needs) (λ c. search needs) (λ c. search needs) (λ c. search needs)
+    (λ c. search needs) (λ c κs. search needs) (λ c. search needs) (λ c κs. search needs) (λ c. search needs)
+    (λ c κs. search needs) (λ c. search needs) (λ c. search needs) (λ c. search needs) (λ c. search needs)
+    (λ c. search needs) (λ c κs. search needs) (λ c. search needs) (λ c κs. search needs) (λ c. search needs)
+    (λ c κs. search needs) (λ c. search needs) (λ c κs. search needs) returns)

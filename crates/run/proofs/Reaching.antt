@@ -1,0 +1,231 @@
+-- A run in pieces: what each instant leaves goes on with the piece. Assumes nothing.
+use mathlib.Core.Path.{_≡_, refl, sym, ap, ap₂, _∙_, subst}
+use mathlib.Core.Bool.{true, false, true≢false}
+use mathlib.Core.List.{List, [], _∷_, _++_, append-assoc, append-nil}
+use mathlib.Core.Logic.{_⊎_, ⊎-elim}
+use Prim.Native.Nat.{ℕ, _+_, _-_, _*_, _^_, _≤_, _<_}
+use native.Mathlib.Nat.{zero-add}
+use native.Mathlib.Omega.{arith}
+use lib.ListN.{length, take, drop, length-append, length-drop}
+use lib.Seq.{take-at}
+use Rattle.sets.proofs.Laws.{by-test}
+use Rattle.words.proofs.Laws.{rest-whole}
+use Rattle.entries.specs.Entries.{laid}
+use Rattle.rules.specs.Instant.{at-g, occurred}
+use Rattle.rules.specs.Steps.{Stands}
+use Rattle.rules.specs.Kept.{Kept, kept, ByTask, by-task, Beside, beside, read}
+use Rattle.dispatcher.specs.Dispatcher.{kept-of, beside-of, state-of}
+use Rattle.run.specs.Types.{Release, State, Tick, Advanced, Dispatcher, Piece}
+use Rattle.run.specs.Listed.{releases-at}
+use Rattle.run.specs.Run.{Moment, released-at, released-after, moment-bytes, record-bytes}
+use Rattle.run.specs.Putting.{moment-entries, joined, put-all}
+use Rattle.run.specs.Advance.{Advances, Made, Steps}
+use Rattle.run.specs.Pieces.{next-time, Leads, most, Makes}
+use Rattle.run.proofs.Listing.{in-part, behind-part}
+use Rattle.run.proofs.Slices.{laid-none, laid-both, laid-length, put-all-laid, rest-laid, rest-length, put-all-length}
+use Rattle.run.proofs.InOrder.{entries-joined, moment-most}
+use Rattle.run.proofs.Advancing.{with-set}
+
+-- ---- moments one behind the other
+
+pub bytes-both : (ms ns : List Moment) → record-bytes (ms ++ ns) ≡ record-bytes ms ++ record-bytes ns
+unfolding record-bytes
+bytes-both [] ns = refl
+bytes-both (m ∷ ms) ns = ap (λ (x : List ℕ). moment-bytes m ++ x) (bytes-both ms ns) ∙ sym (append-assoc (moment-bytes m) (record-bytes ms) (record-bytes ns))
+
+bytes-one : (m : Moment) → record-bytes (m ∷ []) ≡ moment-bytes m
+unfolding record-bytes
+bytes-one m = append-nil (moment-bytes m)
+
+-- what so many moments leave at most
+pub bytes-most : (ms : List Moment) → length (record-bytes ms) ≤ most * length ms
+unfolding record-bytes
+bytes-most [] = omega arith
+bytes-most (m ∷ ms) = omega (arith, bytes-most ms, moment-most m, ap length (entries-joined m), length-append (moment-bytes m) (record-bytes ms))
+
+-- the moment of the next instant
+abbrev pub moment-at : State → List Release → ℕ → Moment
+moment-at d rs t = record { time = t; occurred = occurred d t (released-at t rs) }
+
+pub one-more : (d : State) (rs : List Release) (ms : List Moment) (e : State) (es : List Release) (t : ℕ) {d' : State} {rs' : List Release} → Leads d rs ms e es
+    → next-time e es ≡ Tick t → at-g e t (released-at t es) ≡ d' → released-after t es ≡ rs' → Leads d rs (ms ++ (moment-at e es t ∷ [])) d' rs'
+unfolding Leads
+one-more d rs [] e es t {d'} {rs'} h n x y =
+    subst (λ (z : State). Leads z rs (moment-at e es t ∷ []) d' rs') (sym (h .0))
+    (subst (λ (z : List Release). Leads e z (moment-at e es t ∷ []) d' rs') (sym (h .1)) (n, refl, (x, y)))
+one-more d rs (m ∷ ms) e es t h n x y = (h .0, h .1, one-more _ _ ms e es t (h .2) n x y)
+
+-- ---- how far a piece has come
+
+pub record Reached (rest : List ℕ) (d : State) (budget : ℕ) (before : List ℕ) (k : Kept) (b : Beside) (at size left : ℕ) (out : List ℕ) : Type 0 where
+  pub moments : List Moment
+  pub leads : Leads d (releases-at rest 0) moments (read k b) (releases-at rest at)
+  pub within : at ≤ length rest
+  pub left-is : left + length moments ≡ budget
+  pub size-is : size ≡ length (record-bytes moments)
+  pub fits : size ≤ length before
+  pub holds : out ≡ laid 0 (record-bytes moments) before
+  pub same : length out ≡ length before
+
+pub begins : (rest : List ℕ) (budget : ℕ) (out : List ℕ) (k : Kept) (b : Beside) → Reached rest (read k b) budget out k b 0 0 budget out
+unfolding Leads record-bytes
+begins rest budget out k b = record {
+  moments = [];
+  leads = (refl, refl);
+  within = omega arith;
+  left-is = omega arith;
+  size-is = refl;
+  fits = omega arith;
+  holds = sym (laid-none 0 out);
+  same = refl;
+}
+
+module _ {rest : List ℕ} {d : State} {budget : ℕ} {before : List ℕ} {k : Kept} {b : Beside} {at size left : ℕ} {out : List ℕ}
+    (g : Reached rest d budget before k b at size left out) where
+  module _ {x : Advanced} {k' : Kept} {b' : Beside} {rest-after : List ℕ}
+      (made : Advances (take (length rest - at) (drop at rest)) k b (take (length out - size) (drop size out)) x k' b' rest-after) where
+    pub next-is : Stands (x .time) (next-time (read k b) (releases-at rest at))
+    next-is = subst (λ (rs : List Release). Stands (x .time) (next-time (read k b) rs)) (in-part rest at) (made .time-is)
+
+    pub at-last : x .time ≡ 2 ^ 64 - 1 → Stands (2 ^ 64 - 1) (next-time (read k b) (releases-at rest at))
+    at-last e = subst (λ (n : ℕ). Stands n (next-time (read k b) (releases-at rest at))) e next-is
+
+    module _ (on : x .time ≡ 2 ^ 64 - 1 → ⊥) where
+      abbrev t : ℕ
+      t = x .time
+
+      abbrev rs : List Release
+      rs = releases-at rest at
+
+      step : Made (take (length rest - at) (drop at rest)) k b (take (length out - size) (drop size out)) x k' b' rest-after
+      step = made .made on
+
+      steps : Steps (x .time) (released-at (x .time) (releases-at rest at)) k b (take (length out - size) (drop size out)) (x .size) k' b' rest-after
+      steps = with-set (ap (released-at t) (in-part rest at)) (step .steps)
+
+      next-in : next-time (read k b) (releases-at rest at) ≡ Tick (x .time)
+      next-in = ⊎-elim (λ e. e) (λ z. absurd (on (z .0))) (next-is .is)
+
+      behind : released-after (x .time) (releases-at rest at) ≡ releases-at rest (at + x .read)
+      behind =
+          sym (sym (behind-part rest at (x .read))
+          ∙ ap (releases-at (take (length rest - at) (drop at rest))) (sym (step .gathered .1))
+          ∙ step .gathered .2 .after ∙ ap (released-after t) (in-part rest at))
+
+      pub reads : at + x .read ≤ length rest
+      reads = omega (arith, g .within, step .gathered .1, step .gathered .2 .within, ap length (rest-whole at rest), length-drop at rest)
+
+      abbrev moment : Moment
+      moment = moment-at (read k b) (releases-at rest at) (x .time)
+
+      size-is : x .size ≡ length (moment-bytes (moment-at (read k b) (releases-at rest at) (x .time)))
+      size-is = steps .puts .place-is ∙ omega (arith, ap length (entries-joined moment))
+
+      small : x .size ≤ most
+      small = omega (arith, size-is, moment-most moment, ap length (entries-joined moment))
+
+      pub puts : most ≤ length out - size → size + x .size ≤ length out
+      puts room = omega (arith, small, g .fits, g .same)
+
+      -- what the instant leaves is laid behind what was laid before
+      pub moves : {out' : List ℕ} → (left ≡ 0 → ⊥) → most ≤ length out - size
+          → out' ≡ take size out ++ (rest-after ++ drop (length out - size) (drop size out))
+          → Reached rest d budget before k' b' (at + x .read) (size + x .size) (left - 1) out'
+      moves {out'} some room e =
+          let es : List (List ℕ) = moment-entries moment in
+          let few : length (joined es) ≤ most = moment-most moment in
+          let done : List ℕ = record-bytes (g .moments) in
+          let bytes : List ℕ = moment-bytes moment in
+          let all : record-bytes (g .moments ++ (moment ∷ [])) ≡ done ++ bytes = bytes-both (g .moments) (moment ∷ []) ∙ ap (λ (z : List ℕ). done ++ z) (bytes-one moment) in
+          record {
+            moments = g .moments ++ (moment ∷ []);
+            leads = one-more d (releases-at rest 0) (g .moments) (read k b) (releases-at rest at) t (g .leads) next-in (sym (steps .state)) behind;
+            within = reads;
+            left-is = omega (arith, g .left-is, length-append (g .moments) (moment ∷ []));
+            size-is = ap₂ (λ (i j : ℕ). i + j) (g .size-is) size-is ∙ sym (ap length all ∙ length-append done bytes);
+            fits = omega (arith, puts room, g .same);
+            holds =
+                e
+                ∙ rest-laid es size out rest-after (steps .puts .holds) (omega (arith, g .fits, g .same))
+                ∙ ap (λ (z : List ℕ). laid size z out) (entries-joined moment)
+                ∙ ap (λ (n : ℕ). laid n bytes out) (g .size-is ∙ sym (zero-add (length done)))
+                ∙ ap (laid (0 + length done) bytes) (g .holds)
+                ∙ laid-both 0 done bytes before (omega arith)
+                ∙ ap (λ (z : List ℕ). laid 0 z before) (sym all);
+            same = ap length e ∙ rest-length size out rest-after (ap length (steps .puts .holds) ∙ put-all-length 0 es (take (length out - size) (drop size out))) ∙ g .same;
+          }
+
+-- ---- where it stops
+
+pub same-kept : {times sets codes times' sets' codes' : List ℕ} → times ≡ times' → sets ≡ sets' → codes ≡ codes' → kept times sets codes ≡ kept times' sets' codes'
+same-kept {times} {sets} {codes} {times'} {sets'} {codes'} x y z = ap (λ (l : List ℕ). kept l sets codes) x ∙ ap (λ (l : List ℕ). kept times' l codes) y ∙ ap (kept times' sets') z
+
+pub same-by-task : {release blocked waits release' blocked' waits' : List ℕ} → release ≡ release' → blocked ≡ blocked' → waits ≡ waits' → by-task release blocked waits ≡ by-task release' blocked' waits'
+same-by-task {release} {blocked} {waits} {release'} {blocked'} {waits'} x y z =
+    ap (λ (l : List ℕ). by-task l blocked waits) x ∙ ap (λ (l : List ℕ). by-task release' l waits) y ∙ ap (by-task release' blocked') z
+
+-- the state that it leaves is the one that was reached
+state-is : (x : Dispatcher) {k : Kept} {b : Beside} → kept-of x ≡ k → beside-of x ≡ b → state-of x ≡ read k b
+state-is x ek eb = ap₂ (λ (u : Kept) (v : Beside). read u v) ek eb
+
+module _ {rest : List ℕ} (d : Dispatcher) {budget : ℕ} {before : List ℕ} {k : Kept} {b : Beside} {left : ℕ} {out : List ℕ} {x : Piece} {out' : List ℕ}
+    (g : Reached rest (state-of d) budget before k b (x .read) (x .size) left out)
+    (ek : kept-of (x .state) ≡ k) (eb : beside-of (x .state) ≡ b) (eo : out' ≡ out) where
+  -- at the run's end
+  pub ends : x .ended ≡ true → x .left ≡ 0 → Stands (2 ^ 64 - 1) (next-time (read k b) (releases-at rest (x .read))) → Makes rest d budget before x out'
+  ends e none last = record {
+    moments = g .moments;
+    leads = subst (λ (z : State). Leads (state-of d) (releases-at rest 0) (g .moments) z (releases-at rest (x .read))) (sym (state-is (x .state) ek eb)) (g .leads);
+    within = g .within;
+    size-is = g .size-is;
+    fits = g .fits;
+    holds = eo ∙ g .holds;
+    ended-is = λ h. (none, subst (λ (z : State). Stands (2 ^ 64 - 1) (next-time z (releases-at rest (x .read)))) (sym (state-is (x .state) ek eb)) last);
+    stopped = λ h. absurd (true≢false (sym e ∙ h));
+    left-is = λ h. absurd (true≢false (sym e ∙ h));
+    few = omega (arith, none, g .left-is);
+  }
+
+  -- or before it
+  pub stops : x .ended ≡ false → x .left ≡ left → (x .left ≡ 0) ⊎ (length before < x .size + most) → Makes rest d budget before x out'
+  stops e same why = record {
+    moments = g .moments;
+    leads = subst (λ (z : State). Leads (state-of d) (releases-at rest 0) (g .moments) z (releases-at rest (x .read))) (sym (state-is (x .state) ek eb)) (g .leads);
+    within = g .within;
+    size-is = g .size-is;
+    fits = g .fits;
+    holds = eo ∙ g .holds;
+    ended-is = λ h. absurd (true≢false (sym h ∙ e));
+    stopped = λ h. why;
+    left-is = λ h. ap (λ (n : ℕ). n + length (g .moments)) same ∙ g .left-is;
+    few = omega (arith, same, g .left-is);
+  }
+
+-- ---- what whoever makes pieces may rely on
+
+module _ {rest : List ℕ} {d : Dispatcher} {budget : ℕ} {out : List ℕ} {x : Piece} {out' : List ℕ} (m : Makes rest d budget out x out') where
+  -- a piece moves on, where there is room for an instant
+  pub moves-on : (budget ≡ 0 → ⊥) → most ≤ length out → x .left < budget
+  moves-on some room = by-test (x .ended) (λ h. omega (arith, m .ended-is h .0, some-is)) (λ h. ⊎-elim
+      (λ e. omega (arith, e, some-is))
+      (λ l. omega (arith, m .left-is h, l, m .size-is, bytes-most (m .moments)))
+      (m .stopped h))
+    where
+      some-is : 0 < budget
+      some-is = omega arith
+
+  -- what it leaves can be counted
+  pub grows : x .size + most * x .left ≤ most * budget
+  grows = omega (arith, m .few, m .size-is, bytes-most (m .moments))
+
+  -- the slice keeps its length, and has the piece's bytes in its front
+  pub same-slice : length out' ≡ length out
+  same-slice = ap length (m .holds) ∙ laid-length 0 (record-bytes (m .moments)) out (omega (arith, m .fits, m .size-is))
+
+  pub front : take (x .size) out' ≡ record-bytes (m .moments)
+  front = ap (take (x .size)) (m .holds) ∙ take-at (record-bytes (m .moments)) (drop (0 + length (record-bytes (m .moments))) out) (x .size) (sym (m .size-is))
+
+-- of the rest of an input it reads no more than there is
+pub reads-on : (s : List ℕ) (at : ℕ) {d : Dispatcher} {budget : ℕ} {out : List ℕ} {x : Piece} {out' : List ℕ} → Makes (take (length s - at) (drop at s)) d budget out x out' → at ≤ length s
+    → at + x .read ≤ length s
+reads-on s at m l = omega (arith, m .within, ap length (rest-whole at s), length-drop at s)

@@ -1,0 +1,79 @@
+-- `run::steps` meets its contract: the steps, one behind the other. Assumes nothing.
+use mathlib.Core.Path.{_∙_, ap}
+use mathlib.Core.List.{[]}
+use native.Mathlib.Omega.{arith}
+use Rattle.rules.specs.Types.{State}
+use Rattle.rules.specs.declared.ReleaseFates.{ReleaseFates}
+use Rattle.rules.specs.Registers.{state-in}
+use Rattle.rules.specs.Instant.{taken, deferred, skipped}
+use Rattle.rules.specs.Kept.{kept, by-task, beside, read}
+use Rattle.rules.proofs.Instants.{Left, left}
+use Rattle.run.proofs.Slices.{skips-most}
+use Rattle.run.proofs.InOrder.{all-put, job-most, span-place}
+use borrow.Author.Needs.{needs}
+use Rattle.run.proofs.instant.steps.Statement.{statement}
+use Rattle.run.proofs.instant.steps.Tie as tie
+
+-- little is put before: a job, an interval, 32 skipped releases
+end-before-requires : tie.Need-end-before-requires
+end-before-requires c κs =
+    let at = c .before .before .before .before .before .before .before .before .before .before .before .before .before .before .before .before .before .stamp .ensures (beside [] [] (by-task [] [] [])) in
+    let o = c .before .before .before .before .before .before .before .before .before .before .end-copyout .ensures [] [] [] (at .whole) in
+    omega (arith, job-most o)
+
+skips-at-requires : tie.Need-skips-at-requires
+skips-at-requires c κs =
+    let at = c .before .before .before .before .before .before .before .before .before .before .before .before .before .before .before .before .before .before .before .before .before .before .before .before .stamp .ensures (beside [] [] (by-task [] [] [])) in
+    let o = c .before .before .before .before .before .before .before .before .before .before .before .before .before .before .before .before .before .end-copyout .ensures [] [] [] (at .whole) in
+    let a = c .before .before .before .before .before .before .before .before .before .before .before .before .others-end .ensures [] _ (o .copies .no-more) (by-task [] [] []) (o .copies .whole) in
+    let b = c .before .before .before .before .before .before .end-before .ensures [] [] [] (a .whole) in
+    omega (arith, job-most o, span-place b)
+
+end-after-requires : tie.Need-end-after-requires
+end-after-requires c κs =
+    let at = c .before .before .before .before .before .before .before .before .before .before .before .before .before .before .before .before .before .before .before .before .before .before .before .before .before .before .before .before .before .before .before .before .before .before .before .before .before .before .before .before .stamp .ensures (beside [] [] (by-task [] [] [])) in
+    let o = c .before .before .before .before .before .before .before .before .before .before .before .before .before .before .before .before .before .before .before .before .before .before .before .before .before .before .before .before .before .before .before .before .before .end-copyout .ensures [] [] [] (at .whole) in
+    let a = c .before .before .before .before .before .before .before .before .before .before .before .before .before .before .before .before .before .before .before .before .before .before .before .before .before .before .before .before .others-end .ensures [] _ (o .copies .no-more) (by-task [] [] []) (o .copies .whole) in
+    let b = c .before .before .before .before .before .before .before .before .before .before .before .before .before .before .before .before .before .before .before .before .before .before .end-before .ensures [] [] [] (a .whole) in
+    omega (arith, job-most o, span-place b, c .before .before .before .before .before .before .before .before .before .before .before .before .before .before .before .skips-at .ensures .place-is, skips-most 32 (c .before .before .before .before .before .before .before .before .before .before .before .before .before .before .before .before .before .released .result .skipped) (c .before .before .before .before .before .before .before .before .before .before .before .before .before .before .before .before .before .before .before .before .before .before .before .before .before .before .before .before .before .before .before .before .before .before .before .before .before .before .before .before .before .before .before .before .before .args .t))
+
+same-length : tie.Need-same-length
+same-length c = c .before .before .before .before .before .out4 .given ∙ c .before .before .before .before .before .before .before .before .before .before .before .before .before .before .before .before .before .before .before .before .before .out3 .given ∙ c .before .before .before .before .before .before .before .before .before .before .before .before .before .before .before .before .before .before .before .before .before .before .before .before .before .before .before .before .out2 .given ∙ c .before .before .before .before .before .before .before .before .before .before .before .before .before .before .before .before .before .before .before .before .before .before .before .before .before .before .before .before .before .before .before .before .before .before .before .before .before .before .before .out .given
+
+returns : tie.Need-returns
+unfolding state-in taken deferred skipped
+returns c =
+    let s = c .before .before .before .before .before .before .before .before .before .before .before .before .before .before .before .before .before .before .before .before .before .before .before .before .before .before .before .before .before .before .before .before .before .before .before .before .before .before .before .before .before .before .before .before .before .before .before .before .before .before .before .before .args in
+    let o₀ = by-task (s .release .now) (s .blocked .now) (s .waits .now) in
+    let at = c .before .before .before .before .before .before .before .before .before .before .before .before .before .before .before .before .before .before .before .before .before .before .before .before .before .before .before .before .before .before .before .before .before .before .before .before .before .before .before .before .before .before .before .before .before .before .before .stamp .ensures (beside (s .priority .now) (s .columns .now) o₀) in
+    let o = c .before .before .before .before .before .before .before .before .before .before .before .before .before .before .before .before .before .before .before .before .before .before .before .before .before .before .before .before .before .before .before .before .before .before .before .before .before .before .before .before .end-copyout .ensures (s .priority .now) (s .columns .now) (s .waits .now) (at .whole) in
+    let a = c .before .before .before .before .before .before .before .before .before .before .before .before .before .before .before .before .before .before .before .before .before .before .before .before .before .before .before .before .before .before .before .before .before .before .before .others-end .ensures (s .priority .now) _ (o .copies .no-more) o₀ (o .copies .whole) in
+    let b = c .before .before .before .before .before .before .before .before .before .before .before .before .before .before .before .before .before .before .before .before .before .before .before .before .before .before .before .before .before .end-before .ensures (s .columns .now) (s .release .now) (s .waits .now) (a .whole) in
+    let x = c .before .before .before .before .before .before .before .before .before .before .before .before .take-releases .ensures _ (s .columns .now) (b .whole) in
+    let f = c .before .before .before .before .before .before .end-after .ensures _ _ (x .whole) in
+    let g = c .begin-interval .ensures _ (f .whole) in
+    let d = read (kept (s .times .now) (s .sets .now) (s .codes .now)) (beside (s .priority .now) (s .columns .now) o₀) in
+    let r = c .before .before .before .before .before .before .before .before .before .before .before .before .before .before .before .before .before .before .before .before .before .before .before .before .released .ensures in
+    let h : Left d (s .t) (s .set) _ _ _ _ _ _ _ _ _ = record {
+      timed-is = at .state;
+      a-is = a .state ∙ o .copies .state;
+      b-is = b .state;
+      new-is = ap (λ (z : ReleaseFates). z .taken) r;
+      late-is = ap (λ (z : ReleaseFates). z .deferred) r;
+      held-is = c .before .before .before .before .before .before .before .before .before .before .before .before .before .before .before .before .before .before .held-over .ensures (c .before .before .before .before .before .before .before .before .before .before .before .before .before .before .before .before .before .before .before .before .before .before .before .before .before .before .before .before .before .end-before .last .1 .0) (c .before .before .before .before .before .before .before .before .before .before .before .before .before .before .before .before .before .before .before .before .before .before .before .before .before .before .before .before .before .end-before .last .1 .1 .0);
+      x-is = x .state;
+      f-is = f .state;
+      g-is = g .state;
+    } in
+    record {
+      state = left d (s .t) (s .set) h;
+      puts = all-put d (s .t) (s .set) h (ap (λ (z : ReleaseFates). z .skipped) r) (o .puts) (b .puts) (c .before .before .before .before .before .before .before .before .before .before .before .before .before .before .before .before .before .before .before .before .before .before .skips-at .ensures) (f .puts);
+    }
+
+pub steps-spec : {M : Type 1} → statement M
+steps-spec =
+    tie.close
+    (tie.spec
+    (λ c κs. search needs) (λ c κs. search needs) (λ c κs. search needs) end-before-requires (λ c. search needs)
+    (λ c. search needs) (λ c κs. search needs) skips-at-requires (λ c κs. search needs) (λ c κs. search needs)
+    end-after-requires (λ c κs. search needs) same-length returns)
