@@ -1,6 +1,6 @@
 //! An instant of a dispatcher that is kept, proved and plain, each in place, on the same calls.
 
-use crate::gateway::{Dispatcher, Told};
+use crate::gateway::{Dispatcher, Shown, Told};
 use crate::plain;
 
 /// A dispatcher's task entries, and the calls that its releases and due times make: time and set.
@@ -56,6 +56,16 @@ pub fn calls(name: &str, input: &[u8], tasks: usize) -> Calls {
 pub fn proved(opened: &Dispatcher, calls: &[(u64, u32)], told: &mut Told) -> u8 {
     let mut dispatcher = opened.clone();
     calls.iter().fold(0, |found, &(time, set)| found | dispatcher.instant_into(time, set, told))
+}
+
+/// The same, and after each call what goes on.
+pub fn viewed(opened: &Dispatcher, calls: &[(u64, u32)], told: &mut Told, shown: &mut Shown) -> u8 {
+    let mut dispatcher = opened.clone();
+    calls.iter().fold(0, |found, &(time, set)| {
+        let number = dispatcher.instant_into(time, set, told);
+        dispatcher.now_into(shown);
+        found | number | shown.units[5]
+    })
 }
 
 pub fn plain(opened: &plain::Dispatcher, calls: &[(u64, u32)], told: &mut plain::Told) -> u8 {

@@ -1,4 +1,5 @@
-//! Times the proved functions against plain Rust, in one run: that of records, that which reads them, and an instant of a dispatcher that is kept.
+//! Times the proved functions against plain Rust, in one run: that of records, that which reads them, and an instant of a dispatcher that is kept;
+//! and such an instant with a view after it against one without.
 //! For each input the ratio proved/plain of the times, its median and spread over the repetitions. Both must give the same number, value and
 //! bytes, and at each instant the same answer.
 
@@ -200,6 +201,28 @@ fn kept_instants() -> f64 {
     worst
 }
 
+/// The instants by themselves with a view after each, against the same without: how much of an instant a view takes at most.
+fn views() -> f64 {
+    println!("{:36} here `proved` is with a view after each, and `plain` the proved function without", "an instant and a view");
+    heading("");
+    let mut worst: f64 = 0.0;
+    for tasks in [4, 32] {
+        for (name, input) in [("with releases", inputs::dense(tasks)), ("mostly without", inputs::sparse(tasks))] {
+            let made = instants::calls(name, &input, usize::from(tasks));
+            let opened = gateway::Dispatcher::open(&made.entries).expect("it was opened before");
+            let times = alternate(
+                &format!("viewed, {name}, {tasks} tasks"),
+                made.calls.len() as u64,
+                &mut (gateway::Told::default(), gateway::Shown::default()),
+                |lent| instants::viewed(&opened, black_box(&made.calls), &mut lent.0, &mut lent.1),
+                |lent| instants::proved(&opened, black_box(&made.calls), &mut lent.0),
+            );
+            worst = worst.max(times.ratio - 1.0);
+        }
+    }
+    worst
+}
+
 fn measure_instants(name: &str, input: &[u8], tasks: u8) -> Times {
     let made = instants::calls(name, input, usize::from(tasks));
     let opened = gateway::Dispatcher::open(&made.entries).expect("it was opened before");
@@ -217,7 +240,9 @@ fn main() {
     let worst = records().max(true_records());
     let hostile = hostile_records();
     let by_itself = kept_instants();
+    let view = views();
     println!("the largest median ratio is {worst:.2}");
     println!("a hostile record takes at most {hostile:.2} times a true one of its length");
     println!("the largest median ratio of an instant by itself is {by_itself:.2}");
+    println!("a view takes at most {view:.2} of an instant");
 }

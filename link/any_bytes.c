@@ -1,4 +1,4 @@
-/* Calls on memory that no call made: any bytes get an answer and no fault, the same one from the same bytes, nothing beside *d and *answer changes, and a
+/* Calls on memory that no call made: any bytes get an answer and no fault, the same one from the same bytes, nothing beside what is lent changes, and a
  * refused call changes nothing. Prints how many calls were served. */
 #include "gateway.h"
 
@@ -32,6 +32,8 @@ typedef struct {
     uint8_t between[64];
     gateway_answer answer;
     uint8_t behind[64];
+    gateway_view view;
+    uint8_t last[64];
 } memory;
 
 static void hold(int good, const char *what)
@@ -42,15 +44,30 @@ static void hold(int good, const char *what)
     }
 }
 
-/* One call on two copies: an instant, or a mark. */
+/* What goes on, and then an instant or a mark. */
 static uint8_t call(memory *m, int is_mark, uint64_t time, uint32_t set)
 {
+    gateway_now(&m->d, &m->view);
     return is_mark ? gateway_mark(&m->d, (uint8_t)time, (uint8_t)set) : gateway_instant(&m->d, time, set, &m->answer);
+}
+
+/* Opened over any two memories, a dispatcher has the same bytes. */
+static void open_over_any(void)
+{
+    static const uint8_t entry[16] = {1, 5, 9, 1, 2, 0, 0, 0, 3, 0, 0, 0, 4, 0, 0, 0};
+    static gateway_dispatcher one, other;
+    size_t place;
+    memset(&one, 0x5A, sizeof one);
+    memset(&other, 0xA5, sizeof other);
+    hold(gateway_open(entry, sizeof entry, &one, &place) == GATEWAY_SERVED && gateway_open(entry, sizeof entry, &other, &place) == GATEWAY_SERVED,
+         "a task is refused");
+    hold(memcmp(&one, &other, sizeof one) == 0, "a byte of an opened dispatcher is not written");
 }
 
 int main(void)
 {
     static memory first, one, other;
+    open_over_any();
     unsigned long served = 0;
     for (int round = 0; round < 200000; round++) {
         fill(&first, sizeof first);
@@ -63,9 +80,11 @@ int main(void)
         memcpy(&other, &first, sizeof first);
         uint8_t number = call(&one, is_mark, time, set);
         hold(number == call(&other, is_mark, time, set) && memcmp(&one, &other, sizeof one) == 0, "the same bytes get two answers");
-        hold(memcmp(one.before, first.before, 64) == 0 && memcmp(one.between, first.between, 64) == 0 && memcmp(one.behind, first.behind, 64) == 0,
-             "memory beside the dispatcher and the answer has changed");
-        hold(number == 0 || memcmp(&one, &first, sizeof one) == 0, "a refused call has changed memory");
+        hold(memcmp(one.before, first.before, 64) == 0 && memcmp(one.between, first.between, 64) == 0 && memcmp(one.behind, first.behind, 64) == 0 &&
+                 memcmp(one.last, first.last, 64) == 0,
+             "memory beside the dispatcher, the answer and the view has changed");
+        hold(number == 0 || memcmp(&one, &first, offsetof(memory, view)) == 0, "a refused call or a view has changed memory");
+        hold(one.view.is_open <= 1 && one.view.half <= 1 && one.view.pending == first.d.sets[1], "a view that no memory has");
         hold(number == 0 || number == 6 || number == 10 || (number >= 14 && number <= 17), "a number that there is not");
         served += number == 0;
     }

@@ -1,4 +1,5 @@
-"""Drive cores by the example drivers and hold what each core printed to what `gateway` prints for its releases. The last line is 'K passed'.
+"""Drive cores by the example drivers and hold what each core printed to what `gateway` prints for its releases, and what they refuse to its text. The
+last line is 'K passed'.
 
     python3 link/check_driver.py COUNT DRIVER..
 """
@@ -8,6 +9,7 @@ import random
 import subprocess
 import sys
 import tempfile
+from collections import Counter
 
 ROOT = pathlib.Path(__file__).resolve().parents[1]
 sys.path.insert(0, str(ROOT))
@@ -111,6 +113,115 @@ def marks(driver):
         raise SystemExit(f"{driver}: the marks were not handed over:\n{printed}\n{expected}")
 
 
+def busy_counts(tasks, releases, last=1_000_000_000):
+    """The lines of a core that is never idle between its releases: count by count, those that come after a count's last tick held back until it is idle."""
+    base, lines, held = 0, [], Counter()
+    while releases or held:
+        given = []
+        for tick in range(max(held.values(), default=0)):
+            given += [(tick, task) for task in sorted(held) if held[task] > tick]
+        first = len(given)
+        while releases and releases[0][0] - base <= last:
+            time, task = releases.pop(0)
+            given.append((time - base, task))
+        if given[:first] and first < len(given) and given[first][0] <= given[first - 1][0]:
+            raise SystemExit("a release came while those that were held back were handed in: choose another seed")
+        told = gateway_lines(tasks + b"".join(release_entry(*release) for release in given))
+        spans = [tuple(map(int, line.split()[1:3])) for line in told if line.startswith("I")]
+        if any(one[1] != other[0] for one, other in zip(spans, spans[1:])):
+            raise SystemExit("the core was idle: choose another seed")
+        lines += [later(line, base) for line in told]
+        base += spans[-1][1]
+        held = Counter()
+        while releases and releases[0][0] <= base:
+            held[releases.pop(0)[1]] += 1
+    return lines
+
+
+def never_idle(driver, seed):
+    """More than three counts of a core that always has something to do."""
+    rng = random.Random(seed)
+    tasks = b"".join(task_entry(n, n, rng.randint(0, 1), *(rng.randint(600_000, 1_000_000) for _ in range(3))) for n in (1, 2, 3))
+    time, releases = 0, []
+    while time < 3_300_000_000:
+        releases.append((time, rng.randint(1, 3)))
+        time += rng.randint(200_000, 500_000)
+    expected = busy_counts(tasks, list(releases))
+    if int(expected[-1].split()[2]) < 3_300_000_000 or len([line for line in expected if line.startswith("J")]) < 1000:
+        raise SystemExit("the core did not go on")
+    hold(driver, tasks, {5: releases}, {5: expected})
+
+
+TASK = task_entry(1, 1, 1, 2, 3, 1)
+SHAPE = "neither CORE TIME TASK nor CORE TIME mark TASK VALUE"
+RUBBISH = [
+    (b"0 0", 2, f"line 1: {SHAPE}"),
+    (b"0 0 1 1", 2, f"line 1: {SHAPE}"),
+    (b"\n \n0 0 1 1 1 1 1", 2, f"line 3: {SHAPE}"),
+    (b"x 0 1", 2, f"line 1: {SHAPE}"),
+    (b"0 -1 1", 2, f"line 1: {SHAPE}"),
+    (b"0 0 +1", 2, f"line 1: {SHAPE}"),
+    (b"0 0 0x1", 2, f"line 1: {SHAPE}"),
+    (b"0 0 1\0", 2, f"line 1: {SHAPE}"),
+    (b"0 0 \xff", 2, f"line 1: {SHAPE}"),
+    (b"0 0 mark 1", 2, f"line 1: {SHAPE}"),
+    (b"0 0 Mark 1 1", 2, f"line 1: {SHAPE}"),
+    (b"64 0 1", 2, "line 1: there are cores 0 to 63"),
+    (b"4294967296 0 1", 2, "line 1: there are cores 0 to 63"),
+    (b"0 9223372036854775808 1", 2, "line 1: a time over 9223372036854775807"),
+    (b"0 18446744073709551616 1", 2, "line 1: a time over 9223372036854775807"),
+    (b"0 0 32", 2, "line 1: there are tasks 0 to 31"),
+    (b"0 0 4294967297", 2, "line 1: there are tasks 0 to 31"),
+    (b"0 0 mark 257 1", 2, "line 1: there are tasks 0 to 31"),
+    (b"0 0 mark 1 2", 2, "line 1: a mark is 0 or 1"),
+    (b"0 0 mark 1 256", 2, "line 1: a mark is 0 or 1"),
+    (b"0 0 mark 1 18446744073709551617", 2, "line 1: a mark is 0 or 1"),
+    (b"0 5 1\n0 4 1\n", 2, "line 2: the times fall"),
+    (b"0 5 1\n0 6" + b" " * 200 + b"1\n", 2, "line 2: it is too long"),
+    (b"1" * 1000, 2, "line 1: it is too long"),
+    (b"3 7 9", 1, "core 3, tick 7: a task that is not in the table (refusal 16)"),
+    (b"0 0 1\n0 1 mark 1 0", 0, "core 0, tick 1: the mark of task 1: a mark change while a job is pending or a release waits (refusal 17)"),
+    (b"0 0 mark 9 1", 0, "core 0, tick 0: the mark of task 9: a task that is not in the table (refusal 16)"),
+    (b"0 9223372036854775807 1\r\n", 0, None),
+    (b"", 0, None),
+]
+
+
+def outcome(driver, words, text, **more):
+    done = subprocess.run([driver, *words], input=text, stderr=subprocess.PIPE, check=False, **{"stdout": subprocess.DEVNULL, **more})
+    return done.returncode, done.stderr.decode()
+
+
+def refuses(driver, what, found, status, said):
+    text = "" if said is None else f"driver: {said}\n"
+    if found != (status, text):
+        raise SystemExit(f"{driver}: of {what} it said {found}, not {(status, text)}")
+
+
+def rubbish(driver, folder):
+    """What it refuses, by its status and its text; the number of cases."""
+    (folder / "tasks").write_bytes(TASK)
+    for text, status, said in RUBBISH:
+        refuses(driver, text, outcome(driver, [folder / "tasks"], text), status, said)
+    for entries, said in (
+        (b"", "the tasks: there is no entry (refusal 12)"),
+        (TASK + TASK, "the tasks: a task number over 31 or given before (refusal 4) at byte 16"),
+        (TASK[:9], "the tasks: an entry is cut short (refusal 1) at byte 0"),
+        (b"".join(task_entry(n, n, 0, 1, 1, 1) for n in range(32)) + b"x" * 500, "the tasks: an entry of a kind that does not belong there (refusal 2) at byte 512"),
+    ):
+        (folder / "others").write_bytes(entries)
+        refuses(driver, entries, outcome(driver, [folder / "others"], b""), 1, said)
+    refuses(driver, "no file", outcome(driver, [], b""), 2, "usage: driver TASKS < RELEASES")
+    refuses(driver, "two files", outcome(driver, [folder / "tasks"] * 2, b""), 2, "usage: driver TASKS < RELEASES")
+    for path in (folder / "missing", folder):
+        status, said = outcome(driver, [path], b"")
+        if status != 2 or not said.startswith(f"driver: {path}: "):
+            raise SystemExit(f"{driver}: of the file {path} it said {said}")
+    with open("/dev/full", "wb") as full:
+        refuses(driver, "a full disk", outcome(driver, [folder / "tasks"], b"0 0 1", stdout=full), 2, "what occurs cannot be printed")
+    return len(RUBBISH) + 9
+
+
 def main():
     count, passed = int(sys.argv[1]), 0
     for driver in sys.argv[2:]:
@@ -120,7 +231,11 @@ def main():
                 long_stream(driver, seed)
         marks(driver)
         waits(driver)
-        passed += count + -(-count // 4) + 2
+        for seed in range(3):
+            never_idle(driver, seed)
+        with tempfile.TemporaryDirectory() as folder:
+            passed += rubbish(driver, pathlib.Path(folder))
+        passed += count + -(-count // 4) + 5
     print(f"{passed} passed")
 
 

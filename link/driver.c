@@ -4,27 +4,31 @@
  *
  * TASKS is a file with the task entries of every core (./gateway input makes it of a plan with tasks alone). A line of RELEASES is
  * `CORE TIME TASK`, a release, or `CORE TIME mark TASK VALUE`, a mark call; the times do not fall. What occurs is printed as `gateway` prints it, with the
- * core in front. Where the ticks of a core come near their end, it goes on with a new dispatcher at an idle moment. */
+ * core in front. It goes on for ever: late in its count a core goes on with a new dispatcher at an idle moment, and where none comes in time its releases are
+ * held back until there is one. The status is 2 where what it reads is rubbish, and 1 where the dispatcher refuses it. */
 #include "gateway.h"
 
+#include <errno.h>
 #include <inttypes.h>
 #include <stdbool.h>
 #include <stdio.h>
 #include <stdlib.h>
 #include <string.h>
 
-enum { CORES = 64, MOST_ENTRIES = 33 * 16 };
+enum { CORES = 64, TASKS = 32, MOST_ENTRIES = (TASKS + 1) * 16, LINE = 128, MOST_WORDS = 6 };
 
-/* Releases past tick 1,000,000,000 are refused by 10. A core that is idle after half of them counts anew. */
-static const uint64_t ENOUGH = 500000000;
+/* A core that is idle after half of the ticks that it can count counts anew. */
+static const uint64_t ENOUGH = GATEWAY_LAST_TICK / 2;
+
+/* Of the driver's own clock: so that no sum of ticks runs over. */
+static const uint64_t MOST_TIME = UINT64_MAX / 2;
 
 typedef struct {
     gateway_dispatcher dispatcher;
     bool is_open, is_due;
-    uint64_t due;      /* the next due time, in ticks of the driver's clock */
-    uint64_t base;     /* the tick of the driver's clock that is tick 0 of the dispatcher */
-    uint32_t released; /* the tasks released now */
-    uint32_t marks, marked; /* the tasks whose mark was changed, and their marks: a new dispatcher is told them */
+    uint64_t due;             /* the next due time, in ticks of the driver's clock */
+    uint64_t base;            /* the tick of the driver's clock that is tick 0 of the dispatcher */
+    unsigned long held[TASKS]; /* releases of each task that are to be handed in */
 } core_state;
 
 typedef struct {
@@ -34,8 +38,8 @@ typedef struct {
 } event;
 
 static core_state cores[CORES];
-static uint8_t entries[MOST_ENTRIES];
-static size_t length;
+static gateway_dispatcher opened; /* a core begins with a copy of it */
+static unsigned long line_number;
 
 static void fail(const char *what)
 {
@@ -43,27 +47,17 @@ static void fail(const char *what)
     exit(2);
 }
 
-static void open_core(core_state *core, uint64_t base)
+static void fail_line(const char *what)
 {
-    size_t place;
-    uint8_t refused = gateway_open(entries, length, &core->dispatcher, &place);
-    if (refused != 0) {
-        fprintf(stderr, "driver: the tasks are refused by %u at byte %zu\n", refused, place);
-        exit(1);
-    }
-    for (unsigned task = 0; task < 32; task++) {
-        if (core->marks >> task & 1) {
-            gateway_mark(&core->dispatcher, (uint8_t)task, core->marked >> task & 1);
-        }
-    }
-    core->is_open = true;
-    core->is_due = false;
-    core->base = base;
+    fprintf(stderr, "driver: line %lu: %s\n", line_number, what);
+    exit(2);
 }
+
+/* ---- What it prints */
 
 static void print_task(uint8_t task)
 {
-    if (task == 255) {
+    if (task == GATEWAY_NO_TASK) {
         printf(" -");
     } else {
         printf(" %u", task);
@@ -90,114 +84,255 @@ static void print_answer(unsigned number, uint64_t base, uint64_t now, const gat
         printf("%u J %u %" PRIu64 " %" PRIu64 " %" PRIu64 " %u\n", number, a->job.task, base + a->job.release, base + a->job.start,
                base + a->job.completion, a->job.blocked);
     }
-    if (a->closed == 1) {
+    if (a->closed == GATEWAY_CLOSED_BEFORE_RELEASES) {
         print_interval(number, base, &a->interval);
     }
-    for (unsigned task = 0; task < 32; task++) {
+    for (unsigned task = 0; task < TASKS; task++) {
         if (a->skipped >> task & 1) {
             printf("%u S %u %" PRIu64 "\n", number, task, now);
         }
     }
-    if (a->closed == 2) {
+    if (a->closed == GATEWAY_CLOSED_AFTER_RELEASES) {
         print_interval(number, base, &a->interval);
     }
 }
 
-/* One call. With no due time nothing is pending and nothing waits, and a new dispatcher can take over. */
-static void call(unsigned number, uint64_t now)
+/* ---- A core */
+
+/* With no due time nothing is pending and nothing waits, and a new dispatcher can take over, which is told the marks. */
+static void count_anew(core_state *core, uint64_t now)
 {
-    core_state *core = &cores[number];
-    if (!core->is_due && now - core->base > ENOUGH) {
-        open_core(core, now);
+    gateway_view old, fresh;
+    gateway_now(&core->dispatcher, &old);
+    gateway_now(&opened, &fresh);
+    core->dispatcher = opened;
+    core->base = now;
+    for (unsigned task = 0; task < TASKS; task++) {
+        if ((old.marked ^ fresh.marked) >> task & 1) {
+            gateway_mark(&core->dispatcher, (uint8_t)task, old.marked >> task & 1);
+        }
     }
+}
+
+/* One release of each task that has some, as a set. */
+static uint32_t hand_in(core_state *core)
+{
+    uint32_t set = 0;
+    for (unsigned task = 0; task < TASKS; task++) {
+        if (core->held[task] > 0) {
+            core->held[task]--;
+            set |= UINT32_C(1) << task;
+        }
+    }
+    return set;
+}
+
+static bool holds(const core_state *core)
+{
+    for (unsigned task = 0; task < TASKS; task++) {
+        if (core->held[task] > 0) {
+            return true;
+        }
+    }
+    return false;
+}
+
+/* One call. Where the count is over nothing is handed in, and what is due goes on. */
+static void instant(unsigned number, core_state *core, uint64_t now)
+{
+    uint64_t tick = now - core->base;
     gateway_answer answer = {0};
-    uint8_t refused = gateway_instant(&core->dispatcher, now - core->base, core->released, &answer);
-    core->released = 0;
-    if (refused != 0) {
-        fprintf(stderr, "driver: core %u, tick %" PRIu64 ": refused by %u\n", number, now, refused);
+    uint8_t refused = gateway_instant(&core->dispatcher, tick, tick > GATEWAY_LAST_TICK ? 0 : hand_in(core), &answer);
+    if (refused != GATEWAY_SERVED) {
+        fprintf(stderr, "driver: core %u, tick %" PRIu64 ": %s (refusal %u)\n", number, now, gateway_refusal_text(refused), refused);
         exit(1);
     }
     print_answer(number, core->base, now, &answer);
     core->is_due = answer.is_due;
     core->due = core->base + answer.due;
+    /* a second release of a task has a tick of its own */
+    if (core->is_due && tick < GATEWAY_LAST_TICK && holds(core) && now + 1 < core->due) {
+        core->due = now + 1;
+    }
+}
+
+static void call(unsigned number, uint64_t now)
+{
+    core_state *core = &cores[number];
+    do {
+        if (!core->is_due && now - core->base > ENOUGH) {
+            count_anew(core, now);
+        }
+        instant(number, core, now);
+    } while (!core->is_due && holds(core)); /* the idle moment for which they were held back */
+}
+
+/* ---- What it reads */
+
+/* False where a word is no number; one that is too large is the largest that there is. */
+static bool read_number(const char *word, uint64_t *value)
+{
+    *value = 0;
+    for (const char *c = word; *c != '\0'; c++) {
+        if (*c < '0' || *c > '9') {
+            return false;
+        }
+        uint64_t digit = (uint64_t)(*c - '0');
+        *value = *value > (UINT64_MAX - digit) / 10 ? UINT64_MAX : *value * 10 + digit;
+    }
+    return true;
+}
+
+static event read_event(char **words, unsigned count)
+{
+    event e = {0};
+    e.is_there = true;
+    e.is_mark = count == 5 && strcmp(words[2], "mark") == 0;
+    uint64_t core = 0, time = 0, task = 0, mark = 0;
+    if ((count != 3 && !e.is_mark) || !read_number(words[0], &core) || !read_number(words[1], &time) ||
+        !read_number(words[e.is_mark ? 3 : 2], &task) || (e.is_mark && !read_number(words[4], &mark))) {
+        fail_line("neither CORE TIME TASK nor CORE TIME mark TASK VALUE");
+    }
+    if (core >= CORES) {
+        fail_line("there are cores 0 to 63");
+    }
+    if (time > MOST_TIME) {
+        fail_line("a time over 9223372036854775807");
+    }
+    if (task >= TASKS) {
+        fail_line("there are tasks 0 to 31");
+    }
+    if (mark > 1) {
+        fail_line("a mark is 0 or 1");
+    }
+    e.core = (unsigned)core;
+    e.time = time;
+    e.task = (unsigned)task;
+    e.mark = (unsigned)mark;
+    return e;
+}
+
+/* A line without its end, with a zero behind it; false at the end. A zero in it is a byte as others, and belongs to no word. */
+static bool next_line(char *line)
+{
+    size_t length = 0;
+    int c = getchar();
+    if (c == EOF) {
+        if (ferror(stdin)) {
+            fail("the releases cannot be read");
+        }
+        return false;
+    }
+    line_number++;
+    for (; c != EOF && c != '\n'; c = getchar()) {
+        if (length == LINE - 1) {
+            fail_line("it is too long");
+        }
+        line[length++] = c == '\0' ? '?' : (char)c;
+    }
+    line[length] = '\0';
+    return true;
 }
 
 static event next_event(void)
 {
-    char line[128];
-    event e = {0};
-    while (fgets(line, sizeof line, stdin) != NULL) {
-        if (sscanf(line, "%u %" SCNu64 " mark %u %u", &e.core, &e.time, &e.task, &e.mark) == 4) {
-            e.is_mark = true;
-        } else if (line[strspn(line, " \t\r\n")] == '\0') {
-            continue;
-        } else if (sscanf(line, "%u %" SCNu64 " %u", &e.core, &e.time, &e.task) != 3) {
-            fail("a line is neither a release nor a mark call");
+    char line[LINE];
+    while (next_line(line)) {
+        char *words[MOST_WORDS];
+        unsigned count = 0;
+        for (char *word = strtok(line, " \t\r"); word != NULL && count < MOST_WORDS; word = strtok(NULL, " \t\r")) {
+            words[count++] = word;
         }
-        if (e.core >= CORES || e.task >= 32) {
-            fail("a core or a task that there is not");
+        if (count > 0) {
+            return read_event(words, count);
         }
-        e.is_there = true;
-        return e;
     }
-    if (ferror(stdin)) {
-        fail("the releases cannot be read");
-    }
-    return e;
+    event none = {0};
+    return none;
 }
 
 static void take(const event *e)
 {
     core_state *core = &cores[e->core];
     if (!core->is_open) {
-        open_core(core, 0);
+        core->is_open = true;
+        core->dispatcher = opened;
     }
     if (!e->is_mark) {
-        core->released |= UINT32_C(1) << e->task;
+        core->held[e->task]++;
         return;
     }
-    uint8_t refused = gateway_mark(&core->dispatcher, (uint8_t)e->task, (uint8_t)e->mark);
-    if (refused != 0) {
-        fprintf(stderr, "driver: core %u, tick %" PRIu64 ": the mark of task %u is refused by %u\n", e->core, e->time, e->task, refused);
-        return;
+    uint8_t refused = core->held[e->task] > 0 ? GATEWAY_TASK_BUSY : gateway_mark(&core->dispatcher, (uint8_t)e->task, (uint8_t)e->mark);
+    if (refused != GATEWAY_SERVED) {
+        fprintf(stderr, "driver: core %u, tick %" PRIu64 ": the mark of task %u: %s (refusal %u)\n", e->core, e->time, e->task,
+                gateway_refusal_text(refused), refused);
     }
-    core->marks |= UINT32_C(1) << e->task;
-    core->marked = (core->marked & ~(UINT32_C(1) << e->task)) | (uint32_t)e->mark << e->task;
+}
+
+static void open_tasks(const char *path)
+{
+    static uint8_t entries[MOST_ENTRIES];
+    FILE *file = fopen(path, "rb");
+    size_t length = file == NULL ? 0 : fread(entries, 1, sizeof entries, file);
+    if (file == NULL || ferror(file)) {
+        fprintf(stderr, "driver: %s: %s\n", path, strerror(errno));
+        exit(2);
+    }
+    fclose(file);
+    size_t place = 0;
+    uint8_t refused = gateway_open(entries, length, &opened, &place);
+    if (refused != GATEWAY_SERVED) {
+        fprintf(stderr, "driver: the tasks: %s (refusal %u)", gateway_refusal_text(refused), refused);
+        if (refused != GATEWAY_NO_ENTRY) {
+            fprintf(stderr, " at byte %zu", place);
+        }
+        fprintf(stderr, "\n");
+        exit(1);
+    }
+}
+
+/* The next tick on which a core is due or has a release; false where there is none. */
+static bool next_tick(const event *e, uint64_t *now)
+{
+    bool found = e->is_there;
+    *now = e->time;
+    for (unsigned number = 0; number < CORES; number++) {
+        if (cores[number].is_due && (!found || cores[number].due < *now)) {
+            found = true;
+            *now = cores[number].due;
+        }
+    }
+    return found;
 }
 
 int main(int argc, char **argv)
 {
-    FILE *file = argc == 2 ? fopen(argv[1], "rb") : NULL;
-    if (file == NULL) {
+    if (argc != 2) {
         fail("usage: driver TASKS < RELEASES");
     }
-    length = fread(entries, 1, sizeof entries, file);
-    fclose(file);
-    uint64_t last = 0;
+    open_tasks(argv[1]);
+    uint64_t last = 0, now = 0;
     event e = next_event();
-    for (;;) {
-        /* the next tick on which a core is due or has a release */
-        uint64_t now = e.is_there ? e.time : UINT64_MAX;
-        for (unsigned number = 0; number < CORES; number++) {
-            if (cores[number].is_due && cores[number].due < now) {
-                now = cores[number].due;
-            }
-        }
-        if (now == UINT64_MAX) {
-            break;
-        }
+    while (next_tick(&e, &now)) {
         if (now < last) {
-            fail("the times fall");
+            fail_line("the times fall");
         }
         last = now;
+        bool has_release[CORES] = {false};
         for (; e.is_there && e.time == now; e = next_event()) {
             take(&e);
+            has_release[e.core] = has_release[e.core] || !e.is_mark;
         }
         for (unsigned number = 0; number < CORES; number++) {
-            if (cores[number].released != 0 || (cores[number].is_due && cores[number].due == now)) {
+            bool is_now = cores[number].is_due && cores[number].due == now;
+            bool is_over = cores[number].is_due && now - cores[number].base > GATEWAY_LAST_TICK; /* its releases are held back */
+            if (is_now || (has_release[number] && !is_over)) {
                 call(number, now);
             }
         }
     }
-    return fflush(stdout) == 0 ? 0 : 2;
+    if (fflush(stdout) != 0 || ferror(stdout)) {
+        fail("what occurs cannot be printed");
+    }
+    return 0;
 }

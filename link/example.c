@@ -3,6 +3,7 @@
  * ROOM is the length of the slice that is lent. */
 #include "gateway.h"
 
+#include <errno.h>
 #include <stdio.h>
 #include <stdlib.h>
 #include <string.h>
@@ -26,6 +27,19 @@ static size_t read_file(const char *path, uint8_t *to, size_t most)
     return length;
 }
 
+/* The length of the slice that is lent: at most all of it. */
+static size_t read_room(const char *word)
+{
+    char *end;
+    errno = 0;
+    unsigned long room = strtoul(word, &end, 10);
+    if (strchr("0123456789", word[0]) == NULL || word[0] == '\0' || *end != '\0') {
+        fprintf(stderr, "ROOM is a number, not %s\n", word);
+        exit(2);
+    }
+    return errno != 0 || room > sizeof out ? sizeof out : room;
+}
+
 static void print(const char *what, uint8_t number, size_t told)
 {
     size_t written = number == 0 ? told : 0;
@@ -44,10 +58,7 @@ int main(int argc, char **argv)
         fprintf(stderr, "usage: %s FILE [ROOM], or %s --read TASKS RECORD [ROOM]\n", argv[0], argv[0]);
         return 2;
     }
-    size_t room = paths[files] != NULL ? strtoul(paths[files], NULL, 10) : sizeof out;
-    if (room > sizeof out) {
-        room = sizeof out;
-    }
+    size_t room = paths[files] != NULL ? read_room(paths[files]) : sizeof out;
     size_t told = 0, length = read_file(paths[0], first, sizeof first);
     if (reads) {
         size_t stored = read_file(paths[1], second, sizeof second);
@@ -56,6 +67,10 @@ int main(int argc, char **argv)
     } else {
         uint8_t number = gateway_record(first, length, out, room, &told);
         print("record", number, told);
+    }
+    if (fflush(stdout) != 0 || ferror(stdout)) {
+        fprintf(stderr, "what comes of it cannot be printed\n");
+        return 2;
     }
     return 0;
 }

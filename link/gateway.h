@@ -1,5 +1,5 @@
 /* The gateway's dispatcher for C: the record of a whole file, the reading of a stored record, and a dispatcher by instants. Link with
- * libgateway.a. */
+ * libgateway.a, for x86-64. docs/DRIVER.md is the page for those who write a driver. */
 #ifndef GATEWAY_H
 #define GATEWAY_H
 
@@ -7,9 +7,78 @@
 #include <stdint.h>
 #include <string.h>
 
+/* Of this header, the library, the pkg-config file and the Rust package: it stands here, and the others are held to it. */
+#define GATEWAY_VERSION "0.2.0"
+
 #ifdef __cplusplus
 extern "C" {
 #endif
+
+/* ---- Names for what the numbers mean. */
+
+#define GATEWAY_NO_TASK UINT8_C(255)
+
+/* The last tick at which a release is taken: GATEWAY_PAST_LAST_TICK behind it. */
+#define GATEWAY_LAST_TICK UINT64_C(1000000000)
+
+/* What a call answers: served, or the refusal. */
+enum {
+    GATEWAY_SERVED = 0,
+    GATEWAY_CUT_SHORT = 1,
+    GATEWAY_OTHER_KIND = 2,
+    GATEWAY_TASK_AFTER_RELEASE = 3,
+    GATEWAY_BAD_TASK = 4,
+    GATEWAY_SAME_PRIORITY = 5,
+    GATEWAY_BAD_MARK = 6,
+    GATEWAY_BAD_LENGTH = 7,
+    GATEWAY_RELEASE_OF_NO_TASK = 8,
+    GATEWAY_RELEASE_NOT_AFTER = 9,
+    GATEWAY_PAST_LAST_TICK = 10,
+    GATEWAY_TOO_MANY_RELEASES = 11,
+    GATEWAY_NO_ENTRY = 12,
+    GATEWAY_TOO_SHORT = 13,
+    GATEWAY_INSTANT_NOT_AFTER = 14,
+    GATEWAY_DUE_TIME_MISSED = 15,
+    GATEWAY_UNKNOWN_TASK = 16,
+    GATEWAY_TASK_BUSY = 17,
+    GATEWAY_NO_LIST = 18
+};
+
+/* `work` of an interval and of a view. */
+enum { GATEWAY_IDLE = 0, GATEWAY_EXECUTE = 1, GATEWAY_COPY_IN_AND_EXECUTE = 2 };
+
+/* `fate` of an interval's copy-in. */
+enum { GATEWAY_NO_COPY_IN = 0, GATEWAY_COPIED_IN = 1, GATEWAY_CANCELLED = 2, GATEWAY_THROWN_OUT = 3 };
+
+/* `closed` of an answer: whether an interval ended, and on which side of the instant's releases. */
+enum { GATEWAY_NONE_CLOSED = 0, GATEWAY_CLOSED_BEFORE_RELEASES = 1, GATEWAY_CLOSED_AFTER_RELEASES = 2 };
+
+/* A refusal in words. */
+static inline const char *gateway_refusal_text(uint8_t number)
+{
+    switch (number) {
+    case GATEWAY_SERVED: return "it is not refused";
+    case GATEWAY_CUT_SHORT: return "an entry is cut short";
+    case GATEWAY_OTHER_KIND: return "an entry of a kind that does not belong there";
+    case GATEWAY_TASK_AFTER_RELEASE: return "a task after a release";
+    case GATEWAY_BAD_TASK: return "a task number over 31 or given before";
+    case GATEWAY_SAME_PRIORITY: return "a priority given before";
+    case GATEWAY_BAD_MARK: return "a mark over 1";
+    case GATEWAY_BAD_LENGTH: return "a length outside 1 to 1,000,000";
+    case GATEWAY_RELEASE_OF_NO_TASK: return "a release of a task that is not in the table";
+    case GATEWAY_RELEASE_NOT_AFTER: return "a release that is not after the one before";
+    case GATEWAY_PAST_LAST_TICK: return "a release time over 1,000,000,000";
+    case GATEWAY_TOO_MANY_RELEASES: return "a 4,097th release";
+    case GATEWAY_NO_ENTRY: return "there is no entry";
+    case GATEWAY_TOO_SHORT: return "the slice that is lent is too short";
+    case GATEWAY_INSTANT_NOT_AFTER: return "an instant that is not after the last";
+    case GATEWAY_DUE_TIME_MISSED: return "a phase ends before the instant";
+    case GATEWAY_UNKNOWN_TASK: return "a task that is not in the table";
+    case GATEWAY_TASK_BUSY: return "a mark change while a job is pending or a release waits";
+    case GATEWAY_NO_LIST: return "no list of releases of these tasks makes this record";
+    default: return "no refusal has this number";
+    }
+}
 
 /* ---- The record of a whole file, and the reading of one.
  *
@@ -53,7 +122,7 @@ typedef struct {
     uint8_t task, blocked, unused[6];
 } gateway_job;
 
-/* 255 is no task: of `task`, the processor's, `copied_out`, `chosen` and `promoted`. `work` is 0 idle, 1 execute, 2 copy in and execute;
+/* GATEWAY_NO_TASK is nobody: of `task`, the processor's, `copied_out`, `chosen` and `promoted`. `work` is 0 idle, 1 execute, 2 copy in and execute;
  * `fate`, that of the copy-in, 0 none, 1 done, 2 cancelled under way, 3 done and then thrown out. */
 typedef struct {
     uint64_t begin, end;
@@ -75,26 +144,47 @@ typedef struct {
 /* The library tells an answer as nine numbers, whose bytes are those of gateway_answer: lowest first, on x86-64. */
 #define GATEWAY_ANSWER_WORDS 9
 
-#ifdef __cplusplus
+/* What goes on now: what the processor and the engine do, with whom and until when. Where nobody is named the end is 0; where no interval is open
+ * `begin` is 0 and `work` idle. `half` is the processor's, 0 before the first interval, and the engine has the other one. */
+typedef struct {
+    uint64_t begin;                                          /* of the open interval */
+    uint64_t processor_until, copy_in_until, copy_out_until; /* the end of the phase under way */
+    uint32_t pending, waiting, marked;                       /* sets of tasks: with a job, with a release that waits, latency-sensitive */
+    uint8_t is_open;                                         /* 1: an interval is open */
+    uint8_t work;                                            /* of the open interval */
+    uint8_t processor;                                       /* the task on the processor, from the interval's begin until its work has ended */
+    uint8_t copy_in, copy_out;                               /* the task being copied in and out by the engine */
+    uint8_t half;
+} gateway_view;
+
+#if defined(__cplusplus)
 #define GATEWAY_ASSERT(fact, text) static_assert(fact, text)
-#else
+#elif __STDC_VERSION__ >= 201112L
 #define GATEWAY_ASSERT(fact, text) _Static_assert(fact, text)
+#else
+#define GATEWAY_ASSERT(fact, text) extern int gateway_assertion[(fact) ? 1 : -1]
 #endif
 GATEWAY_ASSERT(sizeof(gateway_dispatcher) == 1056, "a dispatcher has no gap");
 GATEWAY_ASSERT(sizeof(gateway_answer) == GATEWAY_ANSWER_WORDS * sizeof(uint64_t), "an answer has no gap");
 GATEWAY_ASSERT(offsetof(gateway_answer, job) == 16 && offsetof(gateway_answer, interval) == 48, "an answer's parts are in their places");
+/* A view is lent as 4 ticks, 3 sets and 6 bytes, each kind one behind the other: a copy would take as long as the call. */
+GATEWAY_ASSERT(offsetof(gateway_view, copy_out_until) == 24 && offsetof(gateway_view, pending) == 32, "a view's ticks have no gap");
+GATEWAY_ASSERT(offsetof(gateway_view, marked) == 40 && offsetof(gateway_view, is_open) == 44, "a view's sets have no gap");
+GATEWAY_ASSERT(offsetof(gateway_view, half) == 49 && sizeof(gateway_view) == 56, "a view's bytes have no gap");
 
-/* What is exported lends each array of a dispatcher by itself. The functions below find them. */
-uint8_t gateway_open_parts(const uint8_t *entries, size_t length, uint64_t *times, uint32_t *sets, uint8_t *codes, uint8_t *priority,
-                           uint32_t *columns, uint64_t *release, uint8_t *blocked, uint64_t *waits, size_t *place);
-uint8_t gateway_instant_parts(uint64_t *times, uint32_t *sets, uint8_t *codes, const uint8_t *priority, const uint32_t *columns,
-                              uint64_t *release, uint8_t *blocked, uint64_t *waits, uint64_t time, uint32_t set, uint64_t *told);
-uint8_t gateway_mark_parts(uint32_t *sets, uint8_t task, uint8_t mark);
+/* What is exported lends each array of a dispatcher by itself. The functions below find them. The names carry the version of the layout, of what a
+ * dispatcher keeps and what an answer tells: a program with the header of another layout is not linked. */
+uint8_t gateway_open_v2(const uint8_t *entries, size_t length, uint64_t *times, uint32_t *sets, uint8_t *codes, uint8_t *priority,
+                        uint32_t *columns, uint64_t *release, uint8_t *blocked, uint64_t *waits, size_t *place);
+uint8_t gateway_instant_v2(uint64_t *times, uint32_t *sets, uint8_t *codes, const uint8_t *priority, const uint32_t *columns,
+                           uint64_t *release, uint8_t *blocked, uint64_t *waits, uint64_t time, uint32_t set, uint64_t *told);
+uint8_t gateway_mark_v2(uint32_t *sets, uint8_t task, uint8_t mark);
+void gateway_now_v2(const uint64_t *times, const uint32_t *sets, const uint8_t *codes, uint64_t *ticks, uint32_t *tasks, uint8_t *units);
 
 /* Opens a dispatcher from `length` bytes of task entries. *place is the place of the entry that is refused, and 0 where there is none. */
 static inline uint8_t gateway_open(const uint8_t *entries, size_t length, gateway_dispatcher *d, size_t *place)
 {
-    uint8_t number = gateway_open_parts(entries, length, d->times, d->sets, d->codes, d->priority, d->columns, d->release, d->blocked, d->waits, place);
+    uint8_t number = gateway_open_v2(entries, length, d->times, d->sets, d->codes, d->priority, d->columns, d->release, d->blocked, d->waits, place);
     if (number == 0) {
         memset(d->unused, 0, sizeof d->unused); /* so that every byte of it is written, and two can be compared */
     }
@@ -102,12 +192,17 @@ static inline uint8_t gateway_open(const uint8_t *entries, size_t length, gatewa
 }
 
 /* An instant: the releases of the set at the time. It is to be called at every release and at every due time: 15 otherwise. Of a task that has a
- * pending job one release waits, and is taken at the instant at which that job is done, before the releases of that instant. */
+ * pending job one release waits, and is taken at the instant at which that job is done, before the releases of that instant.
+ *
+ * Phases are counted from the time that is handed in and not from the call: a task's lengths must include how late the driver may be. Ticks are
+ * counted from the opening, and releases behind GATEWAY_LAST_TICK are refused; an empty set is served at any time, so that one empty call far in the future
+ * ends the count. A new dispatcher can take over only where nothing is due. So a driver chooses its tick long enough, and late in a count it holds
+ * releases back until then, as link/driver.c does. */
 static inline uint8_t gateway_instant(gateway_dispatcher *d, uint64_t time, uint32_t set, gateway_answer *answer)
 {
     uint64_t told[GATEWAY_ANSWER_WORDS] = {0};
     gateway_answer now;
-    uint8_t number = gateway_instant_parts(d->times, d->sets, d->codes, d->priority, d->columns, d->release, d->blocked, d->waits, time, set, told);
+    uint8_t number = gateway_instant_v2(d->times, d->sets, d->codes, d->priority, d->columns, d->release, d->blocked, d->waits, time, set, told);
     if (number != 0) {
         return number;
     }
@@ -131,7 +226,26 @@ static inline uint8_t gateway_instant(gateway_dispatcher *d, uint64_t time, uint
 /* Changes a task's mark from now on, while it has no pending job and no release that waits: 1 latency-sensitive, 0 not. */
 static inline uint8_t gateway_mark(gateway_dispatcher *d, uint8_t task, uint8_t mark)
 {
-    return gateway_mark_parts(d->sets, task, mark);
+    return gateway_mark_v2(d->sets, task, mark);
+}
+
+/* What goes on now. A driver commands its hardware by the views before and after a call: `b` and `a`, and `t` the time of the call. In this order:
+ *
+ *     begins = a.is_open && !(b.is_open && b.begin == a.begin);
+ *     goes_on = b.copy_in == a.copy_in && b.copy_in_until == a.copy_in_until;
+ *     if (b.copy_in != GATEWAY_NO_TASK && b.copy_in_until > t && !goes_on) break off the copy-in of b.copy_in into half 1 - b.half
+ *     if (begins && a.copy_out != GATEWAY_NO_TASK)                         copy a.copy_out out of half 1 - a.half, until a.copy_out_until
+ *     if (a.copy_in != GATEWAY_NO_TASK && !goes_on)                        copy a.copy_in into half 1 - a.half, until a.copy_in_until
+ *     if (begins && a.work == GATEWAY_EXECUTE)                             run a.processor in half a.half, until a.processor_until
+ *     if (begins && a.work == GATEWAY_COPY_IN_AND_EXECUTE)                 the processor copies a.processor into half a.half and then runs it
+ *
+ * The end of a copy tells it from another one of the same task: in one instant a copy can be broken off and the same task's copy begin again. The
+ * processor's own copy-in ends at a.processor_until, and a view from then on has the end of the run. What was copied in and is not run in the interval that
+ * begins next was thrown out: nothing is to be done, and it is copied in again. Copies out and runs are never broken off. link/hardware.c does all
+ * this and checks it. */
+static inline void gateway_now(const gateway_dispatcher *d, gateway_view *view)
+{
+    gateway_now_v2(d->times, d->sets, d->codes, &view->begin, &view->pending, &view->is_open);
 }
 
 #ifdef __cplusplus

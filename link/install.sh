@@ -15,9 +15,8 @@ esac
 unset CDPATH
 cd "$(dirname "$(readlink -f "$0")")/.."
 library=target/staticlib/libgateway.a
-if [ ! -e $library ] || [ -n "$(find crates crates.txt -newer $library -print -quit)" ]; then
-    link/library.sh >&2
-fi
+link/library.sh
+version=$(sed -n 's/^#define GATEWAY_VERSION "\(.*\)"$/\1/p' link/gateway.h)
 place=${DESTDIR:-}$prefix
 mkdir -p "$place/include" "$place/lib/pkgconfig"
 install -m 644 link/gateway.h "$place/include/gateway.h"
@@ -29,7 +28,7 @@ includedir=\${prefix}/include
 
 Name: gateway
 Description: The dispatcher of one core of an order gateway, proved to keep to its rules
-Version: 0.1.0
+Version: $version
 Cflags: -I\${includedir}
 Libs: -L\${libdir} -lgateway
 END

@@ -6,7 +6,7 @@
 #include <stdlib.h>
 #include <string.h>
 
-static uint64_t number(const uint8_t *bytes, int count)
+static uint64_t number_at(const uint8_t *bytes, int count)
 {
     uint64_t value = 0;
     for (int i = count; i > 0; i--) {
@@ -97,7 +97,7 @@ static void calls(gateway_dispatcher *d, const uint8_t *input, size_t length)
             return;
         }
         if (size == 13) {
-            instant(&moved, &answer, number(input + at + 1, 8), (uint32_t)number(input + at + 9, 4));
+            instant(&moved, &answer, number_at(input + at + 1, 8), (uint32_t)number_at(input + at + 9, 4));
         } else {
             mark(&moved, input[at + 1], input[at + 2]);
         }
@@ -106,23 +106,41 @@ static void calls(gateway_dispatcher *d, const uint8_t *input, size_t length)
     }
 }
 
-int main(void)
+/* All of standard input, and its length; NULL where it cannot be had. */
+static uint8_t *read_all(size_t *length)
 {
-    size_t room = 1 << 16, length = 0, got;
+    size_t room = 1 << 16, got;
     uint8_t *input = malloc(room);
-    while (input != NULL && (got = fread(input + length, 1, room - length, stdin)) > 0) {
-        length += got;
-        if (length == room) {
-            input = realloc(input, room *= 2);
+    *length = 0;
+    while (input != NULL && (got = fread(input + *length, 1, room - *length, stdin)) > 0) {
+        *length += got;
+        if (*length == room) {
+            uint8_t *longer = realloc(input, room *= 2);
+            if (longer == NULL) {
+                free(input);
+            }
+            input = longer;
         }
     }
-    if (input == NULL || ferror(stdin)) {
+    if (input != NULL && ferror(stdin)) {
+        free(input);
+        input = NULL;
+    }
+    return input;
+}
+
+int main(void)
+{
+    size_t length;
+    uint8_t *input = read_all(&length);
+    if (input == NULL) {
         perror("the input");
         return 2;
     }
-    uint64_t opening = length < 4 ? 0 : number(input, 4);
+    uint64_t opening = length < 4 ? 0 : number_at(input, 4);
     if (length < 4 || length - 4 < opening) {
         printf("X\n");
+        free(input);
         return 0;
     }
     gateway_dispatcher d, before;

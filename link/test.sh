@@ -44,9 +44,46 @@ try read_another_kind --read "$inputs/tasks" "$inputs/byte_behind"
 try read_a_release --read "$inputs/plan_a" "$inputs/record"
 try read_nothing --read "$inputs/tasks" "$inputs/empty"
 
+# what the examples refuse: a missing file, a length that is no number, too many words, and a disk that is full
+refuse() {
+    local program status
+    for program in example_c example_rust; do
+        status=0
+        "target/link/$program" "$@" >"${to:-$inputs/printed}" 2>"$inputs/said" || status=$?
+        if [ $status -ne 2 ] || [ "$(wc -l <"$inputs/said")" -ne 1 ]; then
+            echo "$program $*: status $status"
+            cat "$inputs/said"
+            exit 1
+        fi
+        passed=$((passed + 1))
+    done
+}
+refuse "$inputs/missing"
+refuse "$inputs/plan_a" x
+refuse "$inputs/plan_a" -1
+refuse "$inputs/plan_a" 1 1
+refuse --read "$inputs/tasks"
+to=/dev/full refuse "$inputs/plan_a"
+try plan_a "$inputs/plan_a" 18446744073709551617
+
 # memory that no call made
 target/link/any_bytes_c
 passed=$((passed + 1))
+
+# the model of the hardware, commanded by views alone: no fault, and one with a command of any kind left out
+target/link/hardware_c 3000 "${SEED:-1}"
+passed=$((passed + 1))
+for command in copy-in break-off copy-out run copy-in-and-run again; do
+    said=$(target/link/hardware_c 3000 "${SEED:-1}" "$command") && {
+        echo "with a command left out, $command, the hardware has no fault"
+        exit 1
+    }
+    [ "${said#fault at tick }" != "$said" ] || {
+        echo "hardware_c, with $command left out: $said"
+        exit 1
+    }
+    passed=$((passed + 1))
+done
 
 # the drivers, in C and in Rust: what each core printed is what `gateway` prints for its releases
 [ -x target/bin/gateway ] || rt check gateway >"$inputs/log" 2>&1 || {
@@ -66,6 +103,21 @@ cargo test --quiet --offline --manifest-path link/rust/Cargo.toml --target-dir t
 }
 passed=$((passed + 1))
 
+# its pages, with no item that says nothing
+RUSTDOCFLAGS='-D warnings -D missing_docs' cargo doc --quiet --offline --no-deps --manifest-path link/rust/Cargo.toml --target-dir target/cargo >"$inputs/log" 2>&1 || {
+    cat "$inputs/log"
+    exit 1
+}
+passed=$((passed + 1))
+
+# the C programs as strictly as they may be built, by the compilers that are there
+strict=$(link/builds.sh 2>&1) || {
+    echo "$strict"
+    exit 1
+}
+strict=${strict##*$'\n'}
+passed=$((passed + ${strict% passed}))
+
 # what is installed: a C program by pkg-config, and a Cargo package elsewhere that names the wrapper by its path
 link/install.sh "$inputs/prefix" >"$inputs/log" 2>&1 || {
     cat "$inputs/log"
@@ -74,6 +126,23 @@ link/install.sh "$inputs/prefix" >"$inputs/log" 2>&1 || {
 export PKG_CONFIG_PATH="$inputs/prefix/lib/pkgconfig"
 eval "cc -std=c99 -Wall -Wextra -Wpedantic -Werror -o '$inputs/session' link/session.c $(pkg-config --cflags --libs gateway)"
 printf '' | "$inputs/session" | grep -qx X
+passed=$((passed + 1))
+
+# one version, and a program with the header of another layout is not linked
+version=$(sed -n 's/^#define GATEWAY_VERSION "\(.*\)"$/\1/p' link/gateway.h)
+[ "$(pkg-config --modversion gateway)" = "$version" ]
+[ "$(cargo pkgid --offline --manifest-path link/rust/Cargo.toml | sed 's/.*[#@]//')" = "$version" ]
+grep -q "^## $version" CHANGELOG.md
+passed=$((passed + 1))
+mkdir "$inputs/old"
+sed 's/_v2(/_v1(/' link/gateway.h >"$inputs/old/gateway.h"
+cp link/session.c "$inputs/old"
+cc -std=c11 -c -o "$inputs/old/session.o" "$inputs/old/session.c"
+if cc -o "$inputs/old/session" "$inputs/old/session.o" target/staticlib/libgateway.a 2>"$inputs/log"; then
+    echo "a program with the header of another layout is linked"
+    exit 1
+fi
+grep -q 'undefined reference to .*_v1' "$inputs/log"
 passed=$((passed + 1))
 mkdir -p "$inputs/other/src"
 cat >"$inputs/other/Cargo.toml" <<END

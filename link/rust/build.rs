@@ -1,5 +1,5 @@
 //! Finds the proved library: where GATEWAY_LIB_DIR says, else where pkg-config does if link/install.sh put it there, else where
-//! `link/library.sh` leaves it in the repository.
+//! `link/library.sh` leaves it in the repository. The package has the version that the header says.
 
 use std::path::{Path, PathBuf};
 use std::process::Command;
@@ -10,7 +10,20 @@ fn installed() -> Option<PathBuf> {
     (said.status.success() && folder.join("libgateway.a").exists()).then_some(folder)
 }
 
+/// The version stands in the header, and a package has to name its own: one of another version is not built.
+fn hold_version() {
+    let header = Path::new(env!("CARGO_MANIFEST_DIR")).join("../gateway.h");
+    println!("cargo:rerun-if-changed={}", header.display());
+    let Ok(text) = std::fs::read_to_string(&header) else {
+        return; // the package stands by itself
+    };
+    let said = text.lines().find_map(|line| line.strip_prefix("#define GATEWAY_VERSION ")).map(|word| word.trim_matches('"'));
+    let own = env!("CARGO_PKG_VERSION");
+    assert!(said == Some(own), "this package is {own}, and link/gateway.h is {said:?}");
+}
+
 fn main() {
+    hold_version();
     println!("cargo:rerun-if-env-changed=GATEWAY_LIB_DIR");
     let built = Path::new(env!("CARGO_MANIFEST_DIR")).join("../../target/staticlib");
     let folder = match std::env::var_os("GATEWAY_LIB_DIR") {

@@ -6,7 +6,7 @@ use std::fmt;
 mod raw {
     #[link(name = "gateway", kind = "static")]
     unsafe extern "C" {
-        pub fn gateway_open_parts(
+        pub fn gateway_open_v2(
             entries: *const u8,
             length: usize,
             times: &mut [u64; 7],
@@ -20,7 +20,7 @@ mod raw {
             place: &mut usize,
         ) -> u8;
 
-        pub fn gateway_instant_parts(
+        pub fn gateway_instant_v2(
             times: &mut [u64; 7],
             sets: &mut [u32; 6],
             codes: &mut [u8; 9],
@@ -34,7 +34,16 @@ mod raw {
             told: &mut super::Told,
         ) -> u8;
 
-        pub fn gateway_mark_parts(sets: &mut [u32; 6], task: u8, mark: u8) -> u8;
+        pub fn gateway_mark_v2(sets: &mut [u32; 6], task: u8, mark: u8) -> u8;
+
+        pub fn gateway_now_v2(
+            times: &[u64; 7],
+            sets: &[u32; 6],
+            codes: &[u8; 9],
+            ticks: &mut [u64; 4],
+            tasks: &mut [u32; 3],
+            units: &mut [u8; 6],
+        );
     }
 }
 
@@ -44,27 +53,35 @@ pub type Set = u32;
 /// A job that is done.
 #[derive(Clone, Copy, Debug, PartialEq, Eq)]
 pub struct Job {
+    /// Whose it is.
     pub task: u8,
     /// When its release was handed in, also where that waited.
     pub release: u64,
+    /// When its execution began.
     pub start: u64,
+    /// When its copy-out ended.
     pub completion: u64,
-    /// Counted from the instant at which the release was taken.
+    /// The intervals in which it was blocked, counted from the instant at which the release was taken.
     pub blocked: u8,
 }
 
-/// What the processor did in an interval.
+/// What the processor does in an interval.
 #[derive(Clone, Copy, Debug, PartialEq, Eq)]
 pub enum Work {
+    /// Nothing.
     Idle,
+    /// It executes the job that the engine copied in in the interval before.
     Execute,
+    /// It copies in the job that was promoted, and executes it.
     CopyInAndExecute,
 }
 
 /// What became of an interval's copy-in.
 #[derive(Clone, Copy, Debug, PartialEq, Eq)]
 pub enum Fate {
+    /// There was none.
     None,
+    /// It was done, and its job is executed in the next interval.
     Done,
     /// A release came while it was under way, and it gave way.
     Cancelled,
@@ -72,17 +89,26 @@ pub enum Fate {
     ThrownOut,
 }
 
-/// An interval that has ended; `task` is the processor's.
+/// An interval that has ended.
 #[derive(Clone, Copy, Debug, PartialEq, Eq)]
 pub struct Interval {
+    /// When it began.
     pub begin: u64,
+    /// When it ended.
     pub end: u64,
+    /// The processor's half of the local memory.
     pub half: u8,
+    /// The task that the processor executed.
     pub task: Option<u8>,
+    /// How it came to it.
     pub work: Work,
+    /// The task that the engine copied out.
     pub copied_out: Option<u8>,
+    /// The task whose copy-in the engine began.
     pub chosen: Option<u8>,
+    /// What became of that copy-in.
     pub fate: Fate,
+    /// The task that is given to the processor itself in the next interval.
     pub promoted: Option<u8>,
     /// It ended after the releases of its instant, not before them.
     pub after_releases: bool,
@@ -91,11 +117,64 @@ pub struct Interval {
 /// What occurred at an instant, and when the dispatcher is to be called next at the latest.
 #[derive(Clone, Copy, Debug, PartialEq, Eq)]
 pub struct Answer {
+    /// The job that is done.
     pub done: Option<Job>,
+    /// The interval that ended.
     pub closed: Option<Interval>,
     /// The tasks whose release was skipped now, since one of theirs waits.
     pub skipped: Set,
+    /// The next due time. With none nothing is pending and nothing waits.
     pub due: Option<u64>,
+}
+
+/// A phase under way.
+#[derive(Clone, Copy, Debug, PartialEq, Eq)]
+pub struct Phase {
+    /// Whose it is.
+    pub task: u8,
+    /// When it ends.
+    pub until: u64,
+}
+
+/// What goes on now. A driver commands its hardware by the views before and after a call, as link/gateway.h says: an interval began where
+/// [`View::begins_after`]; a copy goes on where it is the same phase in both; one that was under way, had not ended and is not the same was broken off.
+#[derive(Clone, Copy, Debug, PartialEq, Eq)]
+pub struct View {
+    /// When the open interval began, where one is open.
+    pub begin: Option<u64>,
+    /// Of the open interval.
+    pub work: Work,
+    /// The task on the processor, from the interval's begin until its execution ends: first its own copy-in, where it makes one.
+    pub processor: Option<Phase>,
+    /// What the engine copies in.
+    pub copy_in: Option<Phase>,
+    /// What the engine copies out.
+    pub copy_out: Option<Phase>,
+    /// The processor's half, 0 before the first interval; the engine has the other one.
+    pub half: u8,
+    /// The tasks that have a pending job.
+    pub pending: Set,
+    /// The tasks of which a release waits.
+    pub waiting: Set,
+    /// The tasks that are latency-sensitive.
+    pub marked: Set,
+}
+
+impl View {
+    /// Whether an interval began between a view and this one.
+    pub fn begins_after(&self, before: &View) -> bool {
+        self.begin.is_some() && self.begin != before.begin
+    }
+
+    /// The task whose copy-in was under way in a view, had not ended at the time of the call, and is broken off.
+    pub fn broken_off(&self, before: &View, time: u64) -> Option<u8> {
+        before.copy_in.filter(|phase| phase.until > time && self.copy_in != before.copy_in).map(|phase| phase.task)
+    }
+
+    /// The copy-in that began between a view and this one.
+    pub fn copy_in_begun(&self, before: &View) -> Option<Phase> {
+        self.copy_in.filter(|_| self.copy_in != before.copy_in)
+    }
 }
 
 /// The dispatcher of one core: plain memory, laid out as `gateway_dispatcher` of link/gateway.h.
@@ -132,7 +211,7 @@ impl Dispatcher {
         let mut place = 0;
         // The slice and the arrays are live, and Rust lets no two of them overlap: the function asks no more.
         let number = unsafe {
-            raw::gateway_open_parts(
+            raw::gateway_open_v2(
                 entries.as_ptr(),
                 entries.len(),
                 &mut d.times,
@@ -168,7 +247,7 @@ impl Dispatcher {
     pub fn instant_into(&mut self, time: u64, set: Set, told: &mut Told) -> u8 {
         // The arrays are live, and Rust lets no two of them overlap: the function asks no more.
         unsafe {
-            raw::gateway_instant_parts(
+            raw::gateway_instant_v2(
                 &mut self.times,
                 &mut self.sets,
                 &mut self.codes,
@@ -187,10 +266,25 @@ impl Dispatcher {
     /// Changes a task's mark from now on, while it has no pending job and no release that waits.
     pub fn mark(&mut self, task: u8, latency_sensitive: bool) -> Result<(), Refusal> {
         // As above.
-        match unsafe { raw::gateway_mark_parts(&mut self.sets, task, latency_sensitive.into()) } {
+        match unsafe { raw::gateway_mark_v2(&mut self.sets, task, latency_sensitive.into()) } {
             0 => Ok(()),
             number => Err(Refusal::alone(number)),
         }
+    }
+
+    /// What goes on now.
+    #[inline]
+    pub fn now(&self) -> View {
+        let mut shown = Shown::default();
+        self.now_into(&mut shown);
+        shown.view()
+    }
+
+    /// The same, as numbers in memory that the caller keeps.
+    #[inline]
+    pub fn now_into(&self, shown: &mut Shown) {
+        // As above.
+        unsafe { raw::gateway_now_v2(&self.times, &self.sets, &self.codes, &mut shown.ticks, &mut shown.tasks, &mut shown.units) }
     }
 
     /// The tasks that are latency-sensitive now.
@@ -221,30 +315,75 @@ impl fmt::Debug for Dispatcher {
 #[repr(C)]
 #[derive(Clone, Copy, Debug, Default, PartialEq, Eq)]
 pub struct Told {
+    /// The next due time.
     pub due: u64,
+    /// The tasks whose release was skipped.
     pub skipped: u32,
     /// A job is done; an interval closed, 1 before the releases, 2 after them; there is a due time.
     pub flags: [u8; 3],
+    /// Nothing, so that there is no gap; as the two below.
     pub unused: u8,
     /// Release, execution start, completion.
     pub job_times: [u64; 3],
     /// Task, blocked intervals.
     pub job_bytes: [u8; 2],
+    /// Nothing.
     pub unused_too: [u8; 6],
     /// Begin, end.
     pub interval_times: [u64; 2],
     /// Half, task, work, task copied out, task chosen, its fate, task promoted; 255 is no task.
     pub interval_bytes: [u8; 7],
+    /// Nothing.
     pub unused_last: u8,
 }
 
 const _: () = assert!(std::mem::size_of::<Told>() == 72);
 
+/// What goes on now, as numbers.
+#[derive(Clone, Copy, Debug, Default, PartialEq, Eq)]
+pub struct Shown {
+    /// The open interval's begin; the ends of the phases of processor, copy-in and copy-out: 0 where there is none.
+    pub ticks: [u64; 4],
+    /// Pending, waiting, marked.
+    pub tasks: [Set; 3],
+    /// Whether an interval is open, its work; the tasks on the processor, copied in and copied out, 255 is no task; the processor's half.
+    pub units: [u8; 6],
+}
+
+impl Shown {
+    /// With the types that Rust has for it.
+    #[inline]
+    pub fn view(&self) -> View {
+        let ([begin, until, in_until, out_until], [pending, waiting, marked]) = (self.ticks, self.tasks);
+        let [is_open, work, processor, copy_in, copy_out, half] = self.units;
+        View {
+            begin: (is_open != 0).then_some(begin),
+            work: work_of(work),
+            processor: phase(processor, until),
+            copy_in: phase(copy_in, in_until),
+            copy_out: phase(copy_out, out_until),
+            half,
+            pending,
+            waiting,
+            marked,
+        }
+    }
+}
+
 fn task(number: u8) -> Option<u8> {
     (number != 255).then_some(number)
 }
 
+fn phase(number: u8, until: u64) -> Option<Phase> {
+    task(number).map(|task| Phase { task, until })
+}
+
+fn work_of(number: u8) -> Work {
+    [Work::Idle, Work::Execute, Work::CopyInAndExecute][usize::from(number.min(2))]
+}
+
 impl Told {
+    /// With the types that Rust has for it.
     #[inline]
     pub fn answer(&self) -> Answer {
         Answer {
@@ -267,7 +406,7 @@ impl Told {
             end,
             half,
             task: task(executed),
-            work: [Work::Idle, Work::Execute, Work::CopyInAndExecute][usize::from(work.min(2))],
+            work: work_of(work),
             copied_out: task(copied_out),
             chosen: task(chosen),
             fate: [Fate::None, Fate::Done, Fate::Cancelled, Fate::ThrownOut][usize::from(fate.min(3))],

@@ -4,54 +4,41 @@
 //!
 //! TASKS is a file with the task entries of every core (./gateway input makes it of a plan with tasks alone). A line of RELEASES is
 //! `CORE TIME TASK`, a release, or `CORE TIME mark TASK VALUE`, a mark call; the times do not fall. What occurs is printed as `gateway` prints it, with the
-//! core in front. Where the ticks of a core come near their end, it goes on with a new dispatcher at an idle moment.
+//! core in front. It goes on for ever: late in its count a core goes on with a new dispatcher at an idle moment, and where none comes in time its releases are
+//! held back until there is one. The status is 2 where what it reads is rubbish, and 1 where the dispatcher refuses it.
 
-use gateway::{Answer, Dispatcher, Interval};
+use gateway::{Answer, Dispatcher, Interval, LAST_TICK, Refusal};
 use std::collections::BTreeMap;
-use std::error::Error;
+use std::fmt::Display;
 use std::io::{self, BufRead, BufWriter, Write};
+use std::process::ExitCode;
 
-/// Releases past tick 1,000,000,000 are refused by 10. A core that is idle after half of them counts anew.
-const ENOUGH: u64 = 500_000_000;
+const CORES: u64 = 64;
+const TASKS: usize = 32;
 
-struct Core {
-    dispatcher: Dispatcher,
-    /// The tick of the driver's clock that is tick 0 of the dispatcher.
-    base: u64,
-    /// The next due time, in ticks of the driver's clock.
-    due: Option<u64>,
-    /// The tasks released now.
-    released: u32,
+/// The longest line.
+const LINE: usize = 127;
+
+/// A core that is idle after half of the ticks that it can count counts anew.
+const ENOUGH: u64 = LAST_TICK / 2;
+
+/// Of the driver's own clock: so that no sum of ticks runs over.
+const MOST_TIME: u64 = u64::MAX / 2;
+
+/// Why the driver stops: its status, and what it says.
+struct Stop(u8, String);
+
+fn rubbish(what: impl Display) -> Stop {
+    Stop(2, what.to_string())
 }
 
-enum Event {
-    Release { core: u32, time: u64, task: u8 },
-    Mark { core: u32, time: u64, task: u8, value: bool },
-}
-
-impl Event {
-    /// None of a line that is neither.
-    fn parse(line: &str) -> Option<Event> {
-        let words: Vec<&str> = line.split_whitespace().collect();
-        let (core, time) = (words.first()?.parse().ok()?, words.get(1)?.parse().ok()?);
-        match words[2..] {
-            ["mark", task, value] => Some(Event::Mark { core, time, task: task.parse().ok()?, value: value == "1" }),
-            [task] => Some(Event::Release { core, time, task: task.parse().ok().filter(|&task| task < 32)? }),
-            _ => None,
-        }
-    }
-
-    fn time(&self) -> u64 {
-        let (Event::Release { time, .. } | Event::Mark { time, .. }) = *self;
-        time
-    }
-}
+// ---- What it prints
 
 fn task(task: Option<u8>) -> String {
     task.map_or("-".to_string(), |task| task.to_string())
 }
 
-fn print_interval(out: &mut impl Write, number: u32, base: u64, i: &Interval) -> io::Result<()> {
+fn print_interval(out: &mut impl Write, number: u8, base: u64, i: &Interval) -> io::Result<()> {
     let (begin, end) = (base + i.begin, base + i.end);
     let (executed, copied_out, chosen, promoted) = (task(i.task), task(i.copied_out), task(i.chosen), task(i.promoted));
     let (work, fate) = (i.work as u8, i.fate as u8);
@@ -60,14 +47,14 @@ fn print_interval(out: &mut impl Write, number: u32, base: u64, i: &Interval) ->
 
 /// In the order in which things occur: the job done, an interval that ended before the releases, those skipped, an interval that ended after them. A
 /// release that waits is told when its job is done.
-fn print_answer(out: &mut impl Write, number: u32, base: u64, now: u64, a: &Answer) -> io::Result<()> {
+fn print_answer(out: &mut impl Write, number: u8, base: u64, now: u64, a: &Answer) -> io::Result<()> {
     if let Some(j) = a.done {
         writeln!(out, "{number} J {} {} {} {} {}", j.task, base + j.release, base + j.start, base + j.completion, j.blocked)?;
     }
     if let Some(i) = a.closed.filter(|i| !i.after_releases) {
         print_interval(out, number, base, &i)?;
     }
-    for task in (0..32).filter(|task| a.skipped >> task & 1 == 1) {
+    for task in (0..TASKS).filter(|task| a.skipped >> task & 1 == 1) {
         writeln!(out, "{number} S {task} {now}")?;
     }
     if let Some(i) = a.closed.filter(|i| i.after_releases) {
@@ -76,30 +63,171 @@ fn print_answer(out: &mut impl Write, number: u32, base: u64, now: u64, a: &Answ
     Ok(())
 }
 
+// ---- A core
+
+struct Core {
+    dispatcher: Dispatcher,
+    /// The tick of the driver's clock that is tick 0 of the dispatcher.
+    base: u64,
+    /// The next due time, in ticks of the driver's clock.
+    due: Option<u64>,
+    /// Releases of each task that are to be handed in.
+    held: [u64; TASKS],
+    /// One of them came now.
+    has_release: bool,
+}
+
+impl Core {
+    /// With no due time nothing is pending and nothing waits, and a new dispatcher can take over, which is told the marks.
+    fn count_anew(&mut self, opened: &Dispatcher, now: u64) -> Result<(), Refusal> {
+        let (marked, mut fresh) = (self.dispatcher.marked(), opened.clone());
+        let changed = marked ^ fresh.marked();
+        for task in (0..32).filter(|task| changed >> task & 1 == 1) {
+            fresh.mark(task, marked >> task & 1 == 1)?;
+        }
+        (self.dispatcher, self.base) = (fresh, now);
+        Ok(())
+    }
+
+    fn holds(&self) -> bool {
+        self.held.iter().any(|&count| count > 0)
+    }
+
+    /// One release of each task that has some, as a set.
+    fn hand_in(&mut self) -> u32 {
+        let mut set = 0;
+        for (task, count) in self.held.iter_mut().enumerate().filter(|(_, count)| **count > 0) {
+            *count -= 1;
+            set |= 1 << task;
+        }
+        set
+    }
+
+    /// One call. Where the count is over nothing is handed in, and what is due goes on.
+    fn instant(&mut self, now: u64) -> Result<Answer, Refusal> {
+        let tick = now - self.base;
+        let set = if tick > LAST_TICK { 0 } else { self.hand_in() };
+        let answer = self.dispatcher.instant(tick, set)?;
+        // a second release of a task has a tick of its own
+        let soon = tick < LAST_TICK && self.holds();
+        self.due = answer.due.map(|due| if soon { (now + 1).min(self.base + due) } else { self.base + due });
+        Ok(answer)
+    }
+
+    fn call(&mut self, number: u8, opened: &Dispatcher, now: u64, out: &mut impl Write) -> Result<(), Stop> {
+        loop {
+            let refused = |refusal| Stop(1, format!("core {number}, tick {now}: {refusal}"));
+            if self.due.is_none() && now - self.base > ENOUGH {
+                self.count_anew(opened, now).map_err(refused)?;
+            }
+            let answer = self.instant(now).map_err(refused)?;
+            print_answer(out, number, self.base, now, &answer).map_err(cannot_print)?;
+            // if so, it is the idle moment for which they were held back
+            if self.due.is_some() || !self.holds() {
+                return Ok(());
+            }
+        }
+    }
+
+    /// Whether it is to be called: it is due, or a release came that is not held back.
+    fn is_called(&self, now: u64) -> bool {
+        let is_over = self.due.is_some() && now - self.base > LAST_TICK;
+        self.due == Some(now) || self.has_release && !is_over
+    }
+}
+
+fn cannot_print(_: io::Error) -> Stop {
+    rubbish("what occurs cannot be printed")
+}
+
+// ---- What it reads
+
+struct Event {
+    core: u8,
+    time: u64,
+    task: u8,
+    mark: Option<bool>,
+}
+
+/// None where a word is no number; one that is too large is the largest that there is.
+fn number(word: &str) -> Option<u64> {
+    word.bytes().all(|byte| byte.is_ascii_digit()).then(|| word.parse().unwrap_or(u64::MAX))
+}
+
+fn numbers(words: &[&str]) -> Option<Vec<u64>> {
+    words.iter().map(|word| number(word)).collect()
+}
+
+fn event(line: &str) -> Result<Option<Event>, &'static str> {
+    let words: Vec<&str> = line.split([' ', '\t', '\r']).filter(|word| !word.is_empty()).collect();
+    let read = match words[..] {
+        [] => return Ok(None),
+        [core, time, "mark", task, value] => numbers(&[core, time, task, value]),
+        [_, _, _] => numbers(&words),
+        _ => None,
+    };
+    let Some(&[core, time, task, ref mark @ ..]) = read.as_deref() else {
+        return Err("neither CORE TIME TASK nor CORE TIME mark TASK VALUE");
+    };
+    match mark.first() {
+        _ if core >= CORES => Err("there are cores 0 to 63"),
+        _ if time > MOST_TIME => Err("a time over 9223372036854775807"),
+        _ if task >= TASKS as u64 => Err("there are tasks 0 to 31"),
+        Some(2..) => Err("a mark is 0 or 1"),
+        mark => Ok(Some(Event { core: core as u8, time, task: task as u8, mark: mark.map(|&value| value == 1) })),
+    }
+}
+
+/// The lines of standard input, with their numbers.
+struct Lines<R> {
+    input: R,
+    number: u64,
+}
+
+impl<R: BufRead> Lines<R> {
+    fn stop(&self, what: &str) -> Stop {
+        rubbish(format!("line {}: {what}", self.number))
+    }
+
+    fn next_event(&mut self) -> Result<Option<Event>, Stop> {
+        loop {
+            let mut line = Vec::new();
+            let most = LINE as u64 + 1;
+            let read = io::Read::take(&mut self.input, most).read_until(b'\n', &mut line);
+            if read.map_err(|_| rubbish("the releases cannot be read"))? == 0 {
+                return Ok(None);
+            }
+            self.number += 1;
+            if line.pop_if(|&mut byte| byte == b'\n').is_none() && line.len() > LINE {
+                return Err(self.stop("it is too long"));
+            }
+            if let Some(event) = event(&String::from_utf8_lossy(&line)).map_err(|what| self.stop(what))? {
+                return Ok(Some(event));
+            }
+        }
+    }
+}
+
 struct Driver {
-    entries: Vec<u8>,
-    cores: BTreeMap<u32, Core>,
+    /// A core begins with a copy of it.
+    opened: Dispatcher,
+    cores: BTreeMap<u8, Core>,
 }
 
 impl Driver {
-    fn core(&mut self, number: u32) -> Result<&mut Core, Box<dyn Error>> {
-        if !self.cores.contains_key(&number) {
-            let dispatcher = Dispatcher::open(&self.entries)?;
-            self.cores.insert(number, Core { dispatcher, base: 0, due: None, released: 0 });
+    fn take(&mut self, event: Event) {
+        let fresh = || Core { dispatcher: self.opened.clone(), base: 0, due: None, held: [0; TASKS], has_release: false };
+        let core = self.cores.entry(event.core).or_insert_with(fresh);
+        let held = &mut core.held[usize::from(event.task)];
+        let Some(value) = event.mark else {
+            *held += 1;
+            core.has_release = true;
+            return;
+        };
+        let busy = (*held > 0).then_some(Refusal { number: Refusal::TASK_BUSY, place: None });
+        if let Err(refusal) = busy.map_or_else(|| core.dispatcher.mark(event.task, value), Err) {
+            eprintln!("driver: core {}, tick {}: the mark of task {}: {refusal}", event.core, event.time, event.task);
         }
-        Ok(self.cores.get_mut(&number).expect("it was put there"))
-    }
-
-    fn take(&mut self, event: Event) -> Result<(), Box<dyn Error>> {
-        match event {
-            Event::Release { core, task, .. } => self.core(core)?.released |= 1 << task,
-            Event::Mark { core, time, task, value } => {
-                if let Err(refusal) = self.core(core)?.dispatcher.mark(task, value) {
-                    eprintln!("driver: core {core}, tick {time}: the mark of task {task}: {refusal}");
-                }
-            }
-        }
-        Ok(())
     }
 
     /// The next tick on which a core is due.
@@ -107,57 +235,47 @@ impl Driver {
         self.cores.values().filter_map(|core| core.due).min()
     }
 
-    /// Calls each core that is due or has a release.
-    fn call(&mut self, now: u64, out: &mut impl Write) -> Result<(), Box<dyn Error>> {
+    fn call(&mut self, now: u64, out: &mut impl Write) -> Result<(), Stop> {
         for (&number, core) in &mut self.cores {
-            if core.released == 0 && core.due != Some(now) {
-                continue;
+            if core.is_called(now) {
+                core.call(number, &self.opened, now, out)?;
             }
-            // with no due time nothing is pending and nothing waits, and a new dispatcher can take over, which is told the marks
-            if core.due.is_none() && now - core.base > ENOUGH {
-                let mut fresh = Dispatcher::open(&self.entries)?;
-                let changed = core.dispatcher.marked() ^ fresh.marked();
-                for task in (0..32).filter(|task| changed >> task & 1 == 1) {
-                    fresh.mark(task, core.dispatcher.marked() >> task & 1 == 1)?;
-                }
-                (core.dispatcher, core.base) = (fresh, now);
-            }
-            let answer = core.dispatcher.instant(now - core.base, std::mem::take(&mut core.released))?;
-            print_answer(out, number, core.base, now, &answer)?;
-            core.due = answer.due.map(|due| core.base + due);
+            core.has_release = false;
         }
         Ok(())
     }
 }
 
-fn next_event(lines: &mut impl Iterator<Item = io::Result<String>>) -> Result<Option<Event>, Box<dyn Error>> {
-    for line in lines {
-        let line = line?;
-        if !line.trim().is_empty() {
-            return Ok(Some(Event::parse(&line).ok_or("a line is neither a release nor a mark call")?));
-        }
-    }
-    Ok(None)
-}
-
-fn main() -> Result<(), Box<dyn Error>> {
-    let path = std::env::args().nth(1).ok_or("usage: driver TASKS < RELEASES")?;
-    let mut driver = Driver { entries: std::fs::read(path)?, cores: BTreeMap::new() };
+fn drive() -> Result<(), Stop> {
+    let words: Vec<String> = std::env::args().collect();
+    let [_, path] = &words[..] else {
+        return Err(rubbish("usage: driver TASKS < RELEASES"));
+    };
+    let entries = std::fs::read(path).map_err(|why| rubbish(format!("{path}: {why}")))?;
+    let opened = Dispatcher::open(&entries).map_err(|refusal| Stop(1, format!("the tasks: {refusal}")))?;
+    let mut driver = Driver { opened, cores: BTreeMap::new() };
     let mut out = BufWriter::new(io::stdout().lock());
-    let mut lines = io::stdin().lock().lines();
-    let mut next = next_event(&mut lines)?;
+    let mut lines = Lines { input: io::stdin().lock(), number: 0 };
+    let mut next = lines.next_event()?;
     let mut last = 0;
-    while let Some(now) = [driver.due(), next.as_ref().map(Event::time)].into_iter().flatten().min() {
+    while let Some(now) = driver.due().into_iter().chain(next.as_ref().map(|event| event.time)).min() {
         if now < last {
-            return Err("the times fall".into());
+            return Err(lines.stop("the times fall"));
         }
         last = now;
-        while let Some(event) = next.take_if(|event| event.time() == now) {
-            driver.take(event)?;
-            next = next_event(&mut lines)?;
+        while let Some(event) = next.take_if(|event| event.time == now) {
+            driver.take(event);
+            next = lines.next_event()?;
         }
         driver.call(now, &mut out)?;
     }
-    out.flush()?;
-    Ok(())
+    out.flush().map_err(cannot_print)
+}
+
+fn main() -> ExitCode {
+    let Err(Stop(status, what)) = drive() else {
+        return ExitCode::SUCCESS;
+    };
+    eprintln!("driver: {what}");
+    ExitCode::from(status)
 }

@@ -1,13 +1,17 @@
 //! The gateway's dispatcher, safe for Rust: the record of a whole file, the reading of a stored record, and a dispatcher by instants. Link with
-//! libgateway.a.
+//! libgateway.a. docs/DRIVER.md of the repository is the page for those who write a driver.
+#![warn(missing_docs)]
 
 #[path = "dispatcher.rs"]
 mod dispatcher;
 #[path = "refusal.rs"]
 mod refusal;
 
-pub use dispatcher::{Answer, Dispatcher, Fate, Interval, Job, Set, Told, Work};
+pub use dispatcher::{Answer, Dispatcher, Fate, Interval, Job, Phase, Set, Shown, Told, View, Work};
 pub use refusal::Refusal;
+
+/// The last tick at which a release is taken: behind it, it is refused by [`Refusal::PAST_LAST_TICK`].
+pub const LAST_TICK: u64 = 1_000_000_000;
 
 mod raw {
     #[link(name = "gateway", kind = "static")]
@@ -48,7 +52,7 @@ impl Outcome {
     fn of(number: u8, told: usize) -> Outcome {
         match number {
             0 => Outcome::Written(told),
-            13 => Outcome::TooShort(told),
+            Refusal::TOO_SHORT => Outcome::TooShort(told),
             number => Outcome::Refused(Refusal::at(number, told)),
         }
     }

@@ -1,6 +1,6 @@
 //! The wrapper as its users see it: `cargo test` in link/rust.
 
-use gateway::{Dispatcher, Fate, Interval, Job, Outcome, Refusal, Work};
+use gateway::{Dispatcher, Fate, Interval, Job, Outcome, Phase, Refusal, View, Work};
 
 fn tasks(entries: &[[u32; 6]]) -> Vec<u8> {
     let mut bytes = Vec::new();
@@ -151,4 +151,43 @@ fn marks() {
     d.mark(2, true).unwrap();
     d.mark(1, false).unwrap();
     assert_eq!(d.marked(), 1 << 2);
+}
+
+/// What goes on in plan A, tick by tick: at 3 the copy-in of 2 is broken off, at 7 the processor copies in 1 itself.
+#[test]
+fn what_goes_on() {
+    let mut d = Dispatcher::open(&plan()).unwrap();
+    let phase = |task, until| Some(Phase { task, until });
+    let idle = d.now();
+    let nothing = View {
+        begin: None,
+        work: Work::Idle,
+        processor: None,
+        copy_in: None,
+        copy_out: None,
+        half: 0,
+        pending: 0,
+        waiting: 0,
+        marked: 1 << 1,
+    };
+    assert_eq!(idle, nothing);
+    d.instant(0, 1 << 3).unwrap();
+    let first = d.now();
+    assert_eq!(first, View { begin: Some(0), copy_in: phase(3, 2), pending: 1 << 3, ..nothing });
+    assert!(first.begins_after(&idle) && first.copy_in_begun(&idle) == phase(3, 2));
+    d.instant(2, 1 << 2).unwrap();
+    let second = d.now();
+    let (processor, copy_in) = (phase(3, 7), phase(2, 4));
+    assert_eq!(second, View { begin: Some(2), work: Work::Execute, processor, copy_in, half: 1, pending: 0b1100, ..nothing });
+    assert_eq!((second.begins_after(&first), second.broken_off(&first, 2), second.copy_in_begun(&first)), (true, None, copy_in));
+    d.instant(3, 1 << 1).unwrap();
+    let third = d.now();
+    assert_eq!(third, View { copy_in: None, pending: 0b1110, ..second });
+    assert_eq!((third.begins_after(&second), third.broken_off(&second, 3), third.copy_in_begun(&second)), (false, Some(2), None));
+    d.instant(7, 1 << 1).unwrap();
+    let fourth = d.now();
+    assert_eq!((fourth.work, fourth.processor, fourth.copy_out, fourth.half), (Work::CopyInAndExecute, phase(1, 9), phase(3, 9), 0));
+    assert_eq!((fourth.waiting, fourth.broken_off(&third, 7)), (1 << 1, None));
+    d.instant(9, 0).unwrap();
+    assert_eq!((d.now().processor, d.now().copy_in, d.now().copy_out), (phase(1, 12), phase(2, 11), None));
 }

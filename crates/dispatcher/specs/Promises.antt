@@ -1,5 +1,5 @@
--- What the parts of a call promise, over the arrays that a dispatcher is kept as: the rules' outcome of the state that was read before, whatever
--- stands in the arrays that they are not lent.
+-- What the parts of a call promise, over the arrays that a dispatcher is kept as: the rules' outcome of the state that was read before,
+-- whatever stands in the arrays that they are not lent.
 use Rattle.dispatcher.specs.Types.{List, ℕ, _≡_, State, Stage, MaybeTask, JobEntry, IntervalEntry, Done, NoJob, Job, Closed, NoInterval, Span, Closing, Occurred}
 use Prim.Native.Nat.{_+_, _*_, _^_, _/_, _%_, _<_}
 use mathlib.Core.Bool.{Bool, false, cond}
@@ -75,7 +75,8 @@ pub record ToldInterval (e : IntervalEntry) (told told' : List ℕ) : Type 0 whe
 
 abbrev pub TellsInterval : ℕ → ℕ → List ℕ → List ℕ → List ℕ → List ℕ → Type 0
 TellsInterval t p times codes told told' =
-    (sets : List ℕ) → ToldInterval (entry-with (getD codes 0 0) t (interval-in (registers-in (kept times sets codes))) (as-task p)) told told'
+    (sets : List ℕ)
+    → ToldInterval (entry-with (getD codes 0 0) t (interval-in (registers-in (kept times sets codes))) (as-task p)) told told'
 
 -- ---- Telling the next due time
 

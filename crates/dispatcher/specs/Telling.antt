@@ -1,6 +1,6 @@
--- What an instant tells, in nine words: the next due time; the skipped releases, and above them what there is; of the job that is done its release,
--- start and completion, then its task and count; of the interval that closed its begin and end, then its seven bytes. What does not occur leaves
--- its words as they were. Read back, the words give what occurred.
+-- What an instant tells, in nine words: the next due time; the skipped releases, and above them what there is; of the job that is done
+-- its release, start and completion, then its task and count; of the interval that closed its begin and end, then its seven bytes. What
+-- does not occur leaves its words as they were. Read back, the words give what occurred.
 use Rattle.dispatcher.specs.Types.{List, ℕ, cond, JobEntry, IntervalEntry, MaybeTask, NoTask, Task, Done, NoJob, Job, Closed, NoInterval, Span, Closing, Unclosed, BeforeReleases, AfterReleases, Due, Never, Tick, Occurred}
 use mathlib.Core.List.{[], _∷_, _++_}
 use Prim.Native.Nat.{_+_, _*_, _^_, _/_, _%_}

@@ -1,5 +1,6 @@
-// Steps a to g over the arrays that keep a dispatcher, each changed where it is. What occurs is told as it occurs: an answer that is made first
-// and told afterwards costs as much again. The test of an interval's end stands twice: as one function with two callers it is not inlined.
+// Steps a to g over the arrays that keep a dispatcher, each changed where it is. What occurs is told as it occurs: an answer that is made
+// first and told afterwards costs as much again. The test of an interval's end stands twice: as one function with two callers it is not
+// inlined.
 use crate::telling::nine;
 use crate::telling::summed;
 use crate::telling::tell_due;

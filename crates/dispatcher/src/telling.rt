@@ -114,8 +114,8 @@ fn named(codes: &[u8; 9]) -> u64
     some(codes[at::PROCESSOR], codes::IDLE) + 2 * engine
 }
 
-// The same where a unit's task has the number that stands for none, so that the two can be told apart, else 0. No dispatcher that calls made
-// has such a task, so that three tests are all.
+// The same where a unit's task has the number that stands for none, so that the two can be told apart, else 0. No dispatcher that calls
+// made has such a task, so that three tests are all.
 fn told_apart(codes: &[u8; 9]) -> u64
     ensures { λ x. ⌜ TellsApart (now (codes .entry)) x ⌝ }
     ensures { λ x. ⌜ x < 256 ⌝ }

@@ -1,5 +1,5 @@
--- What the calls on a dispatcher that C or Rust keeps promise: the rules' outcome, of the states that are read before and after; a refused call
--- leaves what is kept, and what was told before, as it was.
+-- What the calls on a dispatcher that C or Rust keeps promise: the rules' outcome, of the states that are read before and after; a
+-- refused call leaves what is kept, and what was told before, as it was.
 use Rattle.guarantees.specs.Types.{List, ℕ, _≡_, Call, Occurred, Answer, Refused, Served, NoRefusal}
 use mathlib.Core.List.{[], _∷_}
 use Rattle.rules.specs.declared.View.{View}
@@ -22,7 +22,8 @@ abbrev pub ToldAs : Answer → List ℕ → List ℕ → Type 0
 ToldAs (Refused n) told told' = told' ≡ told
 ToldAs (Served o) told told' = Tells o told told'
 
-pub record Answered (k : Kept) (b : Beside) (t set : ℕ) (told : List ℕ) (number : ℕ) (k' : Kept) (b' : Beside) (told' : List ℕ) : Type 0 where
+pub record Answered (k : Kept) (b : Beside) (t set : ℕ) (told : List ℕ) (number : ℕ) (k' : Kept) (b' : Beside) (told' : List ℕ)
+    : Type 0 where
   pub number-is : number ≡ refusal (read k b) t set
   pub state-is : read k' b' ≡ instant (read k b) t set .state
   pub told-is : ToldAs (instant (read k b) t set .answer) told told'

@@ -1,6 +1,8 @@
-// The dispatcher by instants for programs in C and Rust. What they keep is the arrays of `dispatcher::Dispatcher` (link/gateway.h); a call lends
-// them one by one and changes them where they are, so that nothing is copied. Whatever the numbers are, they are read as some state, and the
-// promises are said of the states read before and after. It is a library of its own for the reason that exports_reading is one.
+// The dispatcher by instants for programs in C and Rust. What they keep is the arrays of `dispatcher::Dispatcher` (link/gateway.h); a
+// call lends them one by one and changes them where they are, so that nothing is copied. Whatever the numbers are, they are read as some
+// state, and the promises are said of the states read before and after. It is a library of its own for the reason that exports_reading is
+// one. The names carry the version of the layout, of what a dispatcher keeps and what an answer tells: where it changes they do, so that
+// a program with the header of another layout is not linked.
 use dispatcher::Dispatcher;
 use table::Refusal;
 ghost use mathlib.Core.Path.{_≡_};
@@ -10,7 +12,7 @@ ghost use Rattle.exports_instants.specs.Promises.{Answered, Shows, Marke
 
 // An instant of the dispatcher that the first eight arrays keep: 0 and what occurred in `told`, or the number of the refusal.
 #[no_mangle]
-pub extern "C" fn gateway_instant_parts<'a>(
+pub extern "C" fn gateway_instant_v2<'a>(
     times: &mut [u64; 7],
     sets: &mut [u32; 6],
     codes: &mut [u8; 9],
@@ -51,10 +53,11 @@ pub extern "C" fn gateway_instant_parts<'a>(
     0
 }
 
-// What goes on now in the dispatcher that the first three arrays keep: begin and ends; pending, waiting and marked; whether an interval is open,
-// its work, and the four values.
+// What goes on now in the dispatcher that the first three arrays keep: begin and ends; pending, waiting and marked; whether an interval
+// is open, its work, and the four values. It is looked at once for each array: so few numbers are wanted at a time that all of them stay
+// in registers.
 #[no_mangle]
-pub extern "C" fn gateway_now_parts<'a>(
+pub extern "C" fn gateway_now_v2<'a>(
     times: &'a [u64; 7],
     sets: &'a [u32; 6],
     codes: &'a [u8; 9],
@@ -65,15 +68,24 @@ pub extern "C" fn gateway_now_parts<'a>(
     ensures { λ _. ⌜ Shows (now (times .entry)) (now (sets .entry)) (now (codes .entry))
         (now (ticks .exit)) (now (tasks .exit)) (now (units .exit)) ⌝ }
 {
-    let v = rules::viewed(times, sets, codes);
-    *ticks = [v.begin, v.until, v.inuntil, v.outuntil];
-    *tasks = [v.pending, v.waiting, v.marked];
-    *units = [v.opened, v.work, v.processor, v.copyin, v.copyout, v.half];
+    let sets_of = rules::viewed(times, sets, codes);
+    *tasks = [sets_of.pending, sets_of.waiting, sets_of.marked];
+    let doing = rules::viewed(times, sets, codes);
+    *units = [
+        doing.opened,
+        doing.work,
+        doing.processor,
+        doing.copyin,
+        doing.copyout,
+        doing.half,
+    ];
+    let ends = rules::viewed(times, sets, codes);
+    *ticks = [ends.begin, ends.until, ends.inuntil, ends.outuntil];
 }
 
 // A mark call on the dispatcher whose sets are lent: 0, or the number of the refusal.
 #[no_mangle]
-pub extern "C" fn gateway_mark_parts(sets: &mut [u32; 6], task: u8, mark: u8) -> u8
+pub extern "C" fn gateway_mark_v2(sets: &mut [u32; 6], task: u8, mark: u8) -> u8
     ensures { λ r. ⌜ Marked (now (sets .entry)) task mark r (now (sets .exit)) ⌝ }
 {
     let number = dispatcher::mark_refusal(task, mark, sets);
@@ -120,7 +132,7 @@ fn put_state(
 
 // Opens a dispatcher from task entries into the arrays that keep it: 0, or the number of the refusal, whose place `place` then has.
 #[no_mangle]
-pub extern "C" fn gateway_open_parts(
+pub extern "C" fn gateway_open_v2(
     entries: &[u8],
     times: &mut [u64; 7],
     sets: &mut [u32; 6],

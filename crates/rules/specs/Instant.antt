@@ -211,8 +211,8 @@ step-b s t (Within i) = close-stage s t i (over i)
 -- ---- c. The releases of this instant are taken, wait or are skipped. Those that are taken belong to the open interval, else to the one that
 -- step g begins.
 
--- By the tasks with a pending job and those with a waiting release. "At the instant its job completes, step c takes the waiting one before that
--- instant's own releases": a waiting release of a task with no pending job any more
+-- By the tasks with a pending job and those with a waiting release. "At the instant its job completes, step c takes the waiting one
+-- before that instant's own releases": a waiting release of a task with no pending job any more
 abbrev pub resumed : ℕ → ℕ → ℕ
 resumed pending waiting = difference waiting pending
 
@@ -223,8 +223,8 @@ found-pending pending waiting = union pending (resumed pending waiting)
 abbrev pub found-waiting : ℕ → ℕ → ℕ
 found-waiting pending waiting = difference waiting (resumed pending waiting)
 
--- one of a task with no pending job is taken; one of a task with a pending job waits if none waits; and "only a release that finds one waiting
--- is skipped, so a release at the instant of taking waits in its turn"
+-- one of a task with no pending job is taken; one of a task with a pending job waits if none waits; and "only a release that finds one
+-- waiting is skipped, so a release at the instant of taking waits in its turn"
 unfoldable pub released : ℕ → ℕ → ℕ → ReleaseFates
 released pending waiting set = record {
   taken = union (resumed pending waiting) (difference set (found-pending pending waiting));

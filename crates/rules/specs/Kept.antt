@@ -1,5 +1,5 @@
--- The dispatcher where it is kept: arrays that are lent and changed where they are. Read back they are the state that the rules speak of. Any
--- numbers whatever are read as some state, so that memory that no call made gets an answer too.
+-- The dispatcher where it is kept: arrays that are lent and changed where they are. Read back they are the state that the rules speak of.
+-- Any numbers whatever are read as some state, so that memory that no call made gets an answer too.
 use Rattle.rules.specs.Types.{Bool, false, List, ℕ, cond, _≡_, Clock, Unset, At, State, Registers}
 use lib.Dec.{eqb}
 use lib.ListN.{length, getD}

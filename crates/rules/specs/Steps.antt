@@ -1,4 +1,5 @@
--- What each step over lent arrays promises: the rules' step of the state that was read before, whatever stands in the arrays that it is not lent.
+-- What each step over lent arrays promises: the rules' step of the state that was read before, whatever stands in the arrays that it is
+-- not lent.
 use Rattle.rules.specs.Types.{Bool, true, false, cond, List, ℕ, _-_, _^_, _<_, _≤_, _≡_, _⊎_, MaybeTask, Table, Cancelled, Interval, Within, Next, Outgoing, State, Stage, Closed, Job, Due, Never, Tick, JobEntry, IntervalEntry, View}
 use mathlib.Core.Logic.{_↔_}
 use lib.Dec.{eqb}
@@ -30,7 +31,8 @@ TimedAt t sets times codes times' codes' =
 abbrev pub CompletedJob : ℕ → List ℕ → List ℕ → List ℕ → List ℕ → JobEntry → Type 0
 CompletedJob t times codes release blocked x =
     (sets priority columns waits : List ℕ) → copyout-ends t times codes ≡ true
-    → let d : State = read (kept times sets codes) (beside priority columns (by-task release blocked waits)) in Job x ≡ step-a d t (d .phase) .done
+    → let d : State = read (kept times sets codes) (beside priority columns (by-task release blocked waits)) in
+    Job x ≡ step-a d t (d .phase) .done
 
 -- step a of what is left once its job is no longer pending is that of what was there
 pub record CopiesOut (t : ℕ) (k k' : Kept) (b : Beside) : Type 0 where
@@ -277,7 +279,8 @@ SomeDue codes x = (times sets : List ℕ) → IsDue x (due (phase-in (registers-
 abbrev pub OnProcessor : ℕ → Bool → Type 0
 OnProcessor kind x =
     (n start until : ℕ)
-    → (task-byte (on-processor (as-processor kind n start until)) ≡ cond x n 255) × (processor-until (as-processor kind n start until) ≡ cond x until 0)
+    → (task-byte (on-processor (as-processor kind n start until)) ≡ cond x n 255)
+    × (processor-until (as-processor kind n start until) ≡ cond x until 0)
 
 abbrev pub ViewedAt : List ℕ → List ℕ → List ℕ → View → Type 0
 ViewedAt times sets codes x = (b : Beside) → x ≡ viewed (read (kept times sets codes) b)

@@ -1,12 +1,13 @@
--- What goes on now, read off the state: what the processor and the engine do, with whom and until when. The waveform shows the first four, and a
--- driver commands its hardware by all of it.
+-- What goes on now, read off the state: what the processor and the engine do, with whom and until when. The waveform shows the first
+-- four, and a driver commands its hardware by all of it.
 use Rattle.rules.specs.Types.{cond, ℕ, MaybeTask, NoTask, Task, Processor, Idle, CopyingIn, Executing, Finished, CopyOut, NoCopyOut, CopyingOut, CopiedOut, CopyIn, Unchosen, NoneChosen, Copying, Loaded, Cancelled, Interval, Phase, Between, Within, State, View}
 use lib.Dec.{eqb}
 use Rattle.entries.specs.Entries.{task-byte}
 
 -- ---- The four values of 5/13
 
--- "the task on the processor (nobody once its work has ended)": from its interval's begin, its own copy-in included, until its execution's end
+-- "the task on the processor (nobody once its work has ended)": from its interval's begin, its own copy-in included, until its
+-- execution's end
 abbrev pub on-processor : Processor → MaybeTask
 on-processor Idle = NoTask
 on-processor (CopyingIn n until) = Task n

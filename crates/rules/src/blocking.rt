@@ -16,8 +16,8 @@ fn awaiting_execution(sets: &[u32; 6], codes: &[u8; 9]) -> u32
     ready
 }
 
-// The tasks that the interval can block, by what the processor did and its task: those of the table with a higher priority than the one that
-// it executed, and none if it idled.
+// The tasks that the interval can block, by what the processor did and its task: those of the table with a higher priority than the one
+// that it executed, and none if it idled.
 pub fn blockable(kind: u8, n: u8, present: u32, priority: &[u8; 32]) -> u32
     ensures { λ x. ⌜ Blockable kind n present (now (priority .entry)) x ⌝ }
 {
@@ -27,8 +27,8 @@ pub fn blockable(kind: u8, n: u8, present: u32, priority: &[u8; 32]) -> u32
     0
 }
 
-// The jobs that the interval blocks: those that await execution and whose task is in the set, which is gathered once, before they are walked. A
-// job of a task that is not in the table, which no state that calls made has, is compared for itself.
+// The jobs that the interval blocks: those that await execution and whose task is in the set, which is gathered once, before they are
+// walked. A job of a task that is not in the table, which no state that calls made has, is compared for itself.
 fn blocked_jobs(sets: &[u32; 6], codes: &[u8; 9], priority: &[u8; 32]) -> u32
     ensures { λ x. ⌜ BlockedAt (now (priority .entry)) (now (sets .entry)) (now (codes .entry)) x ⌝ }
 {
