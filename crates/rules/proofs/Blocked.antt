@@ -5,7 +5,7 @@ use mathlib.Core.Logic.{_↔_}
 use borrow.Author.Tests.{ltb-true, lt-ltb}
 use lib.Dec.{eqb, ltb}
 use lib.ListN.{getD}
-use Rattle.sets.specs.Sets.{member, union, intersection, difference}
+use Rattle.sets.specs.Sets.{member, union, intersection}
 use Rattle.sets.proofs.Laws.{by-test, both, left, right, clash, none, ext, collected, collect-small, collect-in, collect-out, member-task, empty}
 use Rattle.rules.specs.Order.{priority, higher-than, higher}
 use Rattle.rules.specs.Instant.{over, is-over, processor-task, awaiting-execution, blocks}
@@ -129,9 +129,18 @@ module _ (m : Memory) (r : Registers) where
   unfolding blockable state-in
   set-is h f = ap (λ (q : MaybeTask). higher (state-in m r) q (m .table .present)) (executed-is r h ∙ executed-task m r f)
 
--- ---- jobs of tasks in the table, and others
+-- ---- the jobs that wait, of the tasks that are compared
 
-module _ (ranks : List ℕ) (n waiting present : ℕ) where
+-- what is kept, with other tasks in its table
+abbrev pub with-tasks : Memory → ℕ → Memory
+with-tasks m tasks = record {
+  table = record { present = tasks; priority = m .table .priority; columns = m .table .columns };
+  clock = m .clock;
+  arrays = m .arrays;
+  waiting = m .waiting;
+}
+
+module _ (ranks : List ℕ) (n present waiting : ℕ) where
   is-in : (s k : ℕ) → k < 32 → member k (higher-than ranks n s) ≡ (member k s && ltb (getD ranks k 0) (getD ranks n 0))
   unfolding higher-than
   is-in s k l = collected (λ j. member j s && ltb (getD ranks j 0) (getD ranks n 0)) k l
@@ -140,47 +149,19 @@ module _ (ranks : List ℕ) (n waiting present : ℕ) where
   unfolding higher-than
   few s = collect-small (λ j. member j s && ltb (getD ranks j 0) (getD ranks n 0))
 
-  in-table : (w p l : Bool) → (w && not p) ≡ false → (w && (p && l)) ≡ (w && l)
-  in-table true true l h = refl
-  in-table true false l h = absurd (true≢false h)
-  in-table false p l h = refl
+  compared : (w p l : Bool) → (w && ((p || w) && l)) ≡ (w && l)
+  compared true true l = refl
+  compared true false l = refl
+  compared false p l = refl
 
-  in-either : (w p l : Bool) → ((w && (p && l)) || ((w && not p) && l)) ≡ (w && l)
-  in-either true true true = refl
-  in-either true true false = refl
-  in-either true false true = refl
-  in-either true false false = refl
-  in-either false p l = refl
-
-  pub of-the-table : {set : ℕ} → set ≡ higher-than ranks n present → difference waiting present ≡ 0 → intersection waiting set ≡ higher-than ranks n waiting
-  unfolding intersection difference
-  of-the-table {set} e f =
+  pub of-those : {set : ℕ} → set ≡ higher-than ranks n (union present waiting) → intersection waiting set ≡ higher-than ranks n waiting
+  unfolding intersection union
+  of-those {set} e =
       ext 32 (intersection waiting set) (higher-than ranks n waiting) (collect-small (λ k. member k waiting && member k set)) (few waiting)
       (λ k l.
       collected (λ k. member k waiting && member k set) k l
-      ∙ ap (λ (b : Bool). member k waiting && b) (ap (member k) e ∙ is-in present k l)
-      ∙ in-table (member k waiting) (member k present) (ltb (getD ranks k 0) (getD ranks n 0))
-      (sym (collected (λ k. member k waiting && not (member k present)) k l) ∙ ap (member k) f ∙ none k)
+      ∙ ap (λ (b : Bool). member k waiting && b)
+      (ap (member k) e ∙ is-in (union present waiting) k l
+      ∙ ap (λ (b : Bool). b && ltb (getD ranks k 0) (getD ranks n 0)) (collected (λ k. member k present || member k waiting) k l))
+      ∙ compared (member k waiting) (member k present) (ltb (getD ranks k 0) (getD ranks n 0))
       ∙ sym (is-in waiting k l))
-
-  pub with-others : {set blocks strays others : ℕ} → set ≡ higher-than ranks n present → blocks ≡ intersection waiting set → strays ≡ difference waiting present
-      → others ≡ higher-than ranks n strays → union blocks others ≡ higher-than ranks n waiting
-  unfolding union intersection difference
-  with-others {set} {blocks} {strays} {others} e b s o =
-      ext 32 (union blocks others) (higher-than ranks n waiting) (collect-small (λ k. member k blocks || member k others)) (few waiting)
-      (λ k l.
-      collected (λ k. member k blocks || member k others) k l
-      ∙ ap (λ (x : Bool). x || member k others) (blocks-so k l)
-      ∙ ap (λ (x : Bool). (member k waiting && (member k present && ltb (getD ranks k 0) (getD ranks n 0))) || x) (others-so k l)
-      ∙ in-either (member k waiting) (member k present) (ltb (getD ranks k 0) (getD ranks n 0))
-      ∙ sym (is-in waiting k l))
-    where
-      blocks-so : (k : ℕ) → k < 32 → member k blocks ≡ (member k waiting && (member k present && ltb (getD ranks k 0) (getD ranks n 0)))
-      blocks-so k l =
-          ap (member k) b ∙ (unfold intersection in collected (λ k. member k waiting && member k set) k l)
-          ∙ ap (λ (x : Bool). member k waiting && x) (ap (member k) e ∙ is-in present k l)
-
-      others-so : (k : ℕ) → k < 32 → member k others ≡ ((member k waiting && not (member k present)) && ltb (getD ranks k 0) (getD ranks n 0))
-      others-so k l =
-          ap (member k) o ∙ is-in strays k l
-          ∙ ap (λ (x : Bool). x && ltb (getD ranks k 0) (getD ranks n 0)) (ap (member k) s ∙ (unfold difference in collected (λ k. member k waiting && not (member k present)) k l))

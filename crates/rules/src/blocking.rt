@@ -28,7 +28,7 @@ pub fn blockable(kind: u8, n: u8, present: u32, priority: &[u8; 32]) -> u32
 }
 
 // The jobs that the interval blocks: those that await execution and whose task is in the set, which is gathered once, before they are
-// walked. A job of a task that is not in the table, which no state that calls made has, is compared for itself.
+// walked. A job of a task that is not in the table, which no state that calls made has, is compared with the others.
 fn blocked_jobs(sets: &[u32; 6], codes: &[u8; 9], priority: &[u8; 32]) -> u32
     ensures { λ x. ⌜ BlockedAt (now (priority .entry)) (now (sets .entry)) (now (codes .entry)) x ⌝ }
 {
@@ -41,13 +41,8 @@ fn blocked_jobs(sets: &[u32; 6], codes: &[u8; 9], priority: &[u8; 32]) -> u32
         return 0;
     }
     let n = codes[at::TASK];
-    let present = sets[at::PRESENT];
-    let blocks = sets::intersection(waiting, blockable(kind, n, present, priority));
-    let strays = sets::difference(waiting, present);
-    if strays == 0 {
-        return blocks;
-    }
-    sets::union(blocks, higher(priority, n, strays))
+    let tasks = sets::union(sets[at::PRESENT], waiting);
+    sets::intersection(waiting, blockable(kind, n, tasks, priority))
 }
 
 // One more blocked interval for each job that the interval blocks.

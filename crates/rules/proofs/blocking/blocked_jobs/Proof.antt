@@ -1,10 +1,11 @@
--- `rules::blocking::blocked_jobs` meets its contract: of the jobs that wait, those of tasks in the set, and those of no task of the table that are higher. Assumes nothing.
-use Rattle.rules.specs.Types.{sym, refl, _∙_}
+-- `rules::blocking::blocked_jobs` meets its contract: of the jobs that wait, those of tasks in the set. Assumes nothing.
+use Rattle.rules.specs.Types.{refl, ap, _∙_}
+use Rattle.rules.specs.Order.{higher-than}
 use borrow.Author.Tests.{eq-eqb, ne-eqb}
 use Rattle.rules.specs.Registers.{interval-in, state-in}
 use Rattle.rules.specs.Kept.{kept, beside, registers-in, memory-in}
 use Rattle.rules.proofs.ClosingTest.{open-in, over-in}
-use Rattle.rules.proofs.Blocked.{none-idle, none-wait, some-blocks, set-is, of-the-table, with-others}
+use Rattle.rules.proofs.Blocked.{none-idle, none-wait, some-blocks, set-is, with-tasks, of-those}
 use lib.ListN.{getD}
 use borrow.Author.Needs.{needs}
 use Rattle.rules.proofs.blocking.blocked_jobs.Statement.{statement}
@@ -20,34 +21,24 @@ returns-2 c times columns o h =
     let a = c .before .before .before .before .args in
     none-wait (memory-in (kept times (a .sets .now) (a .codes .now)) (beside (a .priority .now) columns o)) (registers-in (kept times (a .sets .now) (a .codes .now))) (c .before .awaiting-execution .ensures times) (c .if2 .taken)
 
+-- the set is gathered of the table's tasks and those of the jobs that wait: that of a state with these in its table
 returns-3 : tie.Need-returns-3
 unfolding state-in interval-in
 returns-3 c times columns o h =
-    let a = c .before .before .before .before .before .before .before .before .before .before .args in
+    let a = c .before .before .before .before .before .before .before .before .before .args in
     let k = kept times (a .sets .now) (a .codes .now) in
     let m = memory-in k (beside (a .priority .now) columns o) in
     let r = registers-in k in
-    let f = ne-eqb _ _ (c .before .before .before .before .before .before .before .before .if1 .left) in
-    let set = c .before .before .before .blockable .ensures (state-in m r) _ _ _ (open-in r h) (over-in r h) refl refl refl .is ∙ set-is m r h f in
-    some-blocks m r f (c .before .before .before .before .before .before .before .awaiting-execution .ensures times)
-    (c .before .before .intersection .ensures ∙ of-the-table (a .priority .now) (r .task) (c .before .before .before .before .before .before .before .awaiting-execution .result) (getD (a .sets .now) 4 0) set (sym (c .before .difference .ensures) ∙ c .if3 .taken))
-
-returns-4 : tie.Need-returns-4
-unfolding state-in interval-in
-returns-4 c times columns o h =
-    let a = c .before .before .before .before .before .before .before .before .before .before .before .before .args in
-    let k = kept times (a .sets .now) (a .codes .now) in
-    let m = memory-in k (beside (a .priority .now) columns o) in
-    let r = registers-in k in
-    let f = ne-eqb _ _ (c .before .before .before .before .before .before .before .before .before .before .if1 .left) in
-    let set = c .before .before .before .before .before .blockable .ensures (state-in m r) _ _ _ (open-in r h) (over-in r h) refl refl refl .is ∙ set-is m r h f in
-    some-blocks m r f (c .before .before .before .before .before .before .before .before .before .awaiting-execution .ensures times)
-    (c .union .ensures ∙ with-others (a .priority .now) (r .task) (c .before .before .before .before .before .before .before .before .before .awaiting-execution .result) (getD (a .sets .now) 4 0) set (c .before .before .before .before .intersection .ensures) (c .before .before .before .difference .ensures) (c .before .higher .ensures))
+    let f = ne-eqb _ _ (c .before .before .before .before .before .before .before .if1 .left) in
+    let w = c .before .before .before .before .before .before .awaiting-execution in
+    let n = with-tasks m (c .before .before .union .result) in
+    let set = c .before .blockable .ensures (state-in n r) _ _ _ (open-in r h) (over-in r h) refl refl refl .is ∙ set-is n r h f in
+    some-blocks m r f (w .ensures times)
+    (c .intersection .ensures ∙ of-those (a .priority .now) (r .task) (getD (a .sets .now) 4 0) (w .result) (set ∙ ap (higher-than (a .priority .now) (r .task)) (c .before .before .union .ensures)))
 
 pub blocked-jobs-spec : {M : Type 1} → statement M
 blocked-jobs-spec =
     tie.close
     (tie.spec
     (λ c. search needs) returns (λ c κs. search needs) returns-2 (λ c. search needs)
-    (λ c. search needs) (λ c κs. search needs) (λ c κs. search needs) (λ c κs. search needs) returns-3
-    (λ c κs. search needs) (λ c κs. search needs) returns-4)
+    (λ c. search needs) (λ c κs. search needs) (λ c κs. search needs) (λ c κs. search needs) returns-3)
