@@ -1,5 +1,5 @@
 -- The tasks that an interval can block, and the jobs that it blocks, over the registers.
-use Rattle.rules.specs.Types.{Bool, true, false, cond, not, _&&_, _||_, List, ℕ, _^_, _<_, _≡_, refl, sym, ap, _∙_, subst, MaybeTask, NoTask, Task, Interval, Phase, Between, Within, State, Registers}
+use Rattle.rules.specs.Types.{Bool, true, false, cond, not, _&&_, _||_, List, [], _∷_, ℕ, suc, _^_, _<_, _≡_, refl, sym, ap, _∙_, subst, MaybeTask, NoTask, Task, Interval, Phase, Between, Within, State, Registers}
 use mathlib.Core.Bool.{true≢false, false≢true}
 use mathlib.Core.Logic.{_↔_}
 use borrow.Author.Tests.{ltb-true, lt-ltb}
@@ -8,7 +8,7 @@ use lib.ListN.{getD}
 use Rattle.sets.specs.Sets.{member, union, intersection}
 use Rattle.sets.proofs.Laws.{by-test, both, left, right, clash, none, ext, collected, collect-small, collect-in, collect-out, member-task, empty}
 use Rattle.rules.specs.Order.{priority, higher-than, higher}
-use Rattle.rules.specs.Instant.{over, is-over, processor-task, awaiting-execution, blocks}
+use Rattle.rules.specs.Instant.{over, is-over, processor-task, awaiting-execution, blocks, counted}
 use Rattle.rules.specs.Blocking.{executed-in, blockable, CanBlock}
 use Rattle.rules.specs.Registers.{as-processor, copyin-in, processor-in, interval-in, phase-in, Memory, state-in}
 use Rattle.rules.specs.Steps.{BlockableIn}
@@ -128,6 +128,16 @@ module _ (m : Memory) (r : Registers) where
       → blockable (state-in m r) ≡ higher-than (m .table .priority) (r .task) (m .table .present)
   unfolding blockable state-in
   set-is h f = ap (λ (q : MaybeTask). higher (state-in m r) q (m .table .present)) (executed-is r h ∙ executed-task m r f)
+
+-- ---- counted
+
+pub none-counted : (counts : List ℕ) → counted 0 0 counts ≡ counts
+unfolding counted
+none-counted counts = from 0 counts
+  where
+    from : (k : ℕ) (xs : List ℕ) → counted 0 k xs ≡ xs
+    from k [] = refl
+    from k (x ∷ xs) = rw (none k, from (suc k) xs)
 
 -- ---- the jobs that wait, of the tasks that are compared
 

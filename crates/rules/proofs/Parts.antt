@@ -5,6 +5,7 @@ use borrow.Author.Tests.{eqb-true, eqb-false, eq-eqb, ne-eqb}
 use lib.Dec.{eqb}
 use lib.ListN.{getD}
 use Rattle.table.specs.Table.{copyin-length, execution-length, copyout-length}
+use Rattle.sets.specs.Sets.{insert}
 use Rattle.sets.proofs.Laws.{by-test}
 use Rattle.rules.specs.With.{later}
 use Rattle.rules.specs.Instant.{processor-at, copyout-at, copyin-at, completed, step-a, resting, copying-out, settled, awaiting-execution, processor-task, copyout-task, copyin-task, copyin-fate, awaiting-copyout, next-of, wanted, begin-processor, begin-copyout}
@@ -118,6 +119,9 @@ settles kind n until e =
 
 pub not-copying-out : (kind n start until : ℕ) → eqb kind 1 ≡ false → copying-out (as-copyout kind n start until) ≡ false
 not-copying-out kind n start until f = by-test (eqb kind 0) (λ e. simp e) (λ e. simp (e, f))
+
+pub waits-loaded : {kind x : ℕ} (n until ready : ℕ) → kind ≡ 3 → x ≡ insert n ready → x ≡ awaiting-execution (as-copyin kind n until) ready
+waits-loaded n until ready k e = simp (k, e)
 
 pub waits : (kind n until ready : ℕ) → eqb kind 3 ≡ false → ready ≡ awaiting-execution (as-copyin kind n until) ready
 waits kind n until ready h =

@@ -140,10 +140,6 @@ pub record TestedAt (after : Stage) (k' : Kept) (b' : Beside) (x : Closed) : Typ
 
 -- ---- Blocked, at an interval's end
 
-abbrev pub AwaitingAt : List ℕ → List ℕ → ℕ → Type 0
-AwaitingAt sets codes x =
-    (times : List ℕ) → x ≡ awaiting-execution (copyin-in (registers-in (kept times sets codes))) (getD sets 2 0)
-
 -- the set of tasks that the interval can block: as it is defined, and in words
 pub record BlockableIn (d : State) (x : ℕ) : Type 0 where
   pub is : x ≡ blockable d
@@ -156,20 +152,18 @@ Blockable kind n present priority x =
     → d .phase ≡ Within i → over i ≡ true → i .processor ≡ as-processor kind n start until
     → d .table .present ≡ present → d .table .priority ≡ priority → BlockableIn d x
 
--- the jobs that it blocks
-abbrev pub BlockedAt : List ℕ → List ℕ → List ℕ → ℕ → Type 0
-BlockedAt priority sets codes x =
-    (times columns : List ℕ) (o : ByTask)
-    → let k : Kept = kept times sets codes in
-    is-over (phase-in (registers-in k)) ≡ true → x ≡ blocks (read k (beside priority columns o)) (interval-in (registers-in k))
-
--- one more for each of them
+-- one more for each job that it blocks; the same, where the jobs that wait are known
 abbrev pub CountsAt : List ℕ → List ℕ → List ℕ → List ℕ → List ℕ → Type 0
 CountsAt priority sets codes before after =
     (times columns : List ℕ) (o : ByTask)
     → let k : Kept = kept times sets codes in
     is-over (phase-in (registers-in k)) ≡ true
     → after ≡ counted (blocks (read k (beside priority columns o)) (interval-in (registers-in k))) 0 before
+
+abbrev pub CountsWaiting : ℕ → List ℕ → List ℕ → List ℕ → List ℕ → List ℕ → Type 0
+CountsWaiting waiting priority sets codes before after =
+    ((times : List ℕ) → waiting ≡ awaiting-execution (copyin-in (registers-in (kept times sets codes))) (getD sets 2 0))
+    → CountsAt priority sets codes before after
 
 -- ---- c and d
 

@@ -3,18 +3,9 @@ use crate::at;
 use crate::codes;
 use crate::order::count_all;
 use crate::order::higher;
-ghost use Rattle.rules.specs.Steps.{AwaitingAt, Blockable, BlockedAt, CountsAt};
-
-// The jobs released in the interval or before it that a later one executes.
-fn awaiting_execution(sets: &[u32; 6], codes: &[u8; 9]) -> u32
-    ensures { λ x. ⌜ AwaitingAt (now (sets .entry)) (now (codes .entry)) x ⌝ }
-{
-    let ready = sets[at::READY];
-    if codes[at::COPYIN] == codes::LOADED {
-        return sets::insert(ready, codes[at::INTASK]);
-    }
-    ready
-}
+ghost use mathlib.Core.Path.{_≡_};
+ghost use lib.ListN.{getD};
+ghost use Rattle.rules.specs.Steps.{Blockable, CountsWaiting, CountsAt};
 
 // The tasks that the interval can block, by what the processor did and its task: those of the table with a higher priority than the one
 // that it executed, and none if it idled.
@@ -27,28 +18,45 @@ pub fn blockable(kind: u8, n: u8, present: u32, priority: &[u8; 32]) -> u32
     0
 }
 
-// The jobs that the interval blocks: those that await execution and whose task is in the set, which is gathered once, before they are
-// walked. A job of a task that is not in the table, which no state that calls made has, is compared with the others.
-fn blocked_jobs(sets: &[u32; 6], codes: &[u8; 9], priority: &[u8; 32]) -> u32
-    ensures { λ x. ⌜ BlockedAt (now (priority .entry)) (now (sets .entry)) (now (codes .entry)) x ⌝ }
+// One more blocked interval for each of the jobs that wait whose task is in the set, which is gathered once, before they are walked. A job of a
+// task that is not in the table, which no state that calls made has, is compared with the others.
+fn count_waiting(
+    waiting: u32,
+    sets: &[u32; 6],
+    codes: &[u8; 9],
+    priority: &[u8; 32],
+    blocked: &mut [u8; 32],
+)
+    requires { ⌜ (getD (now codes) 2 0 ≡ 0 → ⊥) ⌝ }
+    ensures { λ _. ⌜ CountsWaiting waiting (now (priority .entry)) (now (sets .entry)) (now (codes .entry))
+        (now (blocked .entry)) (now (blocked .exit)) ⌝ }
 {
     let kind = codes[at::PROCESSOR];
-    if kind == codes::IDLE {
-        return 0;
-    }
-    let waiting = awaiting_execution(sets, codes);
-    if waiting == 0 {
-        return 0;
-    }
     let n = codes[at::TASK];
     let tasks = sets::union(sets[at::PRESENT], waiting);
-    sets::intersection(waiting, blockable(kind, n, tasks, priority))
+    count_all(
+        sets::intersection(waiting, blockable(kind, n, tasks, priority)),
+        blocked,
+    );
 }
 
-// One more blocked interval for each job that the interval blocks.
+// One more blocked interval for each job that the interval blocks, of those released in it or before it that a later one executes. Where the
+// processor idled or none waits there is nothing to count, as in most intervals: these tests are inlined, and the rest, which is called
+// twice, is not.
 pub fn count_blocked(sets: &[u32; 6], codes: &[u8; 9], priority: &[u8; 32], blocked: &mut [u8; 32])
     ensures { λ _. ⌜ CountsAt (now (priority .entry)) (now (sets .entry)) (now (codes .entry))
         (now (blocked .entry)) (now (blocked .exit)) ⌝ }
 {
-    count_all(blocked_jobs(sets, codes, priority), blocked);
+    if codes[at::PROCESSOR] == codes::IDLE {
+        return;
+    }
+    let ready = sets[at::READY];
+    if codes[at::COPYIN] == codes::LOADED {
+        let waiting = sets::insert(ready, codes[at::INTASK]);
+        count_waiting(waiting, sets, codes, priority, blocked);
+        return;
+    }
+    if ready != 0 {
+        count_waiting(ready, sets, codes, priority, blocked);
+    }
 }
