@@ -11,11 +11,11 @@ pub struct Calls {
 
 fn as_plain(told: &Told) -> plain::Told {
     plain::Told {
-        flags: told.flags,
-        skipped: told.skipped,
+        flags: told.flags.map(|word| word as u8),
+        skipped: told.skipped as u32,
         due: if told.flags[2] == 0 { u64::MAX } else { told.due },
-        job: (told.job_times, told.job_bytes),
-        interval: (told.interval_times, told.interval_bytes),
+        job: (told.job_times, told.job_bytes.map(|word| word as u8)),
+        interval: (told.interval_times, told.interval_bytes.map(|word| word as u8)),
     }
 }
 

@@ -8,7 +8,7 @@
 #include <string.h>
 
 /* Of this header, the library, the pkg-config file and the Rust package: it stands here, and the others are held to it. */
-#define GATEWAY_VERSION "0.2.0"
+#define GATEWAY_VERSION "0.3.0"
 
 #ifdef __cplusplus
 extern "C" {
@@ -141,8 +141,8 @@ typedef struct {
     gateway_interval interval;
 } gateway_answer;
 
-/* The library tells an answer as nine numbers, whose bytes are those of gateway_answer: lowest first, on x86-64. */
-#define GATEWAY_ANSWER_WORDS 9
+/* The library tells an answer as so many numbers: gateway_instant puts them into their places. */
+#define GATEWAY_ANSWER_WORDS 19
 
 /* What goes on now: what the processor and the engine do, with whom and until when. Where nobody is named the end is 0; where no interval is open
  * `begin` is 0 and `work` idle. `half` is the processor's, 0 before the first interval, and the engine has the other one. */
@@ -165,8 +165,7 @@ typedef struct {
 #define GATEWAY_ASSERT(fact, text) extern int gateway_assertion[(fact) ? 1 : -1]
 #endif
 GATEWAY_ASSERT(sizeof(gateway_dispatcher) == 1056, "a dispatcher has no gap");
-GATEWAY_ASSERT(sizeof(gateway_answer) == GATEWAY_ANSWER_WORDS * sizeof(uint64_t), "an answer has no gap");
-GATEWAY_ASSERT(offsetof(gateway_answer, job) == 16 && offsetof(gateway_answer, interval) == 48, "an answer's parts are in their places");
+GATEWAY_ASSERT(sizeof(gateway_answer) == 72, "an answer has no gap");
 /* A view is lent as 4 ticks, 3 sets and 6 bytes, each kind one behind the other: a copy would take as long as the call. */
 GATEWAY_ASSERT(offsetof(gateway_view, copy_out_until) == 24 && offsetof(gateway_view, pending) == 32, "a view's ticks have no gap");
 GATEWAY_ASSERT(offsetof(gateway_view, marked) == 40 && offsetof(gateway_view, is_open) == 44, "a view's sets have no gap");
@@ -174,17 +173,17 @@ GATEWAY_ASSERT(offsetof(gateway_view, half) == 49 && sizeof(gateway_view) == 56,
 
 /* What is exported lends each array of a dispatcher by itself. The functions below find them. The names carry the version of the layout, of what a
  * dispatcher keeps and what an answer tells: a program with the header of another layout is not linked. */
-uint8_t gateway_open_v2(const uint8_t *entries, size_t length, uint64_t *times, uint32_t *sets, uint8_t *codes, uint8_t *priority,
+uint8_t gateway_open_v3(const uint8_t *entries, size_t length, uint64_t *times, uint32_t *sets, uint8_t *codes, uint8_t *priority,
                         uint32_t *columns, uint64_t *release, uint8_t *blocked, uint64_t *waits, size_t *place);
-uint8_t gateway_instant_v2(uint64_t *times, uint32_t *sets, uint8_t *codes, const uint8_t *priority, const uint32_t *columns,
-                           uint64_t *release, uint8_t *blocked, uint64_t *waits, uint64_t time, uint32_t set, uint64_t *told);
-uint8_t gateway_mark_v2(uint32_t *sets, uint8_t task, uint8_t mark);
-void gateway_now_v2(const uint64_t *times, const uint32_t *sets, const uint8_t *codes, uint64_t *ticks, uint32_t *tasks, uint8_t *units);
+uint8_t gateway_instant_v3(uint64_t time, uint32_t set, uint64_t *times, uint32_t *sets, uint8_t *codes, uint64_t *told,
+                           const uint8_t *priority, const uint32_t *columns, uint64_t *release, uint8_t *blocked, uint64_t *waits);
+uint8_t gateway_mark_v3(uint32_t *sets, uint8_t task, uint8_t mark);
+void gateway_now_v3(const uint64_t *times, const uint32_t *sets, const uint8_t *codes, uint64_t *ticks, uint32_t *tasks, uint8_t *units);
 
 /* Opens a dispatcher from `length` bytes of task entries. *place is the place of the entry that is refused, and 0 where there is none. */
 static inline uint8_t gateway_open(const uint8_t *entries, size_t length, gateway_dispatcher *d, size_t *place)
 {
-    uint8_t number = gateway_open_v2(entries, length, d->times, d->sets, d->codes, d->priority, d->columns, d->release, d->blocked, d->waits, place);
+    uint8_t number = gateway_open_v3(entries, length, d->times, d->sets, d->codes, d->priority, d->columns, d->release, d->blocked, d->waits, place);
     if (number == 0) {
         memset(d->unused, 0, sizeof d->unused); /* so that every byte of it is written, and two can be compared */
     }
@@ -200,25 +199,27 @@ static inline uint8_t gateway_open(const uint8_t *entries, size_t length, gatewa
  * releases back until then, as link/driver.c does. */
 static inline uint8_t gateway_instant(gateway_dispatcher *d, uint64_t time, uint32_t set, gateway_answer *answer)
 {
-    uint64_t told[GATEWAY_ANSWER_WORDS] = {0};
-    gateway_answer now;
-    uint8_t number = gateway_instant_v2(d->times, d->sets, d->codes, d->priority, d->columns, d->release, d->blocked, d->waits, time, set, told);
+    uint64_t told[GATEWAY_ANSWER_WORDS];
+    uint8_t number = gateway_instant_v3(time, set, d->times, d->sets, d->codes, told, d->priority, d->columns, d->release, d->blocked, d->waits);
     if (number != 0) {
         return number;
     }
-    memcpy(&now, told, sizeof now);
-    answer->skipped = now.skipped;
-    answer->done = now.done;
-    answer->closed = now.closed;
-    answer->is_due = now.is_due;
-    if (now.is_due) {
-        answer->due = now.due;
+    answer->skipped = (uint32_t)told[1];
+    answer->done = (uint8_t)told[2];
+    answer->closed = (uint8_t)told[3];
+    answer->is_due = (uint8_t)told[4];
+    if (answer->is_due) {
+        answer->due = told[0];
     }
-    if (now.done) {
-        answer->job = now.job;
+    if (answer->done) {
+        gateway_job job = {told[5], told[6], told[7], (uint8_t)told[8], (uint8_t)told[9], {0}};
+        answer->job = job;
     }
-    if (now.closed) {
-        answer->interval = now.interval;
+    if (answer->closed) {
+        /* nobody is told as a number whose lowest byte is GATEWAY_NO_TASK */
+        gateway_interval interval = {told[10],          told[11],          (uint8_t)told[12], (uint8_t)told[13], (uint8_t)told[14],
+                                     (uint8_t)told[15], (uint8_t)told[16], (uint8_t)told[17], (uint8_t)told[18], 0};
+        answer->interval = interval;
     }
     return 0;
 }
@@ -226,7 +227,7 @@ static inline uint8_t gateway_instant(gateway_dispatcher *d, uint64_t time, uint
 /* Changes a task's mark from now on, while it has no pending job and no release that waits: 1 latency-sensitive, 0 not. */
 static inline uint8_t gateway_mark(gateway_dispatcher *d, uint8_t task, uint8_t mark)
 {
-    return gateway_mark_v2(d->sets, task, mark);
+    return gateway_mark_v3(d->sets, task, mark);
 }
 
 /* What goes on now. A driver commands its hardware by the views before and after a call: `b` and `a`, and `t` the time of the call. In this order:
@@ -245,7 +246,7 @@ static inline uint8_t gateway_mark(gateway_dispatcher *d, uint8_t task, uint8_t 
  * this and checks it. */
 static inline void gateway_now(const gateway_dispatcher *d, gateway_view *view)
 {
-    gateway_now_v2(d->times, d->sets, d->codes, &view->begin, &view->pending, &view->is_open);
+    gateway_now_v3(d->times, d->sets, d->codes, &view->begin, &view->pending, &view->is_open);
 }
 
 #ifdef __cplusplus

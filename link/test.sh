@@ -135,7 +135,7 @@ version=$(sed -n 's/^#define GATEWAY_VERSION "\(.*\)"$/\1/p' link/gateway.h)
 grep -q "^## $version" CHANGELOG.md
 passed=$((passed + 1))
 mkdir "$inputs/old"
-sed 's/_v2(/_v1(/' link/gateway.h >"$inputs/old/gateway.h"
+sed 's/_v3(/_v2(/' link/gateway.h >"$inputs/old/gateway.h"
 cp link/session.c "$inputs/old"
 cc -std=c11 -c -o "$inputs/old/session.o" "$inputs/old/session.c"
 if cc -o "$inputs/old/session" "$inputs/old/session.o" target/staticlib/libgateway.a 2>"$inputs/log"; then

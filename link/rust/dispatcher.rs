@@ -6,7 +6,7 @@ use std::fmt;
 mod raw {
     #[link(name = "gateway", kind = "static")]
     unsafe extern "C" {
-        pub fn gateway_open_v2(
+        pub fn gateway_open_v3(
             entries: *const u8,
             length: usize,
             times: &mut [u64; 7],
@@ -20,23 +20,23 @@ mod raw {
             place: &mut usize,
         ) -> u8;
 
-        pub fn gateway_instant_v2(
+        pub fn gateway_instant_v3(
+            time: u64,
+            set: u32,
             times: &mut [u64; 7],
             sets: &mut [u32; 6],
             codes: &mut [u8; 9],
+            told: &mut super::Told,
             priority: &[u8; 32],
             columns: &[u32; 96],
             release: &mut [u64; 32],
             blocked: &mut [u8; 32],
             waits: &mut [u64; 32],
-            time: u64,
-            set: u32,
-            told: &mut super::Told,
         ) -> u8;
 
-        pub fn gateway_mark_v2(sets: &mut [u32; 6], task: u8, mark: u8) -> u8;
+        pub fn gateway_mark_v3(sets: &mut [u32; 6], task: u8, mark: u8) -> u8;
 
-        pub fn gateway_now_v2(
+        pub fn gateway_now_v3(
             times: &[u64; 7],
             sets: &[u32; 6],
             codes: &[u8; 9],
@@ -211,7 +211,7 @@ impl Dispatcher {
         let mut place = 0;
         // The slice and the arrays are live, and Rust lets no two of them overlap: the function asks no more.
         let number = unsafe {
-            raw::gateway_open_v2(
+            raw::gateway_open_v3(
                 entries.as_ptr(),
                 entries.len(),
                 &mut d.times,
@@ -247,18 +247,18 @@ impl Dispatcher {
     pub fn instant_into(&mut self, time: u64, set: Set, told: &mut Told) -> u8 {
         // The arrays are live, and Rust lets no two of them overlap: the function asks no more.
         unsafe {
-            raw::gateway_instant_v2(
+            raw::gateway_instant_v3(
+                time,
+                set,
                 &mut self.times,
                 &mut self.sets,
                 &mut self.codes,
+                told,
                 &self.priority,
                 &self.columns,
                 &mut self.release,
                 &mut self.blocked,
                 &mut self.waits,
-                time,
-                set,
-                told,
             )
         }
     }
@@ -266,7 +266,7 @@ impl Dispatcher {
     /// Changes a task's mark from now on, while it has no pending job and no release that waits.
     pub fn mark(&mut self, task: u8, latency_sensitive: bool) -> Result<(), Refusal> {
         // As above.
-        match unsafe { raw::gateway_mark_v2(&mut self.sets, task, latency_sensitive.into()) } {
+        match unsafe { raw::gateway_mark_v3(&mut self.sets, task, latency_sensitive.into()) } {
             0 => Ok(()),
             number => Err(Refusal::alone(number)),
         }
@@ -284,7 +284,7 @@ impl Dispatcher {
     #[inline]
     pub fn now_into(&self, shown: &mut Shown) {
         // As above.
-        unsafe { raw::gateway_now_v2(&self.times, &self.sets, &self.codes, &mut shown.ticks, &mut shown.tasks, &mut shown.units) }
+        unsafe { raw::gateway_now_v3(&self.times, &self.sets, &self.codes, &mut shown.ticks, &mut shown.tasks, &mut shown.units) }
     }
 
     /// The tasks that are latency-sensitive now.
@@ -311,33 +311,28 @@ impl fmt::Debug for Dispatcher {
     }
 }
 
-/// What an instant tells, as numbers, laid out as `gateway_answer` of link/gateway.h: where a flag is 0, what belongs to it is as it was.
+/// What an instant tells, a word for each number, as the library tells it: where a flag is 0, what belongs to it is as it was.
 #[repr(C)]
 #[derive(Clone, Copy, Debug, Default, PartialEq, Eq)]
 pub struct Told {
     /// The next due time.
     pub due: u64,
     /// The tasks whose release was skipped.
-    pub skipped: u32,
+    pub skipped: u64,
     /// A job is done; an interval closed, 1 before the releases, 2 after them; there is a due time.
-    pub flags: [u8; 3],
-    /// Nothing, so that there is no gap; as the two below.
-    pub unused: u8,
+    pub flags: [u64; 3],
     /// Release, execution start, completion.
     pub job_times: [u64; 3],
-    /// Task, blocked intervals.
-    pub job_bytes: [u8; 2],
-    /// Nothing.
-    pub unused_too: [u8; 6],
+    /// Task, blocked intervals: the bytes of a job's entry.
+    pub job_bytes: [u64; 2],
     /// Begin, end.
     pub interval_times: [u64; 2],
-    /// Half, task, work, task copied out, task chosen, its fate, task promoted; 255 is no task.
-    pub interval_bytes: [u8; 7],
-    /// Nothing.
-    pub unused_last: u8,
+    /// Half, task, work, task copied out, task chosen, its fate, task promoted: the bytes of an interval's entry, but that no task is a number that
+    /// no byte has, and its lowest byte is 255.
+    pub interval_bytes: [u64; 7],
 }
 
-const _: () = assert!(std::mem::size_of::<Told>() == 72);
+const _: () = assert!(std::mem::size_of::<Told>() == 19 * 8);
 
 /// What goes on now, as numbers.
 #[derive(Clone, Copy, Debug, Default, PartialEq, Eq)]
@@ -389,28 +384,29 @@ impl Told {
         Answer {
             done: (self.flags[0] != 0).then(|| self.job()),
             closed: (self.flags[1] != 0).then(|| self.interval()),
-            skipped: self.skipped,
+            skipped: self.skipped as Set,
             due: (self.flags[2] != 0).then_some(self.due),
         }
     }
 
     fn job(&self) -> Job {
-        let ([release, start, completion], [task, blocked]) = (self.job_times, self.job_bytes);
+        let ([release, start, completion], [task, blocked]) = (self.job_times, self.job_bytes.map(|word| word as u8));
         Job { task, release, start, completion, blocked }
     }
 
     fn interval(&self) -> Interval {
-        let ([begin, end], [half, executed, work, copied_out, chosen, fate, promoted]) = (self.interval_times, self.interval_bytes);
+        let ([begin, end], [half, _, work, _, _, fate, _]) = (self.interval_times, self.interval_bytes.map(|word| word as u8));
+        let [_, executed, _, copied_out, chosen, _, promoted] = self.interval_bytes.map(|word| u8::try_from(word).ok());
         Interval {
             begin,
             end,
             half,
-            task: task(executed),
+            task: executed,
             work: work_of(work),
-            copied_out: task(copied_out),
-            chosen: task(chosen),
+            copied_out,
+            chosen,
             fate: [Fate::None, Fate::Done, Fate::Cancelled, Fate::ThrownOut][usize::from(fate.min(3))],
-            promoted: task(promoted),
+            promoted,
             after_releases: self.flags[1] == 2,
         }
     }

@@ -3,7 +3,7 @@ use mathlib.Core.Path.{_≡_, refl, sym, ap, _∙_}
 use mathlib.Core.Bool.{Bool, true, false}
 use mathlib.Core.List.{List}
 use mathlib.Core.Logic.{⊎-elim}
-use Prim.Native.Nat.{ℕ, _-_, _*_, _^_, _≤_, _<_}
+use Prim.Native.Nat.{ℕ, _-_, _^_, _≤_, _<_}
 use native.Mathlib.Omega.{arith}
 use borrow.Author.Tests.{lt-ltb, le-ltb}
 use lib.ListN.{set}
@@ -37,14 +37,14 @@ module _ (times sets codes told : List ℕ) where
   abbrev next : Due
   next = due (phase-in (registers-in (kept times sets codes)))
 
-  tells : {x : ℕ} → next ≡ Tick x → DueTold times sets codes told (set told 0 x) (2 ^ 48)
-  tells e = record { told-is = sym (ap (λ (p : Due). due-told p told) e); number-is = sym (ap (λ (p : Due). 2 ^ 48 * due-number p) e) }
+  tells : {x : ℕ} → next ≡ Tick x → DueTold times sets codes told (set told 0 x) 1
+  tells e = record { told-is = sym (ap (λ (p : Due). due-told p told) e); number-is = sym (ap (λ (p : Due). due-number p) e) }
 
-  pub tells-tick : {x : ℕ} → Stands x next → (x ≡ 2 ^ 64 - 1 → ⊥) → DueTold times sets codes told (set told 0 x) (2 ^ 48)
+  pub tells-tick : {x : ℕ} → Stands x next → (x ≡ 2 ^ 64 - 1 → ⊥) → DueTold times sets codes told (set told 0 x) 1
   tells-tick s ne = ⊎-elim (λ e. tells e) (λ w. absurd (ne (w .0))) (s .is)
 
-  pub tells-some : {x : ℕ} {some : Bool} → Stands x next → IsDue some next → some ≡ true → DueTold times sets codes told (set told 0 x) (2 ^ 48)
+  pub tells-some : {x : ℕ} {some : Bool} → Stands x next → IsDue some next → some ≡ true → DueTold times sets codes told (set told 0 x) 1
   tells-some s i h = ⊎-elim (λ e. tells e) (λ w. absurd (i .some h (w .1))) (s .is)
 
   pub tells-none : {some : Bool} → IsDue some next → some ≡ false → DueTold times sets codes told told 0
-  tells-none i h = record { told-is = sym (ap (λ (p : Due). due-told p told) (i .none h)); number-is = sym (ap (λ (p : Due). 2 ^ 48 * due-number p) (i .none h)) }
+  tells-none i h = record { told-is = sym (ap (λ (p : Due). due-told p told) (i .none h)); number-is = sym (ap (λ (p : Due). due-number p) (i .none h)) }

@@ -1,12 +1,9 @@
 -- What the parts of a call promise, over the arrays that a dispatcher is kept as: the rules' outcome of the state that was read before,
 -- whatever stands in the arrays that they are not lent.
-use Rattle.dispatcher.specs.Types.{List, ℕ, _≡_, State, Stage, MaybeTask, JobEntry, IntervalEntry, Done, NoJob, Job, Closed, NoInterval, Span, Closing, Occurred}
-use Prim.Native.Nat.{_+_, _*_, _^_, _/_, _%_, _<_}
-use mathlib.Core.Bool.{Bool, false, cond}
-use mathlib.Core.List.{[], _∷_}
-use lib.Dec.{leb}
-use lib.ListN.{getD}
-use Rattle.entries.specs.Entries.{task-byte, choice-bytes}
+use Rattle.dispatcher.specs.Types.{List, ℕ, _≡_, State, Stage, MaybeTask, NoTask, Task, JobEntry, IntervalEntry, Done, NoJob, Job, Closed, NoInterval, Span, Closing, Occurred}
+use Prim.Native.Nat.{_+_, _^_, _<_}
+use mathlib.Core.Bool.{Bool, false}
+use lib.ListN.{getD, set}
 use Rattle.rules.specs.Instant.{processor-task, copyout-task, copyin-task, copyin-fate, entry-with, step-a, step-e, step-f, due, at-g, occurred}
 use Rattle.rules.specs.Calls.{refusal, not-after, mark-refusal, with-mark}
 use Rattle.rules.specs.Registers.{as-task, processor-in, copyout-in, copyin-in, interval-in, phase-in}
@@ -38,40 +35,41 @@ pub record TellsJob (e : JobEntry) (told told' : List ℕ) : Type 0 where
 
 -- ---- Telling an interval
 
--- the bytes of its entry, of the units' numbers
-abbrev pub ProcessorByte : List ℕ → ℕ → Type 0
-ProcessorByte codes x = (times sets : List ℕ) → x ≡ task-byte (processor-task (processor-in (registers-in (kept times sets codes))))
+-- a task's word, of a task that is a byte
+abbrev pub TaskFits : MaybeTask → Type 0
+TaskFits NoTask = Unit {0}
+TaskFits (Task n) = n < 256
 
-abbrev pub CopyOutByte : List ℕ → ℕ → Type 0
-CopyOutByte codes x = (times sets : List ℕ) → x ≡ task-byte (copyout-task (copyout-in (registers-in (kept times sets codes))))
+pub record TaskWord (t : MaybeTask) (x : ℕ) : Type 0 where
+  pub is : x ≡ telling.task-word t
+  pub fits : TaskFits t
 
-abbrev pub CopyInByte : List ℕ → ℕ → Type 0
-CopyInByte codes x = (times sets : List ℕ) → x ≡ task-byte (copyin-task (copyin-in (registers-in (kept times sets codes))))
+-- an interval's words, of the units' numbers
+abbrev pub ProcessorWord : List ℕ → ℕ → Type 0
+ProcessorWord codes x = (times sets : List ℕ) → TaskWord (processor-task (processor-in (registers-in (kept times sets codes)))) x
 
-abbrev pub FateByte : List ℕ → ℕ → Type 0
-FateByte codes x = (times sets : List ℕ) → x ≡ copyin-fate (copyin-in (registers-in (kept times sets codes)))
+abbrev pub CopyOutWord : List ℕ → ℕ → Type 0
+CopyOutWord codes x = (times sets : List ℕ) → TaskWord (copyout-task (copyout-in (registers-in (kept times sets codes)))) x
 
--- a number by which each unit's task is read back from its byte
-abbrev pub ReadBy : ℕ → MaybeTask → Type 0
-ReadBy apart t = telling.task-in apart (task-byte t) ≡ t
+abbrev pub CopyInWord : List ℕ → ℕ → Type 0
+CopyInWord codes x = (times sets : List ℕ) → TaskWord (copyin-task (copyin-in (registers-in (kept times sets codes)))) x
 
--- which of the units have a task: the processor, the copy-out, the copy-in
-abbrev pub named-in : List ℕ → ℕ
-named-in codes =
-    cond (leb (getD codes 2 0) 0) 0 1 + 2 * (cond (leb (getD codes 4 0) 0) 0 1 + 2 * cond (leb (getD codes 6 0) 1) 0 1)
+abbrev pub FateWord : List ℕ → ℕ → Type 0
+FateWord codes x = (times sets : List ℕ) → (x ≡ copyin-fate (copyin-in (registers-in (kept times sets codes)))) × (x < 256)
 
-pub record TellsApart (codes : List ℕ) (x : ℕ) : Type 0 where
-  pub processor : (times sets : List ℕ) → ReadBy x (processor-task (processor-in (registers-in (kept times sets codes))))
-  pub copyout : (times sets : List ℕ) → ReadBy (x / 2) (copyout-task (copyout-in (registers-in (kept times sets codes))))
-  pub copyin : (times sets : List ℕ) → ReadBy (x / 4) (copyin-task (copyin-in (registers-in (kept times sets codes))))
-
-abbrev pub Readable : IntervalEntry → ℕ → Type 0
-Readable e apart = telling.interval-in (telling.interval-told e apart (0 ∷ 0 ∷ 0 ∷ 0 ∷ 0 ∷ 0 ∷ 0 ∷ 0 ∷ 0 ∷ [])) ≡ e
+-- an interval whose numbers are bytes, so that it is read back from its words
+pub record Readable (e : IntervalEntry) : Type 0 where
+  pub half-fits : e .half < 256
+  pub task-fits : TaskFits (e .task)
+  pub work-fits : e .work < 256
+  pub copiedout-fits : TaskFits (e .copiedout)
+  pub chosen-fits : TaskFits (e .chosen)
+  pub fate-fits : e .fate < 256
+  pub promoted-fits : TaskFits (e .promoted)
 
 pub record ToldInterval (e : IntervalEntry) (told told' : List ℕ) : Type 0 where
-  pub apart : ℕ
-  pub told-is : told' ≡ telling.interval-told e apart told
-  pub readable : Readable e apart
+  pub told-is : told' ≡ telling.interval-told e told
+  pub readable : Readable e
 
 abbrev pub TellsInterval : ℕ → ℕ → List ℕ → List ℕ → List ℕ → List ℕ → Type 0
 TellsInterval t p times codes told told' =
@@ -82,10 +80,16 @@ TellsInterval t p times codes told told' =
 
 pub record DueTold (times sets codes told told' : List ℕ) (x : ℕ) : Type 0 where
   pub told-is : told' ≡ telling.due-told (due (phase-in (registers-in (kept times sets codes)))) told
-  pub number-is : x ≡ 2 ^ 48 * telling.due-number (due (phase-in (registers-in (kept times sets codes))))
+  pub number-is : x ≡ telling.due-number (due (phase-in (registers-in (kept times sets codes))))
 
 abbrev pub TellsDue : List ℕ → List ℕ → List ℕ → List ℕ → ℕ → Type 0
 TellsDue times codes told told' x = (sets : List ℕ) → DueTold times sets codes told told' x
+
+-- ---- Telling what there is
+
+pub record TellsFlags (skipped done first last next : ℕ) (told told' : List ℕ) : Type 0 where
+  pub told-is : told' ≡ set (set (set (set told 1 skipped) 2 done) 3 (first + last)) 4 next
+  pub skipped-fits : skipped < 2 ^ 32
 
 -- ---- Steps that tell
 
@@ -99,7 +103,7 @@ pub record EndedAt (t : ℕ) (k : Kept) (b : Beside) (k' : Kept) (told told' : L
   pub no-more : copyout-ends t (k' .times) (k' .codes) ≡ false
   pub state : step-a (read k' b) t (read k' b .phase) .state ≡ step-a (read k b) t (read k b .phase) .state
   pub told-is : told' ≡ telling.done-told (step-a (read k b) t (read k b .phase) .done) told
-  pub number-is : x ≡ 2 ^ 32 * telling.done-number (step-a (read k b) t (read k b .phase) .done)
+  pub number-is : x ≡ telling.done-number (step-a (read k b) t (read k b .phase) .done)
   pub fits : DoneFits (step-a (read k b) t (read k b .phase) .done)
 
 abbrev pub EndsCopyOut : ℕ → List ℕ → List ℕ → List ℕ → List ℕ → List ℕ → List ℕ → List ℕ → List ℕ → List ℕ → ℕ → Type 0
@@ -108,17 +112,16 @@ EndsCopyOut t release blocked times sets codes told sets' codes' told' x =
     → EndedAt t (kept times sets codes) (beside priority columns (by-task release blocked waits)) (kept times sets' codes') told told' x
 
 -- the test of an interval's end: what is left, and what is told of the interval that ended
-abbrev pub ClosedReads : Closed → ℕ → Type 0
-ClosedReads NoInterval apart = Unit {0}
-ClosedReads (Span e) apart = Readable e apart
+abbrev pub ClosedReads : Closed → Type 0
+ClosedReads NoInterval = Unit {0}
+ClosedReads (Span e) = Readable e
 
 pub record TestedTold (n : ℕ) (after : Stage) (k' : Kept) (b' : Beside) (told told' : List ℕ) (x : ℕ) : Type 0 where
   pub whole : Whole k'
   pub state : read k' b' ≡ after .state
-  pub apart : ℕ
-  pub told-is : told' ≡ telling.closed-told (after .closed) apart told
-  pub number-is : x ≡ 2 ^ 40 * telling.closed-number n (after .closed)
-  pub reads : ClosedReads (after .closed) apart
+  pub told-is : told' ≡ telling.closed-told (after .closed) told
+  pub number-is : x ≡ telling.closed-number n (after .closed)
+  pub reads : ClosedReads (after .closed)
 
 -- before the releases
 abbrev pub EndsBefore : ℕ → List ℕ → Kept → List ℕ → List ℕ → Kept → List ℕ → List ℕ → ℕ → Type 0
@@ -143,8 +146,7 @@ EndsAfter t priority columns k blocked told k' blocked' told' x =
 pub record Instant (d : State) (t set : ℕ) (k' : Kept) (b' : Beside) (told told' : List ℕ) : Type 0 where
   pub whole : Whole k'
   pub state : read k' b' ≡ at-g d t set
-  pub apart : ℕ
-  pub told-is : told' ≡ telling.told-of (occurred d t set) apart told
+  pub told-is : told' ≡ telling.told-of (occurred d t set) told
   pub reads : telling.occurred-in told' ≡ occurred d t set
 
 abbrev pub StepsTo : ℕ → ℕ → Kept → Beside → List ℕ → Kept → Beside → List ℕ → Type 0

@@ -1,41 +1,40 @@
--- What an instant tells, in nine words: the next due time; the skipped releases, and above them what there is; of the job that is done
--- its release, start and completion, then its task and count; of the interval that closed its begin and end, then its seven bytes. What
--- does not occur leaves its words as they were. Read back, the words give what occurred.
+-- What an instant tells, a word for each number: the next due time; the skipped releases; whether a job is done, whether an interval
+-- closed and whether there is a due time; then the numbers of the job, and those of the interval. What does not occur leaves its words as
+-- they were. Read back, the words give what occurred.
 use Rattle.dispatcher.specs.Types.{List, ℕ, cond, JobEntry, IntervalEntry, MaybeTask, NoTask, Task, Done, NoJob, Job, Closed, NoInterval, Span, Closing, Unclosed, BeforeReleases, AfterReleases, Due, Never, Tick, Occurred}
-use mathlib.Core.List.{[], _∷_, _++_}
-use Prim.Native.Nat.{_+_, _*_, _^_, _/_, _%_}
-use lib.Dec.{eqb}
+use Prim.Native.Nat.{_%_, _^_}
+use lib.Dec.{eqb, ltb}
 use lib.ListN.{getD, set}
-use Rattle.words.specs.Words.{bytesOf}
-use Rattle.entries.specs.Entries.{choice-bytes}
-
--- bytes as one word, lowest first
-unfoldable pub word : List ℕ → ℕ
-word [] = 0
-word (b ∷ bs) = b + 256 * word bs
 
 -- ---- Told
 
+-- no task is a number that no byte has, since in memory that no call made a task may be any byte; its lowest byte is that of no task
+abbrev pub task-word : MaybeTask → ℕ
+task-word NoTask = 511
+task-word (Task n) = n
+
 unfoldable pub job-told : JobEntry → List ℕ → List ℕ
 job-told e told =
-    set (set (set (set told 2 (e .release)) 3 (e .start)) 4 (e .completion)) 5 (word (e .task ∷ e .blocked ∷ []))
+    set (set (set (set (set told 5 (e .release)) 6 (e .start)) 7 (e .completion)) 8 (e .task)) 9 (e .blocked)
 
--- the highest byte tells task 255, which memory that no call made can have, from none: 0, or which of the units have a task
-unfoldable pub interval-told : IntervalEntry → ℕ → List ℕ → List ℕ
-interval-told e apart told = set (set (set told 6 (e .begin)) 7 (e .end)) 8 (word (choice-bytes e ++ (apart ∷ [])))
+unfoldable pub interval-told : IntervalEntry → List ℕ → List ℕ
+interval-told e told =
+    set (set (set (set (set (set (set (set (set told
+    10 (e .begin)) 11 (e .end)) 12 (e .half)) 13 (task-word (e .task))) 14 (e .work))
+    15 (task-word (e .copiedout))) 16 (task-word (e .chosen))) 17 (e .fate)) 18 (task-word (e .promoted))
 
 abbrev pub done-told : Done → List ℕ → List ℕ
 done-told NoJob told = told
 done-told (Job e) told = job-told e told
 
-abbrev pub closed-told : Closed → ℕ → List ℕ → List ℕ
-closed-told NoInterval apart told = told
-closed-told (Span e) apart told = interval-told e apart told
+abbrev pub closed-told : Closed → List ℕ → List ℕ
+closed-told NoInterval told = told
+closed-told (Span e) told = interval-told e told
 
-abbrev pub closing-told : Closing → ℕ → List ℕ → List ℕ
-closing-told Unclosed apart told = told
-closing-told (BeforeReleases e) apart told = interval-told e apart told
-closing-told (AfterReleases e) apart told = interval-told e apart told
+abbrev pub closing-told : Closing → List ℕ → List ℕ
+closing-told Unclosed told = told
+closing-told (BeforeReleases e) told = interval-told e told
+closing-told (AfterReleases e) told = interval-told e told
 
 abbrev pub due-told : Due → List ℕ → List ℕ
 due-told Never told = told
@@ -59,55 +58,49 @@ abbrev pub due-number : Due → ℕ
 due-number Never = 0
 due-number (Tick t) = 1
 
-unfoldable pub told-of : Occurred → ℕ → List ℕ → List ℕ
-told-of o apart told =
-    set (due-told (o .due) (closing-told (o .closed) apart (done-told (o .done) told)))
-    1 (o .skipped + (2 ^ 32 * done-number (o .done) + (2 ^ 40 * closing-number (o .closed) + 2 ^ 48 * due-number (o .due))))
+unfoldable pub told-of : Occurred → List ℕ → List ℕ
+told-of o told =
+    set (set (set (set (due-told (o .due) (closing-told (o .closed) (done-told (o .done) told)))
+    1 (o .skipped)) 2 (done-number (o .done))) 3 (closing-number (o .closed))) 4 (due-number (o .due))
 
 -- ---- Read back
 
--- a task, by the lowest bit of a number and a byte: 255 is none, but for a unit that is told to have one
-abbrev pub task-in : ℕ → ℕ → MaybeTask
-task-in apart byte = cond (eqb byte 255) (cond (eqb (apart % 2) 0) NoTask (Task byte)) (Task byte)
+abbrev pub task-in : ℕ → MaybeTask
+task-in w = cond (ltb w 256) (Task w) NoTask
 
-unfoldable pub entry-in : ℕ → ℕ → ℕ → IntervalEntry
-entry-in begin end w =
-    let s : List ℕ = bytesOf 8 w in
-    record {
-      begin = begin;
-      end = end;
-      half = getD s 0 0;
-      task = task-in (getD s 7 0) (getD s 1 0);
-      work = getD s 2 0;
-      copiedout = task-in (getD s 7 0 / 2) (getD s 3 0);
-      chosen = task-in (getD s 7 0 / 4) (getD s 4 0);
-      fate = getD s 5 0;
-      promoted = task-in 0 (getD s 6 0);
-    }
-
-abbrev pub interval-in : List ℕ → IntervalEntry
-interval-in told = entry-in (getD told 6 0) (getD told 7 0) (getD told 8 0)
+unfoldable pub interval-in : List ℕ → IntervalEntry
+interval-in told = record {
+  begin = getD told 10 0;
+  end = getD told 11 0;
+  half = getD told 12 0 % 256;
+  task = task-in (getD told 13 0);
+  work = getD told 14 0 % 256;
+  copiedout = task-in (getD told 15 0);
+  chosen = task-in (getD told 16 0);
+  fate = getD told 17 0 % 256;
+  promoted = task-in (getD told 18 0);
+}
 
 abbrev pub job-in : List ℕ → JobEntry
 job-in told = record {
-  task = getD told 5 0 % 256;
-  release = getD told 2 0;
-  start = getD told 3 0;
-  completion = getD told 4 0;
-  blocked = getD told 5 0 / 256 % 256;
+  task = getD told 8 0 % 256;
+  release = getD told 5 0;
+  start = getD told 6 0;
+  completion = getD told 7 0;
+  blocked = getD told 9 0 % 256;
 }
 
 abbrev pub done-in : List ℕ → Done
-done-in told = cond (eqb (getD told 1 0 / 2 ^ 32 % 256) 0) NoJob (Job (job-in told))
+done-in told = cond (eqb (getD told 2 0) 0) NoJob (Job (job-in told))
 
 abbrev pub closing-in : List ℕ → Closing
 closing-in told =
-    cond (eqb (getD told 1 0 / 2 ^ 40 % 256) 0) Unclosed
-    (cond (eqb (getD told 1 0 / 2 ^ 40 % 256) 1) (BeforeReleases (interval-in told)) (AfterReleases (interval-in told)))
+    cond (eqb (getD told 3 0) 0) Unclosed
+    (cond (eqb (getD told 3 0) 1) (BeforeReleases (interval-in told)) (AfterReleases (interval-in told)))
 
 abbrev pub due-in : List ℕ → Due
-due-in told = cond (eqb (getD told 1 0 / 2 ^ 48 % 256) 0) Never (Tick (getD told 0 0))
+due-in told = cond (eqb (getD told 4 0) 0) Never (Tick (getD told 0 0))
 
 unfoldable pub occurred-in : List ℕ → Occurred
-unfolding entry-in
+unfolding interval-in
 occurred-in told = record { done = done-in told; closed = closing-in told; skipped = getD told 1 0 % 2 ^ 32; due = due-in told }

@@ -1,4 +1,5 @@
 // What occurred, read back from the words that tell it (specs/Telling).
+use crate::telling::WORDS;
 use entries::IntervalEntry;
 use entries::JobEntry;
 use entries::MaybeTask;
@@ -7,8 +8,7 @@ use rules::Done;
 use rules::Due;
 use rules::Occurred;
 ghost use mathlib.Core.Path.{_≡_};
-ghost use Prim.Native.Nat.{_%_, _/_};
-ghost use lib.ListN.{getD};
+ghost use Prim.Native.Nat.{_%_};
 ghost use Rattle.dispatcher.specs.Telling as telling;
 
 fn low(x: u64) -> u8
@@ -17,68 +17,56 @@ fn low(x: u64) -> u8
     (x % 256) as u8
 }
 
-fn task_in(apart: u8, byte: u8) -> MaybeTask
-    ensures { λ r. ⌜ r ≡ telling.task-in apart byte ⌝ }
+fn task_in(word: u64) -> MaybeTask
+    ensures { λ r. ⌜ r ≡ telling.task-in word ⌝ }
 {
-    if byte != entries::NO_TASK {
-        return MaybeTask::Task(byte);
+    if word < 256 {
+        return MaybeTask::Task(word as u8);
     }
-    if apart % 2 == 0 {
-        return MaybeTask::NoTask;
-    }
-    MaybeTask::Task(byte)
+    MaybeTask::NoTask
 }
 
-fn job_in(told: &[u64; 9]) -> JobEntry
+fn job_in(told: &[u64; WORDS]) -> JobEntry
     ensures { λ r. ⌜ r ≡ telling.job-in (now (told .entry)) ⌝ }
 {
-    let bytes = told[5];
     JobEntry {
-        task: low(bytes),
-        release: told[2],
-        start: told[3],
-        completion: told[4],
-        blocked: low(bytes / 256),
+        task: low(told[8]),
+        release: told[5],
+        start: told[6],
+        completion: told[7],
+        blocked: low(told[9]),
     }
 }
 
-fn interval_in(told: &[u64; 9]) -> IntervalEntry
+fn interval_in(told: &[u64; WORDS]) -> IntervalEntry
     ensures { λ r. ⌜ r ≡ telling.interval-in (now (told .entry)) ⌝ }
 {
-    let a = told[8];
-    let b = a / 256;
-    let c = b / 256;
-    let d = c / 256;
-    let e = d / 256;
-    let f = e / 256;
-    let g = f / 256;
-    let apart = low(g / 256);
     IntervalEntry {
-        begin: told[6],
-        end: told[7],
-        half: low(a),
-        task: task_in(apart, low(b)),
-        work: low(c),
-        copiedout: task_in(apart / 2, low(d)),
-        chosen: task_in(apart / 4, low(e)),
-        fate: low(f),
-        promoted: task_in(0, low(g)),
+        begin: told[10],
+        end: told[11],
+        half: low(told[12]),
+        task: task_in(told[13]),
+        work: low(told[14]),
+        copiedout: task_in(told[15]),
+        chosen: task_in(told[16]),
+        fate: low(told[17]),
+        promoted: task_in(told[18]),
     }
 }
 
-fn done_in(told: &[u64; 9]) -> Done
+fn done_in(told: &[u64; WORDS]) -> Done
     ensures { λ r. ⌜ r ≡ telling.done-in (now (told .entry)) ⌝ }
 {
-    if low(told[1] / 4294967296) == 0 {
+    if told[2] == 0 {
         return Done::NoJob;
     }
     Done::Job(job_in(told))
 }
 
-fn closing_in(told: &[u64; 9]) -> Closing
+fn closing_in(told: &[u64; WORDS]) -> Closing
     ensures { λ r. ⌜ r ≡ telling.closing-in (now (told .entry)) ⌝ }
 {
-    let number = low(told[1] / 1099511627776);
+    let number = told[3];
     if number == 0 {
         return Closing::Unclosed;
     }
@@ -88,16 +76,16 @@ fn closing_in(told: &[u64; 9]) -> Closing
     Closing::AfterReleases(interval_in(told))
 }
 
-fn due_in(told: &[u64; 9]) -> Due
+fn due_in(told: &[u64; WORDS]) -> Due
     ensures { λ r. ⌜ r ≡ telling.due-in (now (told .entry)) ⌝ }
 {
-    if low(told[1] / 281474976710656) == 0 {
+    if told[4] == 0 {
         return Due::Never;
     }
     Due::Tick(told[0])
 }
 
-pub fn occurred_in(told: &[u64; 9]) -> Occurred
+pub fn occurred_in(told: &[u64; WORDS]) -> Occurred
     ensures { λ r. ⌜ r ≡ telling.occurred-in (now (told .entry)) ⌝ }
 {
     Occurred {

@@ -4,6 +4,7 @@ use crate::Step;
 use crate::answering::occurred_in;
 use crate::refusing::refusal;
 use crate::stepping::steps;
+use crate::telling::WORDS;
 use rules::Answer;
 use rules::View;
 ghost use mathlib.Core.Path.{_≡_};
@@ -20,7 +21,7 @@ fn served(d: Dispatcher, t: u64, set: u32) -> Step
     let mut release = d.release;
     let mut blocked = d.blocked;
     let mut waits = d.waits;
-    let mut told = [0u64; 9];
+    let mut told = [0u64; WORDS];
     steps(
         t,
         set,

@@ -17,6 +17,7 @@ use rules::MarkAnswer;
 pub use stepping::steps;
 use table::Columns;
 use table::Refusal;
+pub use telling::WORDS;
 
 // The state of the rules as it is kept: three arrays of numbers, whose places `rules::at` names; of each task the priority and the lengths;
 // and of each task's job the release time and the count of blocked intervals, and the time of its waiting release. C and Rust keep

@@ -1,17 +1,23 @@
 // Steps a to g over the arrays that keep a dispatcher, each changed where it is. What occurs is told as it occurs: an answer that is made
 // first and told afterwards costs as much again. The test of an interval's end stands twice: as one function with two callers it is not
 // inlined.
-use crate::telling::nine;
-use crate::telling::summed;
+use crate::telling::WORDS;
+use crate::telling::all_words;
 use crate::telling::tell_due;
+use crate::telling::tell_flags;
 use crate::telling::tell_interval;
 use crate::telling::tell_job;
 use rules::at;
 use rules::codes;
 use table::Columns;
-ghost use Prim.Native.Nat.{_^_, _≤_};
+ghost use Prim.Native.Nat.{_≤_};
 ghost use Rattle.rules.specs.Kept.{kept, by-task, beside};
 ghost use Rattle.dispatcher.specs.Promises.{EndsCopyOut, EndsBefore, EndsAfter, StepsTo};
+
+// On which side of the releases of its instant an interval ended.
+const BEFORE: u64 = 1;
+
+const AFTER: u64 = 2;
 
 fn end_copyout(
     t: u64,
@@ -20,11 +26,10 @@ fn end_copyout(
     codes: &mut [u8; 9],
     release: &[u64; 32],
     blocked: &[u8; 32],
-    told: &mut [u64; 9],
+    told: &mut [u64; WORDS],
 ) -> u64
     ensures { λ x. ⌜ EndsCopyOut t (now (release .entry)) (now (blocked .entry)) (now (times .entry))
         (now (sets .entry)) (now (codes .entry)) (now (told .entry)) (now (sets .exit)) (now (codes .exit)) (now (told .exit)) x ⌝ }
-    ensures { λ x. ⌜ x ≤ 2 ^ 32 ⌝ }
 {
     if rules::copyout_ends(t, times, codes) {
         tell_job(
@@ -32,7 +37,7 @@ fn end_copyout(
             told,
         );
         rules::copied_out(sets, codes);
-        return 4294967296;
+        return 1;
     }
     0
 }
@@ -44,19 +49,19 @@ fn end_before(
     codes: &mut [u8; 9],
     priority: &[u8; 32],
     blocked: &mut [u8; 32],
-    told: &mut [u64; 9],
+    told: &mut [u64; WORDS],
 ) -> u64
     ensures { λ x. ⌜ EndsBefore t (now (priority .entry))
         (kept (now (times .entry)) (now (sets .entry)) (now (codes .entry))) (now (blocked .entry)) (now (told .entry))
         (kept (now (times .exit)) (now (sets .exit)) (now (codes .exit))) (now (blocked .exit)) (now (told .exit)) x ⌝ }
-    ensures { λ x. ⌜ x ≤ 2 ^ 40 ⌝ }
+    ensures { λ x. ⌜ x ≤ 1 ⌝ }
 {
     if rules::is_over(codes) {
         let p = rules::promoted(sets, codes, priority);
         rules::count_blocked(sets, codes, priority, blocked);
         tell_interval(t, p, times, codes, told);
         rules::close(p, times, sets, codes);
-        return 1099511627776;
+        return BEFORE;
     }
     0
 }
@@ -69,12 +74,12 @@ fn end_after(
     priority: &[u8; 32],
     columns: &Columns,
     blocked: &mut [u8; 32],
-    told: &mut [u64; 9],
+    told: &mut [u64; WORDS],
 ) -> u64
     ensures { λ x. ⌜ EndsAfter t (now (priority .entry)) (now (columns .entry))
         (kept (now (times .entry)) (now (sets .entry)) (now (codes .entry))) (now (blocked .entry)) (now (told .entry))
         (kept (now (times .exit)) (now (sets .exit)) (now (codes .exit))) (now (blocked .exit)) (now (told .exit)) x ⌝ }
-    ensures { λ x. ⌜ x ≤ 2 ^ 41 ⌝ }
+    ensures { λ x. ⌜ x ≤ 2 ⌝ }
 {
     if codes[at::COPYIN] == codes::NO_INTERVAL {
         return 0;
@@ -85,7 +90,7 @@ fn end_after(
         rules::count_blocked(sets, codes, priority, blocked);
         tell_interval(t, p, times, codes, told);
         rules::close(p, times, sets, codes);
-        return 2199023255552;
+        return AFTER;
     }
     0
 }
@@ -101,7 +106,7 @@ pub fn steps<'a>(
     release: &mut [u64; 32],
     blocked: &mut [u8; 32],
     waits: &mut [u64; 32],
-    told: &mut [u64; 9],
+    told: &mut [u64; WORDS],
 )
     ensures { λ _. ⌜ StepsTo t set
         (kept (now (times .entry)) (now (sets .entry)) (now (codes .entry)))
@@ -111,7 +116,7 @@ pub fn steps<'a>(
         (beside (now (priority .entry)) (now (columns .entry)) (by-task (now (release .exit)) (now (blocked .exit)) (now (waits .exit))))
         (now (told .exit)) ⌝ }
 {
-    nine(told);
+    all_words(told);
     rules::stamp(t, times, sets, codes);
     let done = end_copyout(t, times, sets, codes, release, blocked, told);
     rules::others_end(t, times, codes, columns);
@@ -132,5 +137,5 @@ pub fn steps<'a>(
     let last = end_after(t, times, sets, codes, priority, columns, blocked, told);
     rules::begin_interval(t, held, times, sets, codes, priority, columns);
     let next = tell_due(times, codes, told);
-    told[1] = summed(r.skipped, done, first, last, next);
+    tell_flags(r.skipped, done, first, last, next, told);
 }

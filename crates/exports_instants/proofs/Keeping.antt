@@ -37,7 +37,7 @@ module _ (k : Kept) (b : Beside) (t set : ℕ) {number : ℕ} (n : number ≡ re
   served-at {told = told} {told' = told'} none x = record {
     number-is = sym none ∙ n;
     state-is = x .state ∙ sym (ap (λ (s : calls.Step). s .state) (answer-served none));
-    told-is = subst (λ (s : calls.Step). ToldAs (s .answer) told told') (sym (answer-served none)) (record { apart = x .apart; told-is = x .told-is; reads = x .reads });
+    told-is = subst (λ (s : calls.Step). ToldAs (s .answer) told told') (sym (answer-served none)) (record { told-is = x .told-is; reads = x .reads });
     untouched = λ f. absurd (f (sym n ∙ none));
   }
 

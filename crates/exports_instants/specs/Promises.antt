@@ -14,8 +14,7 @@ use Rattle.guarantees.specs.Claim.{Claim}
 
 -- what occurred is told, and can be read back; a refused call tells nothing
 pub record Tells (o : Occurred) (told told' : List ℕ) : Type 0 where
-  pub apart : ℕ
-  pub told-is : told' ≡ told-of o apart told
+  pub told-is : told' ≡ told-of o told
   pub reads : occurred-in told' ≡ o
 
 abbrev pub ToldAs : Answer → List ℕ → List ℕ → Type 0

@@ -10,20 +10,21 @@ ghost use Rattle.rules.specs.Kept.{kept, beside, by-task, read};
 ghost use Rattle.dispatcher.specs.Dispatcher.{state-of};
 ghost use Rattle.exports_instants.specs.Promises.{Answered, Shows, Marked, OpenedAt};
 
-// An instant of the dispatcher that the first eight arrays keep: 0 and what occurred in `told`, or the number of the refusal.
+// An instant of the dispatcher that the arrays keep: 0 and what occurred in `told`, or the number of the refusal. What every instant looks
+// at comes first, in registers.
 #[no_mangle]
-pub extern "C" fn gateway_instant_v2<'a>(
+pub extern "C" fn gateway_instant_v3<'a>(
+    time: u64,
+    set: u32,
     times: &mut [u64; 7],
     sets: &mut [u32; 6],
     codes: &mut [u8; 9],
+    told: &mut [u64; 19],
     priority: &'a [u8; 32],
     columns: &'a [u32; 96],
     release: &mut [u64; 32],
     blocked: &mut [u8; 32],
     waits: &mut [u64; 32],
-    time: u64,
-    set: u32,
-    told: &mut [u64; 9],
 ) -> u8
     ensures { λ r. ⌜ Answered
         (kept (now (times .entry)) (now (sets .entry)) (now (codes .entry)))
@@ -57,7 +58,7 @@ pub extern "C" fn gateway_instant_v2<'a>(
 // is open, its work, and the four values. It is looked at once for each array: so few numbers are wanted at a time that all of them stay
 // in registers.
 #[no_mangle]
-pub extern "C" fn gateway_now_v2<'a>(
+pub extern "C" fn gateway_now_v3<'a>(
     times: &'a [u64; 7],
     sets: &'a [u32; 6],
     codes: &'a [u8; 9],
@@ -85,7 +86,7 @@ pub extern "C" fn gateway_now_v2<'a>(
 
 // A mark call on the dispatcher whose sets are lent: 0, or the number of the refusal.
 #[no_mangle]
-pub extern "C" fn gateway_mark_v2(sets: &mut [u32; 6], task: u8, mark: u8) -> u8
+pub extern "C" fn gateway_mark_v3(sets: &mut [u32; 6], task: u8, mark: u8) -> u8
     ensures { λ r. ⌜ Marked (now (sets .entry)) task mark r (now (sets .exit)) ⌝ }
 {
     let number = dispatcher::mark_refusal(task, mark, sets);
@@ -132,7 +133,7 @@ fn put_state(
 
 // Opens a dispatcher from task entries into the arrays that keep it: 0, or the number of the refusal, whose place `place` then has.
 #[no_mangle]
-pub extern "C" fn gateway_open_v2(
+pub extern "C" fn gateway_open_v3(
     entries: &[u8],
     times: &mut [u64; 7],
     sets: &mut [u32; 6],

@@ -4,11 +4,11 @@ use Rattle.dispatcher.proofs.answering.job_in.Statement.{statement}
 use Rattle.dispatcher.proofs.answering.job_in.Tie as tie
 
 returns : tie.Need-returns
-returns c = simp (c .low2 .ensures, c .before .before .before .before .low .ensures)
+returns c = simp (c .low2 .ensures, c .before .before .before .before .before .low .ensures)
 
 pub job-in-spec : {M : Type 1} → statement M
 job-in-spec =
     tie.close
     (tie.spec
     (λ c. search needs) (λ c κs. search needs) (λ c. search needs) (λ c. search needs) (λ c. search needs)
-    (λ c κs. search needs) returns)
+    (λ c. search needs) (λ c κs. search needs) returns)

@@ -1,18 +1,17 @@
--- `dispatcher::answering::task_in` meets its contract: by the byte, and then by the bit. Assumes nothing.
-use borrow.Author.Tests.{eq-eqb, ne-eqb}
+-- `dispatcher::answering::task_in` meets its contract: by whether the word is a byte. Assumes nothing.
+use borrow.Author.Tests.{lt-ltb, le-ltb}
+use borrow.Author.Needs.{needs}
 use Rattle.dispatcher.proofs.answering.task_in.Statement.{statement}
 use Rattle.dispatcher.proofs.answering.task_in.Tie as tie
 
 returns : tie.Need-returns
-returns c = simp (ne-eqb _ _ (c .if1 .taken))
+returns c = simp (lt-ltb _ _ (c .if1 .taken))
 
 returns-2 : tie.Need-returns-2
-returns-2 c = simp (eq-eqb _ _ (c .before .if1 .left), eq-eqb _ _ (c .if2 .taken))
-
-returns-3 : tie.Need-returns-3
-returns-3 c = simp (eq-eqb _ _ (c .before .if1 .left), ne-eqb _ _ (c .if2 .left))
+returns-2 c = simp (le-ltb _ _ (c .if1 .left))
 
 pub task-in-spec : {M : Type 1} → statement M
-task-in-spec = tie.close
+task-in-spec =
+    tie.close
     (tie.spec
-    returns returns-2 returns-3)
+    (λ c. search needs) returns returns-2)

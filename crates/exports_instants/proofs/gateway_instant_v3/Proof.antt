@@ -1,9 +1,9 @@
--- `exports_instants::gateway_instant_v2` meets its contract: the refusals in their order, then the steps. Assumes nothing.
+-- `exports_instants::gateway_instant_v3` meets its contract: the refusals in their order, then the steps. Assumes nothing.
 use Rattle.rules.specs.Kept.{kept, beside, by-task}
 use Rattle.exports_instants.proofs.Keeping.{refused-at, served-at}
 use borrow.Author.Needs.{needs}
-use Rattle.exports_instants.proofs.gateway_instant_v2.Statement.{statement}
-use Rattle.exports_instants.proofs.gateway_instant_v2.Tie as tie
+use Rattle.exports_instants.proofs.gateway_instant_v3.Statement.{statement}
+use Rattle.exports_instants.proofs.gateway_instant_v3.Tie as tie
 
 returns : tie.Need-returns
 returns c =
@@ -15,7 +15,7 @@ returns-2 c =
     let a = c .before .before .before .before .before .before .before .before .before .before .before .before .before .args in
     served-at (kept (a .times .now) (a .sets .now) (a .codes .now)) (beside (a .priority .now) (a .columns .now) (by-task (a .release .now) (a .blocked .now) (a .waits .now))) (a .time) (a .set) (c .before .before .before .before .before .before .before .before .before .refusal .ensures _) (c .before .before .before .before .before .before .before .before .if1 .left) (c .steps .ensures)
 
-pub gateway-instant-v2-spec : {M : Type 1} → statement M
-gateway-instant-v2-spec = tie.close
+pub gateway-instant-v3-spec : {M : Type 1} → statement M
+gateway-instant-v3-spec = tie.close
     (tie.spec
     (λ c κs. search needs) returns (λ c κs. search needs) returns-2)

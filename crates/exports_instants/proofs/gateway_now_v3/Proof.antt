@@ -1,10 +1,10 @@
--- `exports_instants::gateway_now_v2` meets its contract: number by number. Assumes nothing.
+-- `exports_instants::gateway_now_v3` meets its contract: number by number. Assumes nothing.
 use mathlib.Core.Path.{ap}
 use mathlib.Core.List.{[], _∷_}
 use Rattle.rules.specs.declared.View.{View}
 use borrow.Author.Needs.{needs}
-use Rattle.exports_instants.proofs.gateway_now_v2.Statement.{statement}
-use Rattle.exports_instants.proofs.gateway_now_v2.Tie as tie
+use Rattle.exports_instants.proofs.gateway_now_v3.Statement.{statement}
+use Rattle.exports_instants.proofs.gateway_now_v3.Tie as tie
 
 returns : tie.Need-returns
 returns c b =
@@ -17,7 +17,7 @@ returns c b =
           (c .before .before .before .viewed2 .ensures b);
     }
 
-pub gateway-now-v2-spec : {M : Type 1} → statement M
-gateway-now-v2-spec = tie.close
+pub gateway-now-v3-spec : {M : Type 1} → statement M
+gateway-now-v3-spec = tie.close
     (tie.spec
     (λ c κs. search needs) (λ c κs. search needs) (λ c κs. search needs) returns)

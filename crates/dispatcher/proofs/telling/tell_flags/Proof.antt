@@ -1,0 +1,15 @@
+-- `dispatcher::telling::tell_flags` meets its contract: its four words. Assumes nothing.
+use native.Mathlib.Omega.{arith}
+use borrow.Author.Needs.{needs}
+use Rattle.dispatcher.proofs.telling.tell_flags.Statement.{statement}
+use Rattle.dispatcher.proofs.telling.tell_flags.Tie as tie
+
+returns : tie.Need-returns
+returns c = let w = c .wider .ensures in record { told-is = rw (w .0); skipped-fits = omega (arith, w .0, w .1) }
+
+pub tell-flags-spec : {M : Type 1} → statement M
+tell-flags-spec =
+    tie.close
+    (tie.spec
+    (λ c κs. search needs) (λ c. search needs) (λ c. search needs) (λ c. search needs) (λ c. search needs)
+    (λ c. search needs) returns)
