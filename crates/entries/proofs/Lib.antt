@@ -2,3 +2,4 @@ pub mod Laws
 pub mod Places
 pub mod Front
 pub mod RoundTrip
+pub mod Each

@@ -8,9 +8,9 @@ use borrow.Author.Tests.{le-leb, ne-eqb}
 use lib.ListN.{length}
 use Rattle.words.specs.Words.{bytesOf, numberAt}
 use Rattle.words.proofs.Laws.{one-byte, behind, round-trip-at}
-use Rattle.entries.specs.Types.{MaybeTask, NoTask, Task, Release, ReleaseEntry, JobEntry, IntervalEntry, RecordEntry, JobDone, IntervalEnded, ReleaseSkipped}
-use Rattle.entries.specs.Entries.{entry-at, release-at, release-bytes, task-byte, job-bytes, choice-bytes, interval-bytes, skipped-bytes, task-of, job-at, interval-at, record-entry-at}
-use Rattle.entries.specs.RoundTrip.{TaskFits, JobFits, IntervalFits, ReadAs, RoundTrip}
+use Rattle.entries.specs.Types.{MaybeTask, NoTask, Task, Release, ReleaseEntry, JobEntry, IntervalEntry, RecordEntry, MalformedRecord, JobDone, IntervalEnded, ReleaseSkipped}
+use Rattle.entries.specs.Entries.{entry-at, release-at, release-bytes, task-byte, job-bytes, choice-bytes, interval-bytes, skipped-bytes, entry-bytes, task-of, job-at, interval-at, record-entry-at}
+use Rattle.entries.specs.RoundTrip.{TaskFits, JobFits, IntervalFits, EntryFits, ReadAs, RoundTrip}
 use Rattle.entries.proofs.Places.{release-behind, left-behind, entry-behind}
 
 named : (t : MaybeTask) → TaskFits t → task-of (task-byte t) ≡ t
@@ -105,10 +105,15 @@ anywhere : (bytes : List ℕ) (e : RecordEntry) → ((rest : List ℕ) → recor
 anywhere bytes e h front rest =
     ap (record-entry-at (front ++ (bytes ++ rest))) (sym (add-zero (length front))) ∙ entry-behind front (bytes ++ rest) 0 ∙ h rest
 
+entry-read : (e : RecordEntry) → EntryFits e → (rest : List ℕ) → record-entry-at (entry-bytes e ++ rest) 0 ≡ e
+unfolding EntryFits
+entry-read (MalformedRecord n) h rest = absurd h
+entry-read (JobDone e) h rest = job-read e rest h
+entry-read (IntervalEnded e) h rest = interval-read e rest h
+entry-read (ReleaseSkipped r) h rest = skipped-read (r .task) (r .time) rest h
+
 pub round-trip : RoundTrip
 round-trip = record {
-  job = λ e h. anywhere (job-bytes e) (JobDone e) (λ rest. job-read e rest h);
-  interval = λ e h. anywhere (interval-bytes e) (IntervalEnded e) (λ rest. interval-read e rest h);
-  skipped = λ n t h. anywhere (skipped-bytes n t) _ (λ rest. skipped-read n t rest h);
+  entry = λ e h. anywhere (entry-bytes e) e (entry-read e h);
   release = λ r h front rest. release-read r h front rest;
 }

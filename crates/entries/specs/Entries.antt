@@ -71,6 +71,18 @@ interval-bytes e = 17 ∷ (bytesOf 8 (e .begin) ++ (bytesOf 8 (e .end) ++ choice
 unfoldable pub skipped-bytes : ℕ → ℕ → List ℕ
 skipped-bytes n t = 18 ∷ n ∷ bytesOf 8 t
 
+-- an entry's bytes: none where it is refused
+abbrev pub entry-bytes : RecordEntry → List ℕ
+entry-bytes (MalformedRecord n) = []
+entry-bytes (JobDone e) = job-bytes e
+entry-bytes (IntervalEnded e) = interval-bytes e
+entry-bytes (ReleaseSkipped r) = skipped-bytes (r .task) (r .time)
+
+-- what each of some entries gives, one behind the other
+unfoldable pub each : (RecordEntry → List ℕ) → List RecordEntry → List ℕ
+each of [] = []
+each of (e ∷ es) = of e ++ each of es
+
 -- ---- An entry of the record, taken apart: each field at its place behind the kind byte, as it is written above
 
 unfoldable pub task-of : ℕ → MaybeTask

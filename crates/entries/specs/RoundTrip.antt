@@ -3,8 +3,8 @@ use mathlib.Core.Path.{_≡_}
 use mathlib.Core.List.{List, _++_}
 use Prim.Native.Nat.{ℕ, _^_, _<_}
 use lib.ListN.{length}
-use Rattle.entries.specs.Types.{MaybeTask, NoTask, Task, Release, ReleaseEntry, JobEntry, IntervalEntry, RecordEntry, JobDone, IntervalEnded, ReleaseSkipped}
-use Rattle.entries.specs.Entries.{release-bytes, entry-at, job-bytes, interval-bytes, skipped-bytes, record-entry-at}
+use Rattle.entries.specs.Types.{MaybeTask, NoTask, Task, Release, ReleaseEntry, JobEntry, IntervalEntry, RecordEntry, MalformedRecord, JobDone, IntervalEnded, ReleaseSkipped}
+use Rattle.entries.specs.Entries.{release-bytes, entry-at, entry-bytes, record-entry-at}
 
 -- ---- Numbers that fit their fields: a time has 8 bytes, and no task has the number that stands for none
 
@@ -25,6 +25,12 @@ pub record IntervalFits (e : IntervalEntry) : Type 0 where
   pub chosen-fits : TaskFits (e .chosen)
   pub promoted-fits : TaskFits (e .promoted)
 
+unfoldable pub EntryFits : RecordEntry → Type 0
+EntryFits (MalformedRecord n) = ⊥
+EntryFits (JobDone e) = JobFits e
+EntryFits (IntervalEnded e) = IntervalFits e
+EntryFits (ReleaseSkipped r) = r .time < 256 ^ 8
+
 -- ---- The claim
 
 -- bytes at any place, with any bytes before and behind them, are an entry
@@ -32,8 +38,6 @@ abbrev pub ReadAs : List ℕ → RecordEntry → Type 0
 ReadAs bytes e = (front rest : List ℕ) → record-entry-at (front ++ (bytes ++ rest)) (length front) ≡ e
 
 pub record RoundTrip : Type 0 where
-  pub job : (e : JobEntry) → JobFits e → ReadAs (job-bytes e) (JobDone e)
-  pub interval : (e : IntervalEntry) → IntervalFits e → ReadAs (interval-bytes e) (IntervalEnded e)
-  pub skipped : (n t : ℕ) → t < 256 ^ 8 → ReadAs (skipped-bytes n t) (ReleaseSkipped (record { task = n; time = t }))
+  pub entry : (e : RecordEntry) → EntryFits e → ReadAs (entry-bytes e) e
   -- and a release entry of an input
   pub release : (r : Release) → r .time < 256 ^ 8 → (front rest : List ℕ) → entry-at (front ++ (release-bytes r ++ rest)) (length front) ≡ ReleaseEntry r

@@ -10,8 +10,10 @@ use borrow.Author.Tests.{ltb-true, ltb-false, lt-ltb, le-ltb, le-leb, lt-leb, le
 use lib.Dec.{ltb, leb}
 use lib.ListN.{length, getD, take, drop, replicate, set, length-append, take-append-drop}
 use lib.Seq.{set-append-seam, take-append-seam, set-at, append-snoc, take-suc, drop-cons, length-take-le}
-use Rattle.lines.specs.Types.{Text}
-use Rattle.lines.specs.Lines.{digits, decimal}
+use Rattle.entries.specs.Entries.{each}
+use Rattle.entries.proofs.Each.{each-one}
+use Rattle.lines.specs.Types.{RecordEntry, Text}
+use Rattle.lines.specs.Lines.{digits, decimal, line-of}
 use Rattle.lines.specs.Text.{text-of, shown, room, written, Prints, Appended}
 
 -- ---- a number's digits
@@ -84,6 +86,10 @@ nothing t n = record { grows = λ l e. e ∙ ap text-of (sym (append-nil l)); fi
 
 pub at-most : {t r : Text} {a : List ℕ} {m : ℕ} (n : ℕ) → m ≤ n → Appended t r a m → Appended t r a n
 at-most {t} {r} {a} {m} n h p = record { grows = p .grows; fits = omega (arith, p .fits) }
+
+-- the line of one entry
+pub one-entry : {t r : Text} (e : RecordEntry) {m : ℕ} → Appended t r (line-of e) m → Appended t r (each line-of (e ∷ [])) m
+one-entry {t} {r} e {m} p = subst (λ (l : List ℕ). Appended t r l m) (sym (each-one line-of e)) p
 
 -- what was appended to the text of no bytes
 pub printed : {t r : Text} {a : List ℕ} {m : ℕ} → (t ≡ text-of []) × (t .len ≡ 0) → m ≤ 192 → Appended t r a m → Prints r a

@@ -4,8 +4,10 @@ use mathlib.Core.Bool.{cond}
 use mathlib.Core.List.{List, [], _∷_, _++_}
 use Prim.Native.Nat.{ℕ, zero, suc, _+_, _/_, _%_}
 use lib.Dec.{ltb}
+use Rattle.entries.specs.Entries.{each}
 use Rattle.rules.specs.Answers.{mark-number}
-use Rattle.lines.specs.Types.{MaybeTask, NoTask, Task, JobEntry, IntervalEntry, Refusal, NoRefusal, Alone, AtEntry, Done, NoJob, Job, Closing, Unclosed, BeforeReleases, AfterReleases, Due, Never, Tick, Occurred, Answer, Refused, Served, MarkAnswer, MarkRefused, MarkServed}
+use Rattle.rules.specs.Entries.{done-entries, closed-entries}
+use Rattle.lines.specs.Types.{MaybeTask, NoTask, Task, JobEntry, IntervalEntry, RecordEntry, MalformedRecord, JobDone, IntervalEnded, ReleaseSkipped, Refusal, NoRefusal, Alone, AtEntry, Due, Never, Tick, Occurred, Answer, Refused, Served, MarkAnswer, MarkRefused, MarkServed}
 use Rattle.table.specs.Refusals.{refusal-number, refusal-place}
 
 -- ---- Fields
@@ -62,6 +64,13 @@ timed-line letter task time = letter ∷ (field task ++ (field time ++ newline))
 abbrev pub skipped-line : ℕ → ℕ → List ℕ
 skipped-line task time = timed-line 83 task time
 
+-- of an entry of a record: no bytes where it is refused
+abbrev pub line-of : RecordEntry → List ℕ
+line-of (MalformedRecord n) = []
+line-of (JobDone e) = job-line e
+line-of (IntervalEnded e) = interval-line e
+line-of (ReleaseSkipped r) = skipped-line (r .task) (r .time)
+
 -- L: a release of the list that made a record
 abbrev pub listed-line : ℕ → ℕ → List ℕ
 listed-line task time = timed-line 76 task time
@@ -94,18 +103,9 @@ cut-short-line = 88 ∷ newline
 unfoldable pub answer-line : Occurred → List ℕ
 answer-line o = 65 ∷ (field (o .skipped) ++ (due-field (o .due) ++ newline))
 
-abbrev pub done-lines : Done → List ℕ
-done-lines NoJob = []
-done-lines (Job e) = job-line e
-
-abbrev pub closing-lines : Closing → List ℕ
-closing-lines Unclosed = []
-closing-lines (BeforeReleases e) = interval-line e
-closing-lines (AfterReleases e) = interval-line e
-
--- what occurred at a served instant, in that order: the job done (step a), the interval closed (step b or f), the answer
+-- what occurred at a served instant: its entries, where the answer has the skipped ones, and then the answer
 unfoldable pub served-lines : Occurred → List ℕ
-served-lines o = done-lines (o .done) ++ (closing-lines (o .closed) ++ answer-line o)
+served-lines o = each line-of (done-entries (o .done) ++ closed-entries (o .closed) []) ++ answer-line o
 
 abbrev pub instant-lines : Answer → List ℕ
 instant-lines (Refused n) = refused-call-line n

@@ -1,5 +1,5 @@
 -- The declared types and their variants, under their own names.
-pub use Rattle.rules.specs.Types.{MaybeTask, NoTask, Task, JobEntry, IntervalEntry, Refusal, NoRefusal, Alone, AtEntry}
+pub use Rattle.rules.specs.Types.{MaybeTask, NoTask, Task, JobEntry, IntervalEntry, RecordEntry, MalformedRecord, JobDone, IntervalEnded, ReleaseSkipped, Refusal, NoRefusal, Alone, AtEntry}
 pub use Rattle.rules.specs.declared.Done.{Done}
 pub use Rattle.rules.specs.declared.Done.the-variants.{NoJob, Job}
 pub use Rattle.rules.specs.declared.Closing.{Closing}

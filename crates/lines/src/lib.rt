@@ -13,7 +13,9 @@ ghost use mathlib.Core.Path.{_≡_};
 ghost use mathlib.Core.List.{[], _∷_};
 ghost use Prim.Native.Nat.{_+_, _≤_, _<_};
 ghost use lib.ListN.{length};
-ghost use Rattle.lines.specs.Lines.{decimal, field, task-field, due-field, no-field, newline, job-line, interval-line, timed-line, skipped-line, listed-line, done-lines, closing-lines, answer-line, served-lines, refused-input-line, refused-call-line, cut-short-line, instant-lines, mark-lines, opening-lines};
+ghost use Rattle.entries.specs.Entries.{each};
+ghost use Rattle.rules.specs.Entries.{done-entries, closed-entries};
+ghost use Rattle.lines.specs.Lines.{decimal, field, task-field, due-field, no-field, newline, job-line, interval-line, timed-line, skipped-line, listed-line, line-of, answer-line, served-lines, refused-input-line, refused-call-line, cut-short-line, instant-lines, mark-lines, opening-lines};
 ghost use Rattle.lines.specs.Text.{text-of, shown, room, written, Appended, Prints};
 
 // A text: the first `len` of the bytes. All lines of one answer fit: a job's line takes at most 73 bytes, an interval's 72 and the
@@ -123,7 +125,7 @@ impl Text {
 
     fn done(self, done: Done) -> Text
         requires { ⌜ self .len + 73 ≤ 192 ⌝ }
-        ensures { λ r. ⌜ Appended self r (done-lines done) 73 ⌝ }
+        ensures { λ r. ⌜ Appended self r (each line-of (done-entries done)) 73 ⌝ }
     {
         match done {
             Done::NoJob => self,
@@ -133,7 +135,7 @@ impl Text {
 
     fn closing(self, closed: Closing) -> Text
         requires { ⌜ self .len + 72 ≤ 192 ⌝ }
-        ensures { λ r. ⌜ Appended self r (closing-lines closed) 72 ⌝ }
+        ensures { λ r. ⌜ Appended self r (each line-of (closed-entries closed [])) 72 ⌝ }
     {
         match closed {
             Closing::Unclosed => self,

@@ -11,7 +11,8 @@ use Rattle.rules.specs.declared.Call.{Call}
 use Rattle.rules.specs.declared.Call.the-variants.{Instant, Mark}
 use Rattle.rules.specs.Calls.{Step, MarkStep, Opening, opening, instant, mark, after-call}
 use Rattle.rules.specs.Answers.{answer-number, due-values, mark-number}
-use Rattle.run.specs.Run.{Moment, moment, record-bytes}
+use Rattle.run.specs.Run.{Moment, record-bytes}
+use Rattle.record.specs.FileClaim.{served-moment}
 use Rattle.record.specs.Writing.{Written, file, outcome-number, outcome-value}
 use Rattle.table.specs.Refusals.{refusal-number, refusal-place}
 
@@ -52,7 +53,7 @@ called d (Mark n m ∷ cs) = let s : MarkStep = mark d n m in mark-number (s .an
 -- the record of the jobs done and the intervals closed by the calls
 unfoldable pub called-moments : State → List Call → List Moment
 called-moments d [] = []
-called-moments d (Instant t set ∷ cs) = let s : Step = instant d t set in moment t (s .answer) ++ called-moments (s .state) cs
+called-moments d (Instant t set ∷ cs) = let s : Step = instant d t set in served-moment t (s .state) (s .answer) ++ called-moments (s .state) cs
 called-moments d (Mark n m ∷ cs) = called-moments (mark d n m .state) cs
 
 -- the state that calls hand back, and one with a release of task n, at t, as the only one that waits

@@ -14,7 +14,8 @@ use Rattle.sets.proofs.Laws.{by-test, left, right}
 use Rattle.rules.specs.Calls.{opened}
 use Rattle.dispatcher.specs.declared.Dispatcher.{Dispatcher}
 use Rattle.dispatcher.specs.Dispatcher.{state-of}
-use Rattle.run.specs.Run.{run, record-bytes}
+use Rattle.entries.specs.Entries.{each}
+use Rattle.run.specs.Run.{run, record-entries, record-bytes}
 use Rattle.run.specs.Pieces.{Makes}
 use Rattle.run.proofs.Reaching.{same-slice, front}
 use Rattle.record.specs.Types.{TaskPart, NoRefusal, Piece}
@@ -114,7 +115,7 @@ module _ (s stored : List ℕ) (k : TaskPart) (budget : ℕ) (d : Dispatcher) (e
 module _ {s whole stored : List ℕ} (d : Dispatcher) {at size left : ℕ} (h : Holding s whole stored (record { state = state-of d; at = at }) size left) where
   -- no instant is left: the record is the whole, or it is longer
   pub ended : left ≡ 0 → eqb size (length stored) ≡ same-bytes whole stored
-  unfolding run record-bytes
+  unfolding run record-bytes record-entries each
   ended e =
       let is : whole ≡ take size stored = sym (h .rest) ∙ ap (λ (n : ℕ). take size stored ++ run-bytes s (record { state = state-of d; at = at }) n) e ∙ append-nil (take size stored) in
       let long : length whole ≡ size = ap length is ∙ length-take-le size stored (h .within) in

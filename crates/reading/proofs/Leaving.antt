@@ -14,7 +14,8 @@ use Rattle.rules.specs.With.{at-clock}
 use Rattle.rules.specs.Order.{highest-of}
 use Rattle.rules.specs.Instant.{completed, after-done, without-done, step-a, close, step-b, taken, deferred, skipped, original, stamped, step-c, cancel, step-d, choose, step-e, begin, step-g, fresh-stage, at-a, at-b, new-at, late-at, at-e, at-f, at-g, occurred}
 use Rattle.rules.specs.Calls.{opened, after-call}
-use Rattle.guarantees.specs.Types.{_≡_, refl, sym, ap, _∙_, subst, Bool, true, false, cond, _&&_, _||_, List, [], _∷_, ℕ, _+_, _<_, Table, Jobs, WaitingReleases, MaybeTask, NoTask, Task, CopyOut, NoCopyOut, CopyingOut, CopiedOut, Interval, Phase, Between, Within, State, Done, Stage, Call, Step}
+use Rattle.guarantees.specs.Types.{_≡_, refl, sym, ap, _∙_, subst, Bool, true, false, cond, _&&_, _||_, List, [], _∷_, ℕ, _+_, _<_, Table, Jobs, WaitingReleases, MaybeTask, NoTask, Task, CopyOut, NoCopyOut, CopyingOut, CopiedOut, Interval, Phase, Between, Within, State, Done, Stage, Call, Instant, Step}
+use mathlib.Core.List.{_++_}
 use Rattle.guarantees.specs.History.{after-calls}
 use Rattle.guarantees.specs.States.{copyout-known}
 use Rattle.guarantees.proofs.Cases.{held-at, b-cases, d-cases, e-cases, g-cases}
@@ -24,9 +25,9 @@ use Rattle.guarantees.proofs.Releases.{waits-after, is-taken, is-deferred, is-s
 use Rattle.guarantees.proofs.Tallies.{stamped-length, stamped-exact}
 use Rattle.guarantees.proofs.Closings.{done-so}
 use Rattle.run.specs.Files.{Releases, releases-of}
-use Rattle.run.specs.Run.{Moment, released-from, released-at, released-after, moments-of}
+use Rattle.run.specs.Run.{Moment, moment, released-from, released-at, released-after, moments-of}
 use Rattle.run.proofs.Listing
-use Rattle.record.specs.FileClaim.{Feeds, answers, Demand3Files}
+use Rattle.record.specs.FileClaim.{Feeds, served-moment, answers, Demand3Files}
 use Rattle.record.proofs.Accepted.{Sorted, Accepted, accepted}
 use Rattle.record.proofs.Released.{Under, none-under, under-more}
 use Rattle.record.proofs.TasksAlone.{fair}
@@ -182,7 +183,7 @@ module _ (test : Release → Bool) where
 
   -- an instant
   instant-leaves : (present : ℕ) (tasks : present < 2 ^ 32) (d : State) (t set : ℕ) → Parted present tasks d (d .phase) → Long (held d)
-      → tally test (moment-told (record { time = t; occurred = occurred d t set })) + held-with (held (at-g d t set)) ≡ held-with (held d) + among test set (λ n. t)
+      → tally test (moment-told (moment d t set)) + held-with (held (at-g d t set)) ≡ held-with (held d) + among test set (λ n. t)
   unfolding moment-told occurred new-at late-at
   instant-leaves present tasks d t set h long =
       let a : Stage = at-a d t in
@@ -236,11 +237,13 @@ module _ (test : Release → Bool) where
         let set : ℕ = released-at t rs in
         let rest : List Release = released-after t rs in
         let g : State = at-g d t set in
-        let m : Moment = record { time = t; occurred = occurred d t set } in
+        let m : Moment = moment d t set in
         let state : after-call d c ≡ g = ap (after-call d) (feeds .2) ∙ state-is table marks fair d rs t fit (feeds .1) in
         let last : after-calls d (c ∷ cs) ≡ after-calls g cs = ap (λ (x : State). after-calls x cs) state in
         let gives : answers d (c ∷ cs) ≡ m ∷ answers g cs =
-        rw (feeds .2, ap (λ (s : Step). s .answer) (step-is table marks fair d rs t fit (feeds .1)), state-is table marks fair d rs t fit (feeds .1)) in
+        ap (λ (x : Call). answers d (x ∷ cs)) (feeds .2)
+        ∙ ap (λ (s : Step). served-moment t (s .state) (s .answer) ++ answers (after-call d (Instant t set)) cs) (step-is table marks fair d rs t fit (feeds .1))
+        ∙ ap (λ (x : State). m ∷ answers x cs) (state-is table marks fair d rs t fit (feeds .1)) in
         omega (
           arith,
           ap (λ (ms : List Moment). tally test (run-told ms)) gives,

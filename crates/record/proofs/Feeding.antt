@@ -26,7 +26,7 @@ use Rattle.guarantees.proofs.Completion.{due-times, not-late}
 use Rattle.guarantees.proofs.Totals.{begins-of, takes-of, completes-of}
 use Rattle.record.specs.Types.{Release}
 use Rattle.run.specs.Run.{Moment, moment, first-time, released-at, released-after, run}
-use Rattle.record.specs.FileClaim.{Feeds, answers, AllServed, jobs-done, of-task}
+use Rattle.record.specs.FileClaim.{Feeds, served-moment, answers, AllServed, jobs-done, of-task}
 use Rattle.record.proofs.Lengths.{intervals-ended, releases-skipped}
 use Rattle.record.specs.Cursor.{AllEarly}
 use Rattle.record.proofs.Accepted.{Sorted}
@@ -189,12 +189,12 @@ module _ (table : Table) (marks : ℕ) (fair : Fair table marks) where
         (sooner-is (first-time rs) (due (d .phase)) t next)
 
     run-next : (k : ℕ)
-        → run (suc k) d rs ≡ record { time = t; occurred = occurred d t (released-at t rs) } ∷ run k (at-g d t (released-at t rs)) (released-after t rs)
+        → run (suc k) d rs ≡ moment d t (released-at t rs) ∷ run k (at-g d t (released-at t rs)) (released-after t rs)
     unfolding run
-    run-next k = rw (next, run) (ap (λ (s : Step). moment t (s .answer) ++ run k (s .state) rest) step-is)
+    run-next k = rw (next, run)
 
     fed-more : (k : ℕ) (ms : List Moment) → Fed k (at-g d t (released-at t rs)) (released-after t rs) ms
-        → Fed (suc k) d rs (record { time = t; occurred = occurred d t (released-at t rs) } ∷ ms)
+        → Fed (suc k) d rs (moment d t (released-at t rs) ∷ ms)
     unfolding Feeds AllServed AllEarly answers after-calls history by-call jobs-done intervals-ended releases-skipped occurred handed-in
     fed-more k ms h =
         let g : State = at-g d t set in
@@ -206,7 +206,9 @@ module _ (table : Table) (marks : ℕ) (fair : Fair table marks) where
           feeds = (t, next, refl, subst (λ (x : State). Feeds x rest (h .calls)) (sym state-is) (h .feeds));
           all-served = (no-row, subst (λ (x : State). AllServed x (h .calls)) (sym state-is) (h .all-served));
           early = (not-far, h .early);
-          gives = rw (ap (λ (s : Step). s .answer) step-is, state-is) (ap (λ (l : List Moment). record { time = t; occurred = occurred d t set } ∷ l) (h .gives));
+          gives =
+              ap (λ (s : Step). served-moment t (s .state) (s .answer) ++ answers (after-call d (Instant t set)) (h .calls)) step-is
+              ∙ ap (λ (x : State). moment d t set ∷ answers x (h .calls)) state-is ∙ ap (λ (l : List Moment). moment d t set ∷ l) (h .gives);
           within = omega (arith, h .within);
           rests = ap (λ (x : State). due (after-calls x (h .calls) .phase)) state-is ∙ h .rests;
           releases = rw (is-served, state-is) (omega (arith, takes-of d t set es, balance-g d t set, parts .sizes, size-none, h .releases, waits-on));

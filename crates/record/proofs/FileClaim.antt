@@ -20,8 +20,8 @@ use Rattle.guarantees.specs.Entries.{answers as occurred-by}
 use Rattle.guarantees.proofs.Invariant.{mass, good-opened}
 use Rattle.record.specs.Types.{Release}
 use Rattle.run.specs.Files.{Releases, releases-of}
-use Rattle.run.specs.Run.{Moment, moment, first-time, released-at, released-after, budget, moments-of}
-use Rattle.record.specs.FileClaim.{Feeds, answers, occurrences, FedClaim, Demand3Files}
+use Rattle.run.specs.Run.{Moment, first-time, released-at, released-after, budget, moments-of}
+use Rattle.record.specs.FileClaim.{Feeds, served-moment, answers, occurrences, FedClaim, Demand3Files}
 use Rattle.record.proofs.Accepted.{Accepted, accepted}
 use Rattle.record.proofs.TasksAlone.{opens, fair, claim}
 use Rattle.record.proofs.Feeding.{Fit, Fed, feeding}
@@ -53,16 +53,16 @@ one-feed (c ∷ cs) (e ∷ es) d rs h g =
 
 -- ---- what the moments have is what the calls answer
 
-occurrence : (t : ℕ) (a : Answer) (ms : List Moment) → occurrences (moment t a ++ ms) ≡ told a ++ occurrences ms
+occurrence : (t : ℕ) (d : State) (a : Answer) (ms : List Moment) → occurrences (served-moment t d a ++ ms) ≡ told a ++ occurrences ms
 unfolding occurrences
-occurrence t (Refused n) ms = refl
-occurrence t (Served o) ms = refl
+occurrence t d (Refused n) ms = refl
+occurrence t d (Served o) ms = refl
 
 pub as-answered : (cs : List Call) (d : State) → occurrences (answers d cs) ≡ occurred-by d cs
 unfolding answers occurrences occurred-by answer-of
 as-answered [] d = refl
 as-answered (Instant t set ∷ cs) d =
-    occurrence t (instant d t set .answer) (answers (after-call d (Instant t set)) cs)
+    occurrence t (instant d t set .state) (instant d t set .answer) (answers (after-call d (Instant t set)) cs)
     ∙ ap (λ (os : List Occurred). told (instant d t set .answer) ++ os) (as-answered cs (after-call d (Instant t set)))
 as-answered (Mark n m ∷ cs) d = as-answered cs (after-call d (Mark n m))
 

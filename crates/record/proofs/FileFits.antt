@@ -1,41 +1,45 @@
 -- The numbers of the run of every input that is accepted fit their fields. Assumes nothing.
 use mathlib.Core.Path.{_≡_, sym, subst}
 use mathlib.Core.Bool.{true}
-use mathlib.Core.List.{List, [], _∷_}
+use mathlib.Core.List.{List, [], _∷_, _++_}
 use Prim.Native.Nat.{ℕ}
 use native.Mathlib.Omega.{arith}
 use borrow.Author.Tests.{eq-eqb}
 use lib.Dec.{eqb}
 use Rattle.table.specs.TaskPart.{task-part}
 use Rattle.rules.specs.Instant.{at-g, occurred}
-use Rattle.rules.specs.Calls.{refusal, instant, served}
-use Rattle.guarantees.specs.Types.{State, Served, Call, Instant, Mark}
+use Rattle.rules.specs.Entries.{entries}
+use Rattle.rules.specs.Calls.{refusal, instant, served, after-call}
+use Rattle.guarantees.specs.Types.{State, Served, Step, Call, Instant, Mark}
 use Rattle.guarantees.proofs.Walk
 use Rattle.run.specs.Files.{Releases, releases-of}
-use Rattle.run.specs.Run.{moments-of}
+use Rattle.run.specs.Run.{Moment, record-entries, moments-of}
 use Rattle.record.specs.Types.{Release}
-use Rattle.record.specs.FileClaim.{answers, AllServed}
+use Rattle.record.specs.FileClaim.{served-moment, answers, AllServed}
 use Rattle.record.specs.Cursor.{AllEarly}
-use Rattle.record.specs.Fits.{MomentsFit}
+use Rattle.record.specs.Fits.{EntriesFit}
 use Rattle.record.proofs.FileClaim.{fed-file}
-use Rattle.record.proofs.Fitting.{StateFits, to-g, moment-fits, opened-fits}
+use Rattle.record.proofs.Fitting.{StateFits, both-fit, to-g, moment-fits, opened-fits}
 
-served-answer : (d : State) (t set : ℕ) → eqb (refusal d t set) 0 ≡ true → instant d t set .answer ≡ Served (occurred d t set)
+served-step : (d : State) (t set : ℕ) → eqb (refusal d t set) 0 ≡ true → instant d t set ≡ record { state = at-g d t set; answer = Served (occurred d t set) }
 unfolding instant served
-served-answer d t set e = rw (e, instant)
+served-step d t set e = rw (e, instant)
 
 -- what early instants that are served answer fits its fields
-answers-fit : (cs : List Call) (d : State) → StateFits d → AllServed d cs → AllEarly cs → MomentsFit (answers d cs)
-unfolding AllServed AllEarly answers MomentsFit
+answers-fit : (cs : List Call) (d : State) → StateFits d → AllServed d cs → AllEarly cs → EntriesFit (record-entries (answers d cs))
+unfolding AllServed AllEarly answers record-entries EntriesFit
 answers-fit [] d h a l = tt
 answers-fit (Mark n m ∷ cs) d h a l = absurd a
 answers-fit (Instant t set ∷ cs) d h a l =
     let e : eqb (refusal d t set) 0 ≡ true = eq-eqb (refusal d t set) 0 (a .0) in
     let g : StateFits (at-g d t set) = to-g t (omega (arith, l .0)) d set h in
-    rw (served-answer d t set e) (moment-fits t (omega (arith, l .0)) d set h, answers-fit cs _ (subst StateFits (sym (Walk.served d t set e)) g) (a .1) (l .1))
+    let rest : List Moment = answers (after-call d (Instant t set)) cs in
+    subst (λ (s : Step). EntriesFit (record-entries (served-moment t (s .state) (s .answer) ++ rest))) (sym (served-step d t set e))
+    (both-fit (entries t (occurred d t set)) (record-entries rest) (moment-fits t (omega (arith, l .0)) d set h)
+    (answers-fit cs _ (subst StateFits (sym (Walk.served d t set e)) g) (a .1) (l .1)))
 
 -- and so does the run of every input that is accepted: no instant of it is refused, and none is late
-pub file-fits : (s : List ℕ) (rs : List Release) → releases-of s ≡ Releases rs → MomentsFit (moments-of s rs)
+pub file-fits : (s : List ℕ) (rs : List Release) → releases-of s ≡ Releases rs → EntriesFit (record-entries (moments-of s rs))
 file-fits s rs h =
     let f = fed-file s rs h in
-    subst MomentsFit (f .gives) (answers-fit (f .calls) _ (opened-fits (task-part s .table) (task-part s .marked)) (f .all-served) (f .early))
+    subst (λ (ms : List Moment). EntriesFit (record-entries ms)) (f .gives) (answers-fit (f .calls) _ (opened-fits (task-part s .table) (task-part s .marked)) (f .all-served) (f .early))

@@ -7,12 +7,14 @@ use Rattle.sets.specs.Sets.{member}
 use Rattle.sets.proofs.Laws.{by-test}
 use Rattle.rules.specs.With.{at-clock}
 use Rattle.rules.specs.Order.{highest}
-use Rattle.rules.specs.Instant.{fresh-stage, processor-at, copyout-at, copyin-at, ended, completed, without-done, step-a, over, processor-task, copyout-task, copyin-task, promoted, next-of, awaiting-copyout, close, interval-entry, close-stage, step-b, original, stamped, with-candidates, step-c, cancel, step-d, choose, step-e, begin-processor, begin-copyout, begin, step-g, at-a, at-b, new-at, late-at, at-e, at-f, at-g, closing, occurred}
+use Rattle.rules.specs.Instant.{fresh-stage, processor-at, copyout-at, copyin-at, ended, completed, without-done, step-a, over, processor-task, copyout-task, copyin-task, promoted, next-of, awaiting-copyout, close, interval-entry, close-stage, step-b, original, stamped, with-candidates, step-c, cancel, step-d, choose, step-e, begin-processor, begin-copyout, begin, step-g, at-a, at-b, new-at, late-at, at-e, at-f, at-g, skipped, closing, occurred}
+use Rattle.rules.specs.Entries.{done-entries, skipped-entries, closed-entries, entries}
 use Rattle.rules.specs.Calls.{opened}
 use Rattle.guarantees.proofs.Highest.{Best, best}
 use Rattle.guarantees.proofs.Cases.{held-at, copyin-cases, copyout-cases, processor-cases, d-cases, e-cases, g-cases}
-use Rattle.entries.specs.RoundTrip.{TaskFits, IntervalFits}
-use Rattle.record.specs.Fits.{DoneFits, ClosedFits, MomentFits}
+use Rattle.entries.specs.RoundTrip.{TaskFits, JobFits, IntervalFits, EntryFits}
+use Rattle.record.specs.Types.{cond, _++_, Release, RecordEntry, ReleaseSkipped, Done, NoJob, Job, Closing, Unclosed, BeforeReleases, AfterReleases}
+use Rattle.record.specs.Fits.{EntriesFit}
 
 -- ---- What fits
 
@@ -58,10 +60,46 @@ abbrev SpanFits : Closed → Type 0
 SpanFits NoInterval = Unit {0}
 SpanFits (Span e) = IntervalFits e
 
+unfoldable pub DoneFits : Done → Type 0
+DoneFits NoJob = Unit {0}
+DoneFits (Job e) = JobFits e
+
+abbrev ClosedFits : Closing → Type 0
+ClosedFits Unclosed = Unit {0}
+ClosedFits (BeforeReleases e) = IntervalFits e
+ClosedFits (AfterReleases e) = IntervalFits e
+
 pub record StageFits (s : Stage) : Type 0 where
   pub state : StateFits (s .state)
   pub done : DoneFits (s .done)
   pub closed : SpanFits (s .closed)
+
+-- ---- Entries that fit
+
+pub both-fit : (xs ys : List RecordEntry) → EntriesFit xs → EntriesFit ys → EntriesFit (xs ++ ys)
+unfolding EntriesFit
+both-fit [] ys h g = g
+both-fit (e ∷ xs) ys h g = (h .0, both-fit xs ys (h .1) g)
+
+done-fits : (o : Done) → DoneFits o → EntriesFit (done-entries o)
+unfolding DoneFits EntriesFit EntryFits
+done-fits NoJob h = tt
+done-fits (Job e) h = (h, tt)
+
+closed-fits : (c : Closing) (skips : List RecordEntry) → ClosedFits c → EntriesFit skips → EntriesFit (closed-entries c skips)
+unfolding EntriesFit EntryFits
+closed-fits Unclosed skips h g = g
+closed-fits (BeforeReleases e) skips h g = (h, g)
+closed-fits (AfterReleases e) skips h g = both-fit skips _ g (h, tt)
+
+skips-fit : (k set t : ℕ) → TimeFits t → EntriesFit (skipped-entries k set t)
+unfolding skipped-entries EntriesFit EntryFits
+skips-fit zero set t h = tt
+skips-fit (suc k) set t h = both-fit (skipped-entries k set t) _ (skips-fit k set t h) (go (member k set))
+  where
+    go : (b : Bool) → EntriesFit (cond b (ReleaseSkipped (record { task = k; time = t }) ∷ []) [])
+    go true = (h, tt)
+    go false = tt
 
 -- what is picked from a set is a task below 32
 picked : (priority : List ℕ) (s : ℕ) → TaskFits (highest priority s)
@@ -259,18 +297,16 @@ module _ (t : ℕ) (now : TimeFits t) where
     to-g = g-fits (at-f d t set .state) (held-at d t set) (to-f .state)
 
     closing-fits : (b f : Closed) → SpanFits b → SpanFits f → ClosedFits (closing b f)
-    unfolding ClosedFits
     closing-fits (Span e) f k l = k
     closing-fits NoInterval NoInterval k l = tt
     closing-fits NoInterval (Span e) k l = l
 
-    pub moment-fits : MomentFits (record { time = t; occurred = occurred d t set })
-    unfolding occurred
-    moment-fits = record {
-      time-fits = now;
-      done-fits = to-b .done;
-      closed-fits = closing-fits (at-b d t .closed) (at-f d t set .closed) (to-b .closed) (to-f .closed);
-    }
+    pub moment-fits : EntriesFit (entries t (occurred d t set))
+    unfolding occurred entries
+    moment-fits =
+        both-fit _ _ (done-fits (at-b d t .done) (to-b .done))
+        (closed-fits (closing (at-b d t .closed) (at-f d t set .closed)) _ (closing-fits (at-b d t .closed) (at-f d t set .closed) (to-b .closed) (to-f .closed))
+        (skips-fit 32 (skipped (at-b d t .state) set) t now))
 
 -- ---- Opening
 

@@ -8,7 +8,7 @@ use native.Mathlib.Nat.{zero-add}
 use native.Mathlib.Omega.{arith}
 use lib.ListN.{length, take, drop, length-append}
 use Rattle.sets.proofs.Laws.{by-test, clash}
-use Rattle.entries.specs.Entries.{laid}
+use Rattle.entries.specs.Entries.{laid, each}
 use Rattle.rules.specs.Instant.{due, sooner, at-g, occurred}
 use Rattle.rules.specs.Calls.{opened, refusal, instant, served, after-call}
 use Rattle.rules.specs.Steps.{Stands}
@@ -18,11 +18,11 @@ use Rattle.dispatcher.specs.declared.Dispatcher.{Dispatcher}
 use Rattle.dispatcher.specs.Dispatcher.{state-of}
 use Rattle.record.specs.Types.{Release, TaskPart, State, Never, Tick, Piece}
 use Rattle.run.specs.Listed.{releases-at}
-use Rattle.run.specs.Run.{Moment, record-bytes, run, first-time, released-at, released-after}
-use Rattle.run.specs.Pieces.{next-time, Leads, most, Makes}
+use Rattle.run.specs.Run.{Moment, next-time, record-entries, record-bytes, run, first-time, released-at, released-after}
+use Rattle.run.specs.Pieces.{Leads, most, Makes}
 use Rattle.run.proofs.Listing.{in-part, behind-part}
 use Rattle.run.proofs.Slices.{laid-none, laid-both}
-use Rattle.run.proofs.Reaching.{bytes-both, grows, same-slice, reads-on}
+use Rattle.run.proofs.Reaching.{along, bytes-both, grows, same-slice, reads-on}
 use Rattle.record.specs.FileClaim.{Feeds, AllServed}
 use Rattle.record.specs.Cursor.{Cursor, start, AllEarly, Served, Room, Ran, RestRoom, RestRan, cursor-of, rest-bytes, run-bytes}
 use Rattle.record.proofs.FileClaim.{not-over}
@@ -77,39 +77,20 @@ module _ (d : State) (rs : List Release) (v : Fed d rs) (t : ℕ) (next : next-t
   comes-early : t ≤ 3000000000
   comes-early = go-early (v .calls) (v .feeds) (v .early)
 
--- ---- moments that were made, and then the run from where they lead
+-- ---- what is left behind moments that were made
 
 over : (k : ℕ) (d : State) (rs : List Release) → next-time d rs ≡ Never → run k d rs ≡ []
 unfolding run
 over zero d rs e = refl
 over (suc k) d rs e = rw (e, run)
 
-goes-on : (d : State) (rs : List Release) (k t : ℕ) → next-time d rs ≡ Tick t → refusal d t (released-at t rs) ≡ 0
-    → run (suc k) d rs ≡ record { time = t; occurred = occurred d t (released-at t rs) } ∷ run k (at-g d t (released-at t rs)) (released-after t rs)
-unfolding run instant served
-goes-on d rs k t e f = rw (e, run, f)
-
-along : (d : State) (rs : List Release) (ms : List Moment) (d' : State) (rs' : List Release) → Leads d rs ms d' rs' → Fed d rs
-    → (k : ℕ) → (run (k + length ms) d rs ≡ ms ++ run k d' rs') × Fed d' rs'
+-- no instant is refused behind them
+behind : (d : State) (rs : List Release) (ms : List Moment) (d' : State) (rs' : List Release) → Leads d rs ms d' rs' → Fed d rs → Fed d' rs'
 unfolding Leads
-along d rs [] d' rs' h v k = (
-  ap (λ (n : ℕ). run n d rs) none ∙ ap₂ (run k) (h .0) (h .1),
-  subst (λ (z : State). Fed z rs') (h .0) (subst (λ (z : List Release). Fed d z) (h .1) v),
-)
-  where
-    none : k + 0 ≡ k
-    none = omega arith
-along d rs (m ∷ ms) d' rs' h v k =
-    let t : ℕ = m .time in
-    let x = goes d rs v t (h .0) in
-    let y = along (at-g d t (released-at t rs)) (released-after t rs) ms d' rs' (h .2) (x .1) k in
-    let is : record { time = t; occurred = occurred d t (released-at t rs) } ≡ m = sym (ap (λ o. record { time = t; occurred = o }) (h .1)) in (
-      ap (λ (n : ℕ). run n d rs) more ∙ goes-on d rs (k + length ms) t (h .0) (x .0) ∙ ap₂ (λ (a : Moment) (l : List Moment). a ∷ l) is (y .0),
-      y .1,
-    )
-  where
-    more : k + length (m ∷ ms) ≡ suc (k + length ms)
-    more = omega arith
+behind d rs [] d' rs' h v = subst (λ (z : State). Fed z rs') (h .0) (subst (λ (z : List Release). Fed d z) (h .1) v)
+behind d rs (m ∷ ms) d' rs' h v =
+    behind (m .state) (released-after (m .time) rs) ms d' rs' (h .2)
+    (subst (λ (a : Moment). Fed (a .state) (released-after (m .time) rs)) (sym (h .1)) (goes d rs v (m .time) (h .0) .1))
 
 -- ---- a piece of a run
 
@@ -123,21 +104,23 @@ module _ (s : List ℕ) (at : ℕ) (d : Dispatcher) {budget : ℕ} {out : List �
       subst (λ (rs : List Release). Leads (state-of d) rs (m .moments) (state-of (x .state)) (releases-at s (at + x .read))) (in-part s at)
       (subst (λ (rs : List Release). Leads (state-of d) (releases-at (take (length s - at) (drop at s)) 0) (m .moments) (state-of (x .state)) rs) (behind-part s at (x .read)) (m .leads))
 
-  on : (k : ℕ) → (run (k + length (m .moments)) (state-of d) (releases-at s at) ≡ m .moments ++ run k (state-of (x .state)) (releases-at s (at + x .read)))
-      × Fed (state-of (x .state)) (releases-at s (at + x .read))
-  on k = along (state-of d) (releases-at s at) (m .moments) (state-of (x .state)) (releases-at s (at + x .read)) leads (fed v) k
+  on : (k : ℕ) → run (k + length (m .moments)) (state-of d) (releases-at s at) ≡ m .moments ++ run k (state-of (x .state)) (releases-at s (at + x .read))
+  on k = along (state-of d) (releases-at s at) (m .moments) (state-of (x .state)) (releases-at s (at + x .read)) leads k
+
+  fed-on : Fed (state-of (x .state)) (releases-at s (at + x .read))
+  fed-on = behind (state-of d) (releases-at s at) (m .moments) (state-of (x .state)) (releases-at s (at + x .read)) leads (fed v)
 
   pub within : at + x .read ≤ length s
   within = reads-on s at m (v .within)
 
   pub served-on : Served s (record { state = state-of (x .state); at = at + x .read })
-  served-on = let f = on 0 .1 in record { within = within; calls = f .calls; feeds = f .feeds; all-served = f .all-served; early = f .early }
+  served-on = let f = fed-on in record { within = within; calls = f .calls; feeds = f .feeds; all-served = f .all-served; early = f .early }
 
   -- no instant is at the last tick: where it stands, nothing is pending any more
   none-next : x .ended ≡ true → next-time (state-of (x .state)) (releases-at s (at + x .read)) ≡ Never
   none-next e =
       ⊎-elim
-      (λ next. absurd (omega (arith, comes-early (state-of (x .state)) (releases-at s (at + x .read)) (on 0 .1) _ next)))
+      (λ next. absurd (omega (arith, comes-early (state-of (x .state)) (releases-at s (at + x .read)) fed-on _ next)))
       (λ z. z .1)
       (subst (λ (rs : List Release). Stands (2 ^ 64 - 1) (next-time (state-of (x .state)) rs)) (behind-part s at (x .read)) (m .ended-is e .1) .is)
 
@@ -146,9 +129,9 @@ module _ (s : List ℕ) (at : ℕ) (d : Dispatcher) {budget : ℕ} {out : List �
       by-test (x .ended)
       (λ e.
       let n : ℕ = budget - length (m .moments) in
-      ap (λ (k : ℕ). run k (state-of d) (releases-at s at)) (enough n refl) ∙ on n .0
+      ap (λ (k : ℕ). run k (state-of d) (releases-at s at)) (enough n refl) ∙ on n
       ∙ ap (λ (l : List Moment). m .moments ++ l) (over n _ _ (none-next e) ∙ sym (over (x .left) _ _ (none-next e))))
-      (λ e. ap (λ (k : ℕ). run k (state-of d) (releases-at s at)) (sym (m .left-is e)) ∙ on (x .left) .0)
+      (λ e. ap (λ (k : ℕ). run k (state-of d) (releases-at s at)) (sym (m .left-is e)) ∙ on (x .left))
     where
       enough : (n : ℕ) → n ≡ budget - length (m .moments) → budget ≡ n + length (m .moments)
       enough n e = omega (arith, m .few)
@@ -185,7 +168,7 @@ module _ {s whole before : List ℕ} {start : ℕ} {keep : Bool} (d : Dispatcher
     (p : Progress s whole before start keep (record { state = state-of d; at = at }) size left out) where
   -- no instant is left to make
   pub spent : left ≡ 0 → (size ≡ start + length whole) × (keep ≡ true → out ≡ laid start whole before) × (keep ≡ false → out ≡ before)
-  unfolding run record-bytes
+  unfolding run record-bytes record-entries each
   spent e =
       let w : p .done ≡ whole = sym (append-nil (p .done)) ∙ ap (λ (l : List ℕ). p .done ++ l) (sym (ap (run-bytes s (record { state = state-of d; at = at })) e)) ∙ p .rest in
       (p .size-is ∙ ap (λ (l : List ℕ). start + length l) w, λ k. p .kept k ∙ ap (λ (l : List ℕ). laid start l before) w, p .unchanged)

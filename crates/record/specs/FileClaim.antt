@@ -3,7 +3,7 @@
 use mathlib.Core.Path.{_≡_}
 use Prim.Native.Nat.{_<_}
 use lib.ListN.{length, take}
-use Rattle.record.specs.Types.{List, [], _∷_, _++_, ℕ, _+_, Release, TaskPart, NoRefusal, State, Done, NoJob, Job, Never, Tick, Occurred, Outcome}
+use Rattle.record.specs.Types.{List, [], _∷_, _++_, ℕ, _+_, Release, TaskPart, NoRefusal, State, Done, NoJob, Job, Never, Tick, Occurred, Answer, Refused, Served, Step, Outcome}
 use lib.Dec.{eqb}
 use Rattle.sets.specs.Sets.{bit}
 use Rattle.table.specs.TaskPart.{task-part}
@@ -18,7 +18,7 @@ use Rattle.guarantees.specs.Intervals.{no-course, ended}
 use Rattle.guarantees.specs.Entries.{skips, done, completions, closed}
 use Rattle.guarantees.specs.Claim.{Claim, AllCompleted}
 use Rattle.run.specs.Files.{Releases, releases-of}
-use Rattle.run.specs.Run.{Moment, moment, first-time, released-at, released-after, budget, moments-of}
+use Rattle.run.specs.Run.{Moment, first-time, released-at, released-after, budget, moments-of}
 use Rattle.record.specs.Writing.{Wrote, file, outcome-number, outcome-value}
 
 -- ---- The calls that feed a file to the dispatcher by instants
@@ -30,10 +30,15 @@ Feeds d rs [] = (rs ≡ []) × (due (d .phase) ≡ Never)
 Feeds d rs (c ∷ cs) =
     (t : ℕ) × (sooner (first-time rs) (due (d .phase)) ≡ Tick t) × (c ≡ Instant t (released-at t rs)) × Feeds (after-call d c) (released-after t rs) cs
 
--- what calls answer: the instants that are served, with what occurred
+-- what calls answer: the instants that are served, with what occurred and the state that they hand back
+abbrev pub served-moment : ℕ → State → Answer → List Moment
+served-moment t d (Refused n) = []
+served-moment t d (Served o) = record { time = t; occurred = o; state = d } ∷ []
+
 unfoldable pub answers : State → List Call → List Moment
 answers d [] = []
-answers d (Instant t set ∷ cs) = moment t (instant d t set .answer) ++ answers (after-call d (Instant t set)) cs
+answers d (Instant t set ∷ cs) =
+    let s : Step = instant d t set in served-moment t (s .state) (s .answer) ++ answers (after-call d (Instant t set)) cs
 answers d (Mark n m ∷ cs) = answers (after-call d (Mark n m)) cs
 
 -- what occurred at each

@@ -7,7 +7,8 @@ use lib.ListN.{length}
 use Rattle.entries.specs.Entries.{record-entry-at, record-entry-size}
 use Rattle.entries.proofs.Places.{entry-within}
 use Rattle.record_lines.specs.Types.{RecordEntry, MalformedRecord, JobDone, IntervalEnded, ReleaseSkipped}
-use Rattle.record_lines.specs.Lines.{line-of, entry-line, entry-size, lines-from, lines-behind}
+use Rattle.lines.specs.Lines.{line-of}
+use Rattle.record_lines.specs.Lines.{entry-line, entry-size, lines-from, lines-behind}
 
 pub size-fits : (s : List ℕ) (at : ℕ) → entry-size s at ≤ length s - at
 unfolding entry-size

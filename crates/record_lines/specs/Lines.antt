@@ -4,18 +4,11 @@ use mathlib.Core.List.{List, [], _++_}
 use Prim.Native.Nat.{ℕ, zero, suc, _+_, _-_, _≤_, _<_}
 use lib.ListN.{length, drop}
 use Rattle.entries.specs.Entries.{record-entry-at, record-entry-size}
-use Rattle.lines.specs.Lines.{job-line, interval-line, skipped-line}
+use Rattle.lines.specs.Lines.{line-of}
 use Rattle.lines.specs.Text.{Prints}
-use Rattle.record_lines.specs.Types.{RecordEntry, MalformedRecord, JobDone, IntervalEnded, ReleaseSkipped, Text}
+use Rattle.record_lines.specs.Types.{Text}
 
--- the line of an entry: no bytes where it is refused
-abbrev pub line-of : RecordEntry → List ℕ
-line-of (MalformedRecord n) = []
-line-of (JobDone e) = job-line e
-line-of (IntervalEnded e) = interval-line e
-line-of (ReleaseSkipped e) = skipped-line (e .task) (e .time)
-
--- of the entry at a place: no bytes where no whole entry stands
+-- the line of the entry at a place: no bytes where no whole entry stands
 unfoldable pub entry-line : List ℕ → ℕ → List ℕ
 entry-line s at = line-of (record-entry-at s at)
 

@@ -2,8 +2,9 @@
 use entries::RecordEntry;
 use lines::Text;
 ghost use mathlib.Core.Path.{_≡_};
+ghost use Rattle.lines.specs.Lines.{line-of};
 ghost use Rattle.lines.specs.Text.{Prints};
-ghost use Rattle.record_lines.specs.Lines.{line-of, LineAt, FilledWith};
+ghost use Rattle.record_lines.specs.Lines.{LineAt, FilledWith};
 
 // The line of an entry, and the place behind the entry.
 pub struct Line {

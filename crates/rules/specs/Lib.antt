@@ -10,5 +10,6 @@ pub mod Kept
 pub mod Calls
 pub mod Cut
 pub mod Answers
+pub mod Entries
 pub mod View
 pub mod Steps

@@ -8,6 +8,8 @@ pub use Rattle.rules.specs.declared.ReleaseFates.{ReleaseFates}
 pub use Rattle.rules.specs.declared.View.{View}
 pub use Rattle.entries.specs.declared.JobEntry.{JobEntry}
 pub use Rattle.entries.specs.declared.IntervalEntry.{IntervalEntry}
+pub use Rattle.entries.specs.declared.RecordEntry.{RecordEntry}
+pub use Rattle.entries.specs.declared.RecordEntry.the-variants.{MalformedRecord, JobDone, IntervalEnded, ReleaseSkipped}
 pub use Rattle.rules.specs.declared.Done.{Done}
 pub use Rattle.rules.specs.declared.Done.the-variants.{NoJob, Job}
 pub use Rattle.rules.specs.declared.Closing.{Closing}
@@ -26,6 +28,6 @@ pub use Rattle.table.specs.declared.Refusal.the-variants.{NoRefusal, Alone, AtE
 pub use Rattle.table.specs.declared.TaskPart.{TaskPart}
 pub use mathlib.Core.Path.{_≡_, refl, sym, ap, _∙_, subst}
 pub use mathlib.Core.Bool.{Bool, true, false, cond, not, _&&_, _||_}
-pub use mathlib.Core.List.{List, [], _∷_}
+pub use mathlib.Core.List.{List, [], _∷_, _++_}
 pub use mathlib.Core.Logic.{_⊎_, inl, inr, ⊎-elim}
 pub use Prim.Native.Nat.{ℕ, zero, suc, _+_, _-_, _^_, _≤_, _<_, min}

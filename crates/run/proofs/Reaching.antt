@@ -3,57 +3,91 @@ use mathlib.Core.Path.{_≡_, refl, sym, ap, ap₂, _∙_, subst}
 use mathlib.Core.Bool.{true, false, true≢false}
 use mathlib.Core.List.{List, [], _∷_, _++_, append-assoc, append-nil}
 use mathlib.Core.Logic.{_⊎_, ⊎-elim}
-use Prim.Native.Nat.{ℕ, _+_, _-_, _*_, _^_, _≤_, _<_}
+use Prim.Native.Nat.{ℕ, suc, _+_, _-_, _*_, _^_, _≤_, _<_}
 use native.Mathlib.Nat.{zero-add}
 use native.Mathlib.Omega.{arith}
 use lib.ListN.{length, take, drop, length-append, length-drop}
 use lib.Seq.{take-at}
 use Rattle.sets.proofs.Laws.{by-test}
 use Rattle.words.proofs.Laws.{rest-whole}
-use Rattle.entries.specs.Entries.{laid}
-use Rattle.rules.specs.Instant.{at-g, occurred}
+use Rattle.entries.specs.Entries.{laid, entry-bytes, each}
+use Rattle.entries.proofs.Each.{each-both}
+use Rattle.rules.specs.Instant.{at-g}
+use Rattle.rules.specs.Entries.{entries}
 use Rattle.rules.specs.Steps.{Stands}
 use Rattle.rules.specs.Kept.{Kept, kept, ByTask, by-task, Beside, beside, read}
 use Rattle.dispatcher.specs.Dispatcher.{kept-of, beside-of, state-of}
-use Rattle.run.specs.Types.{Release, State, Tick, Advanced, Dispatcher, Piece}
+use Rattle.run.specs.Types.{Release, RecordEntry, State, Tick, Advanced, Dispatcher, Piece}
 use Rattle.run.specs.Listed.{releases-at}
-use Rattle.run.specs.Run.{Moment, released-at, released-after, moment-bytes, record-bytes}
-use Rattle.run.specs.Putting.{moment-entries, joined, put-all}
+use Rattle.run.specs.Run.{Moment, released-at, released-after, next-time, moment, run, record-entries, record-bytes}
+use Rattle.run.specs.Putting.{put-all}
 use Rattle.run.specs.Advance.{Advances, Made, Steps}
-use Rattle.run.specs.Pieces.{next-time, Leads, most, Makes}
+use Rattle.run.specs.Pieces.{Leads, most, Makes}
 use Rattle.run.proofs.Listing.{in-part, behind-part}
 use Rattle.run.proofs.Slices.{laid-none, laid-both, laid-length, put-all-laid, rest-laid, rest-length, put-all-length}
-use Rattle.run.proofs.InOrder.{entries-joined, moment-most}
+use Rattle.run.proofs.InOrder.{moment-most}
 use Rattle.run.proofs.Advancing.{with-set}
 
 -- ---- moments one behind the other
 
+pub entries-both : (ms ns : List Moment) → record-entries (ms ++ ns) ≡ record-entries ms ++ record-entries ns
+unfolding record-entries
+entries-both [] ns = refl
+entries-both (m ∷ ms) ns =
+    let first : List RecordEntry = entries (m .time) (m .occurred) in
+    ap (λ (x : List RecordEntry). first ++ x) (entries-both ms ns) ∙ sym (append-assoc first (record-entries ms) (record-entries ns))
+
 pub bytes-both : (ms ns : List Moment) → record-bytes (ms ++ ns) ≡ record-bytes ms ++ record-bytes ns
 unfolding record-bytes
-bytes-both [] ns = refl
-bytes-both (m ∷ ms) ns = ap (λ (x : List ℕ). moment-bytes m ++ x) (bytes-both ms ns) ∙ sym (append-assoc (moment-bytes m) (record-bytes ms) (record-bytes ns))
+bytes-both ms ns = ap (each entry-bytes) (entries-both ms ns) ∙ each-both entry-bytes (record-entries ms) (record-entries ns)
+
+abbrev moment-bytes : Moment → List ℕ
+moment-bytes m = each entry-bytes (entries (m .time) (m .occurred))
 
 bytes-one : (m : Moment) → record-bytes (m ∷ []) ≡ moment-bytes m
-unfolding record-bytes
-bytes-one m = append-nil (moment-bytes m)
+unfolding record-bytes record-entries
+bytes-one m = ap (each entry-bytes) (append-nil (entries (m .time) (m .occurred)))
 
 -- what so many moments leave at most
 pub bytes-most : (ms : List Moment) → length (record-bytes ms) ≤ most * length ms
-unfolding record-bytes
+unfolding record-bytes record-entries each
 bytes-most [] = omega arith
-bytes-most (m ∷ ms) = omega (arith, bytes-most ms, moment-most m, ap length (entries-joined m), length-append (moment-bytes m) (record-bytes ms))
-
--- the moment of the next instant
-abbrev pub moment-at : State → List Release → ℕ → Moment
-moment-at d rs t = record { time = t; occurred = occurred d t (released-at t rs) }
+bytes-most (m ∷ ms) =
+    omega (
+      arith,
+      bytes-most ms,
+      moment-most (m .time) (m .occurred),
+      ap length (bytes-both (m ∷ []) ms),
+      ap length (bytes-one m),
+      length-append (record-bytes (m ∷ [])) (record-bytes ms),
+    )
 
 pub one-more : (d : State) (rs : List Release) (ms : List Moment) (e : State) (es : List Release) (t : ℕ) {d' : State} {rs' : List Release} → Leads d rs ms e es
-    → next-time e es ≡ Tick t → at-g e t (released-at t es) ≡ d' → released-after t es ≡ rs' → Leads d rs (ms ++ (moment-at e es t ∷ [])) d' rs'
+    → next-time e es ≡ Tick t → at-g e t (released-at t es) ≡ d' → released-after t es ≡ rs' → Leads d rs (ms ++ (moment e t (released-at t es) ∷ [])) d' rs'
 unfolding Leads
 one-more d rs [] e es t {d'} {rs'} h n x y =
-    subst (λ (z : State). Leads z rs (moment-at e es t ∷ []) d' rs') (sym (h .0))
-    (subst (λ (z : List Release). Leads e z (moment-at e es t ∷ []) d' rs') (sym (h .1)) (n, refl, (x, y)))
+    subst (λ (z : State). Leads z rs (moment e t (released-at t es) ∷ []) d' rs') (sym (h .0))
+    (subst (λ (z : List Release). Leads e z (moment e t (released-at t es) ∷ []) d' rs') (sym (h .1)) (n, refl, (x, y)))
 one-more d rs (m ∷ ms) e es t h n x y = (h .0, h .1, one-more _ _ ms e es t (h .2) n x y)
+
+-- moments that were made, and then the run from where they lead
+pub along : (d : State) (rs : List Release) (ms : List Moment) (d' : State) (rs' : List Release) → Leads d rs ms d' rs' → (k : ℕ) → run (k + length ms) d rs ≡ ms ++ run k d' rs'
+unfolding Leads
+along d rs [] d' rs' h k = ap (λ (n : ℕ). run n d rs) none ∙ ap₂ (run k) (h .0) (h .1)
+  where
+    none : k + 0 ≡ k
+    none = omega arith
+along d rs (m ∷ ms) d' rs' h k =
+    ap (λ (n : ℕ). run n d rs) more ∙ first (k + length ms) (h .0)
+    ∙ ap₂ (λ (a : Moment) (l : List Moment). a ∷ l) (sym (h .1))
+    (ap (λ (a : Moment). run (k + length ms) (a .state) (released-after (m .time) rs)) (sym (h .1)) ∙ along (m .state) (released-after (m .time) rs) ms d' rs' (h .2) k)
+  where
+    more : k + length (m ∷ ms) ≡ suc (k + length ms)
+    more = omega arith
+
+    first : (n : ℕ) → next-time d rs ≡ Tick (m .time)
+        → run (suc n) d rs ≡ moment d (m .time) (released-at (m .time) rs) ∷ run n (at-g d (m .time) (released-at (m .time) rs)) (released-after (m .time) rs)
+    first n e = unfold run in rw (e, run)
 
 -- ---- how far a piece has come
 
@@ -68,7 +102,7 @@ pub record Reached (rest : List ℕ) (d : State) (budget : ℕ) (before : List �
   pub same : length out ≡ length before
 
 pub begins : (rest : List ℕ) (budget : ℕ) (out : List ℕ) (k : Kept) (b : Beside) → Reached rest (read k b) budget out k b 0 0 budget out
-unfolding Leads record-bytes
+unfolding Leads record-bytes record-entries each
 begins rest budget out k b = record {
   moments = [];
   leads = (refl, refl);
@@ -115,14 +149,14 @@ module _ {rest : List ℕ} {d : State} {budget : ℕ} {before : List ℕ} {k : K
       pub reads : at + x .read ≤ length rest
       reads = omega (arith, g .within, step .gathered .1, step .gathered .2 .within, ap length (rest-whole at rest), length-drop at rest)
 
-      abbrev moment : Moment
-      moment = moment-at (read k b) (releases-at rest at) (x .time)
+      abbrev next : Moment
+      next = moment (read k b) (x .time) (released-at (x .time) (releases-at rest at))
 
-      size-is : x .size ≡ length (moment-bytes (moment-at (read k b) (releases-at rest at) (x .time)))
-      size-is = steps .puts .place-is ∙ omega (arith, ap length (entries-joined moment))
+      size-is : x .size ≡ length (moment-bytes (moment (read k b) (x .time) (released-at (x .time) (releases-at rest at))))
+      size-is = steps .puts .place-is ∙ omega arith
 
       small : x .size ≤ most
-      small = omega (arith, size-is, moment-most moment, ap length (entries-joined moment))
+      small = omega (arith, size-is, moment-most (x .time) (next .occurred))
 
       pub puts : most ≤ length out - size → size + x .size ≤ length out
       puts room = omega (arith, small, g .fits, g .same)
@@ -132,22 +166,21 @@ module _ {rest : List ℕ} {d : State} {budget : ℕ} {before : List ℕ} {k : K
           → out' ≡ take size out ++ (rest-after ++ drop (length out - size) (drop size out))
           → Reached rest d budget before k' b' (at + x .read) (size + x .size) (left - 1) out'
       moves {out'} some room e =
-          let es : List (List ℕ) = moment-entries moment in
-          let few : length (joined es) ≤ most = moment-most moment in
+          let es : List RecordEntry = entries (x .time) (next .occurred) in
+          let few : length (each entry-bytes es) ≤ most = moment-most (x .time) (next .occurred) in
           let done : List ℕ = record-bytes (g .moments) in
-          let bytes : List ℕ = moment-bytes moment in
-          let all : record-bytes (g .moments ++ (moment ∷ [])) ≡ done ++ bytes = bytes-both (g .moments) (moment ∷ []) ∙ ap (λ (z : List ℕ). done ++ z) (bytes-one moment) in
+          let bytes : List ℕ = moment-bytes next in
+          let all : record-bytes (g .moments ++ (next ∷ [])) ≡ done ++ bytes = bytes-both (g .moments) (next ∷ []) ∙ ap (λ (z : List ℕ). done ++ z) (bytes-one next) in
           record {
-            moments = g .moments ++ (moment ∷ []);
+            moments = g .moments ++ (next ∷ []);
             leads = one-more d (releases-at rest 0) (g .moments) (read k b) (releases-at rest at) t (g .leads) next-in (sym (steps .state)) behind;
             within = reads;
-            left-is = omega (arith, g .left-is, length-append (g .moments) (moment ∷ []));
+            left-is = omega (arith, g .left-is, length-append (g .moments) (next ∷ []));
             size-is = ap₂ (λ (i j : ℕ). i + j) (g .size-is) size-is ∙ sym (ap length all ∙ length-append done bytes);
             fits = omega (arith, puts room, g .same);
             holds =
                 e
                 ∙ rest-laid es size out rest-after (steps .puts .holds) (omega (arith, g .fits, g .same))
-                ∙ ap (λ (z : List ℕ). laid size z out) (entries-joined moment)
                 ∙ ap (λ (n : ℕ). laid n bytes out) (g .size-is ∙ sym (zero-add (length done)))
                 ∙ ap (laid (0 + length done) bytes) (g .holds)
                 ∙ laid-both 0 done bytes before (omega arith)
@@ -168,6 +201,9 @@ same-by-task {release} {blocked} {waits} {release'} {blocked'} {waits'} x y z =
 state-is : (x : Dispatcher) {k : Kept} {b : Beside} → kept-of x ≡ k → beside-of x ≡ b → state-of x ≡ read k b
 state-is x ek eb = ap₂ (λ (u : Kept) (v : Beside). read u v) ek eb
 
+in-state : (d : State) (rs : List Release) (ms : List Moment) {e d' : State} (rs' : List Release) → d' ≡ e → Leads d rs ms e rs' → Leads d rs ms d' rs'
+in-state d rs ms {e} {d'} rs' h l = subst (λ (z : State). Leads d rs ms z rs') (sym h) l
+
 module _ {rest : List ℕ} (d : Dispatcher) {budget : ℕ} {before : List ℕ} {k : Kept} {b : Beside} {left : ℕ} {out : List ℕ} {x : Piece} {out' : List ℕ}
     (g : Reached rest (state-of d) budget before k b (x .read) (x .size) left out)
     (ek : kept-of (x .state) ≡ k) (eb : beside-of (x .state) ≡ b) (eo : out' ≡ out) where
@@ -175,7 +211,9 @@ module _ {rest : List ℕ} (d : Dispatcher) {budget : ℕ} {before : List ℕ} {
   pub ends : x .ended ≡ true → x .left ≡ 0 → Stands (2 ^ 64 - 1) (next-time (read k b) (releases-at rest (x .read))) → Makes rest d budget before x out'
   ends e none last = record {
     moments = g .moments;
-    leads = subst (λ (z : State). Leads (state-of d) (releases-at rest 0) (g .moments) z (releases-at rest (x .read))) (sym (state-is (x .state) ek eb)) (g .leads);
+    leads = in-state (state-of d) (releases-at rest 0) (g .moments) (releases-at rest (x .read)) (state-is (x .state) ek eb) (g .leads);
+    goes-on = along (state-of d) (releases-at rest 0) (g .moments) (state-of (x .state)) (releases-at rest (x .read))
+        (in-state (state-of d) (releases-at rest 0) (g .moments) (releases-at rest (x .read)) (state-is (x .state) ek eb) (g .leads));
     within = g .within;
     size-is = g .size-is;
     fits = g .fits;
@@ -190,7 +228,9 @@ module _ {rest : List ℕ} (d : Dispatcher) {budget : ℕ} {before : List ℕ} {
   pub stops : x .ended ≡ false → x .left ≡ left → (x .left ≡ 0) ⊎ (length before < x .size + most) → Makes rest d budget before x out'
   stops e same why = record {
     moments = g .moments;
-    leads = subst (λ (z : State). Leads (state-of d) (releases-at rest 0) (g .moments) z (releases-at rest (x .read))) (sym (state-is (x .state) ek eb)) (g .leads);
+    leads = in-state (state-of d) (releases-at rest 0) (g .moments) (releases-at rest (x .read)) (state-is (x .state) ek eb) (g .leads);
+    goes-on = along (state-of d) (releases-at rest 0) (g .moments) (state-of (x .state)) (releases-at rest (x .read))
+        (in-state (state-of d) (releases-at rest 0) (g .moments) (releases-at rest (x .read)) (state-is (x .state) ek eb) (g .leads));
     within = g .within;
     size-is = g .size-is;
     fits = g .fits;

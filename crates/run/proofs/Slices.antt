@@ -12,54 +12,37 @@ use lib.Seq.{length-take-le, drop-drop}
 use Rattle.sets.specs.Sets.{member, lowest}
 use Rattle.sets.proofs.Laws.{by-test, lowest-first, lowest-most}
 use Rattle.rules.proofs.Members.{Turn}
-use Rattle.words.specs.Words.{bytesOf}
 use Rattle.words.proofs.Laws.{lent, rest-whole}
-use Rattle.entries.specs.Entries.{laid, Put, job-bytes, interval-bytes, choice-bytes, skipped-bytes}
+use Rattle.entries.specs.Entries.{laid, Put, entry-bytes, each, record-entry-size}
 use Rattle.entries.proofs.Laws.{Front, next, up-to, behind}
-use Rattle.run.specs.Types.{JobEntry, IntervalEntry}
-use Rattle.run.specs.Putting.{skips-entries, joined, put-at, put-all, Puts}
-
--- ---- the lengths of the entries
-
-pub job-size : (e : JobEntry) → length (job-bytes e) ≡ 27
-unfolding job-bytes bytesOf
-job-size e = refl
-
-pub interval-size : (e : IntervalEntry) → length (interval-bytes e) ≡ 24
-unfolding interval-bytes choice-bytes bytesOf
-interval-size e = refl
-
-pub skipped-size : (n t : ℕ) → length (skipped-bytes n t) ≡ 10
-unfolding skipped-bytes bytesOf
-skipped-size n t = refl
+use Rattle.entries.proofs.Each.{each-both, each-one, entry-size}
+use Rattle.rules.specs.Entries.{skipped-entries}
+use Rattle.run.specs.Types.{Release, RecordEntry, ReleaseSkipped}
+use Rattle.run.specs.Putting.{put-at, put-all, Puts}
 
 -- ---- one after the other
 
-pub joined-both : (xs ys : List (List ℕ)) → joined (xs ++ ys) ≡ joined xs ++ joined ys
-unfolding joined
-joined-both [] ys = refl
-joined-both (a ∷ xs) ys = ap (λ (x : List ℕ). a ++ x) (joined-both xs ys) ∙ sym (append-assoc a (joined xs) (joined ys))
-
-put-both : (at : ℕ) (xs ys : List (List ℕ)) (s : List ℕ) → put-all at (xs ++ ys) s ≡ put-all (at + length (joined xs)) ys (put-all at xs s)
-unfolding put-all joined
+put-both : (at : ℕ) (xs ys : List RecordEntry) (s : List ℕ) → put-all at (xs ++ ys) s ≡ put-all (at + length (each entry-bytes xs)) ys (put-all at xs s)
+unfolding put-all each
 put-both at [] ys s = ap (λ (n : ℕ). put-all n ys s) (sym (add-zero at))
 put-both at (a ∷ xs) ys s =
-    put-both (at + length a) xs ys (put-at at a s)
-    ∙ ap (λ (n : ℕ). put-all n ys (put-all (at + length a) xs (put-at at a s)))
-    (add-assoc at (length a) (length (joined xs)) ∙ ap (λ (n : ℕ). at + n) (sym (length-append a (joined xs))))
+    let bytes : List ℕ = entry-bytes a in
+    put-both (at + length bytes) xs ys (put-at at bytes s)
+    ∙ ap (λ (n : ℕ). put-all n ys (put-all (at + length bytes) xs (put-at at bytes s)))
+    (add-assoc at (length bytes) (length (each entry-bytes xs)) ∙ ap (λ (n : ℕ). at + n) (sym (length-append bytes (each entry-bytes xs))))
 
 pub none : (at : ℕ) (s : List ℕ) → Puts at [] s at s
-unfolding put-all joined
+unfolding put-all each
 none at s = record { place-is = sym (add-zero at); holds = refl }
 
-pub one : (at : ℕ) (e s : List ℕ) {n : ℕ} {t : List ℕ} → length e ≡ n → t ≡ put-at at e s → Puts at (e ∷ []) s (at + n) t
-unfolding put-all joined
-one at e s {n} {t} size h = record { place-is = ap (λ (k : ℕ). at + k) (sym size ∙ ap length (sym (append-nil e))); holds = h }
+pub one : (at : ℕ) (e : RecordEntry) (s : List ℕ) {t : List ℕ} → t ≡ put-at at (entry-bytes e) s → Puts at (e ∷ []) s (at + record-entry-size e) t
+unfolding put-all
+one at e s {t} h = record { place-is = ap (λ (k : ℕ). at + k) (sym (entry-size e) ∙ ap length (sym (each-one entry-bytes e))); holds = h }
 
-module _ (at : ℕ) (xs ys : List (List ℕ)) (s : List ℕ) (p : ℕ) (s′ : List ℕ) (q : ℕ) (s″ : List ℕ) where
+module _ (at : ℕ) (xs ys : List RecordEntry) (s : List ℕ) (p : ℕ) (s′ : List ℕ) (q : ℕ) (s″ : List ℕ) where
   pub both : Puts at xs s p s′ → Puts p ys s′ q s″ → Puts at (xs ++ ys) s q s″
   both x y = record {
-    place-is = y .place-is ∙ ap (λ (k : ℕ). k + length (joined ys)) (x .place-is) ∙ omega (arith, ap length (joined-both xs ys), length-append (joined xs) (joined ys));
+    place-is = y .place-is ∙ ap (λ (k : ℕ). k + length (each entry-bytes ys)) (x .place-is) ∙ omega (arith, ap length (each-both entry-bytes xs ys), length-append (each entry-bytes xs) (each entry-bytes ys));
     holds = y .holds ∙ ap₂ (λ (k : ℕ) (z : List ℕ). put-all k ys z) (x .place-is) (x .holds) ∙ sym (put-both at xs ys s);
   }
 
@@ -116,20 +99,21 @@ laid-length at e s l =
 pub put-length : (at : ℕ) (e s : List ℕ) → length (put-at at e s) ≡ length s
 put-length at e s = by-test (leb (at + length e) (length s)) (λ b. rw b (laid-length at e s (leb-true (at + length e) (length s) b))) (λ b. rw b)
 
-pub put-all-length : (at : ℕ) (es : List (List ℕ)) (s : List ℕ) → length (put-all at es s) ≡ length s
+pub put-all-length : (at : ℕ) (es : List RecordEntry) (s : List ℕ) → length (put-all at es s) ≡ length s
 unfolding put-all
 put-all-length at [] s = refl
-put-all-length at (e ∷ es) s = put-all-length (at + length e) es (put-at at e s) ∙ put-length at e s
+put-all-length at (e ∷ es) s = put-all-length (at + length (entry-bytes e)) es (put-at at (entry-bytes e) s) ∙ put-length at (entry-bytes e) s
 
-pub put-all-laid : (at : ℕ) (es : List (List ℕ)) (s : List ℕ) → at + length (joined es) ≤ length s → put-all at es s ≡ laid at (joined es) s
-unfolding put-all joined
+pub put-all-laid : (at : ℕ) (es : List RecordEntry) (s : List ℕ) → at + length (each entry-bytes es) ≤ length s → put-all at es s ≡ laid at (each entry-bytes es) s
+unfolding put-all each
 put-all-laid at [] s l = sym (laid-none at s)
 put-all-laid at (e ∷ es) s l =
-    let n : length (e ++ joined es) ≡ length e + length (joined es) = length-append e (joined es) in
-    let first : at + length e ≤ length s = omega arith in
-    ap (put-all (at + length e) es) (rw (le-leb (at + length e) (length s) first))
-    ∙ put-all-laid (at + length e) es (laid at e s) (omega (arith, laid-length at e s first))
-    ∙ laid-both at e (joined es) s (omega arith)
+    let bytes : List ℕ = entry-bytes e in
+    let n : length (bytes ++ each entry-bytes es) ≡ length bytes + length (each entry-bytes es) = length-append bytes (each entry-bytes es) in
+    let first : at + length bytes ≤ length s = omega arith in
+    ap (put-all (at + length bytes) es) (rw (le-leb (at + length bytes) (length s) first))
+    ∙ put-all-laid (at + length bytes) es (laid at bytes s) (omega (arith, laid-length at bytes s first))
+    ∙ laid-both at bytes (each entry-bytes es) s (omega arith)
 
 -- ---- the rest of a slice, lent and handed back
 
@@ -144,15 +128,15 @@ rest-length place out t e =
     ∙ ap length (take-append-drop place out)
 
 -- what was put into it, where there is room for all of it
-module _ (es : List (List ℕ)) (place : ℕ) (out t : List ℕ) (puts : t ≡ put-all 0 es (take (length out - place) (drop place out))) where
-  pub rest-laid : place + length (joined es) ≤ length out → take place out ++ (t ++ drop (length out - place) (drop place out)) ≡ laid place (joined es) out
+module _ (es : List RecordEntry) (place : ℕ) (out t : List ℕ) (puts : t ≡ put-all 0 es (take (length out - place) (drop place out))) where
+  pub rest-laid : place + length (each entry-bytes es) ≤ length out → take place out ++ (t ++ drop (length out - place) (drop place out)) ≡ laid place (each entry-bytes es) out
   rest-laid l =
       let w : take (length out - place) (drop place out) ≡ drop place out = rest-whole place out in
-      let fits : 0 + length (joined es) ≤ length (take (length out - place) (drop place out)) = rw w (omega (arith, length-drop place out)) in
-      lent (λ (x : List ℕ). joined es ++ drop (length (joined es)) x) place out t
+      let fits : 0 + length (each entry-bytes es) ≤ length (take (length out - place) (drop place out)) = rw w (omega (arith, length-drop place out)) in
+      lent (λ (x : List ℕ). each entry-bytes es ++ drop (length (each entry-bytes es)) x) place out t
       (puts ∙ put-all-laid 0 es (take (length out - place) (drop place out)) fits
-      ∙ ap (λ (n : ℕ). joined es ++ drop n (take (length out - place) (drop place out))) (zero-add (length (joined es))))
-      ∙ ap (λ (x : List ℕ). take place out ++ (joined es ++ x)) (drop-drop (length (joined es)) place out)
+      ∙ ap (λ (n : ℕ). each entry-bytes es ++ drop n (take (length out - place) (drop place out))) (zero-add (length (each entry-bytes es))))
+      ∙ ap (λ (x : List ℕ). take place out ++ (each entry-bytes es ++ x)) (drop-drop (length (each entry-bytes es)) place out)
 
 pub rest-same : (place : ℕ) (out t : List ℕ) → t ≡ take (length out - place) (drop place out) → take place out ++ (t ++ drop (length out - place) (drop place out)) ≡ out
 rest-same place out t e = lent (λ (x : List ℕ). x) place out t e ∙ take-append-drop place out
@@ -160,34 +144,40 @@ rest-same place out t e = lent (λ (x : List ℕ). x) place out t e ∙ take-app
 -- ---- the skipped releases, from task to task
 
 -- no member from task i to task j: nothing is added
-skips-same : (i j set t : ℕ) → i ≤ j → ((k : ℕ) → i ≤ k → k < j → member k set ≡ false) → skips-entries j set t ≡ skips-entries i set t
-unfolding skips-entries
+skips-same : (i j set t : ℕ) → i ≤ j → ((k : ℕ) → i ≤ k → k < j → member k set ≡ false) → skipped-entries j set t ≡ skipped-entries i set t
+unfolding skipped-entries
 skips-same i zero set t l h = let e : i ≡ 0 = omega arith in rw e
 skips-same i (suc j) set t l h =
     by-test (leb i j)
-    (λ e. rw (h j (leb-true i j e) (omega arith)) (append-nil (skips-entries j set t) ∙ skips-same i j set t (leb-true i j e) (λ k a b. h k a (omega arith))))
+    (λ e. rw (h j (leb-true i j e) (omega arith)) (append-nil (skipped-entries j set t) ∙ skips-same i j set t (leb-true i j e) (λ k a b. h k a (omega arith))))
     (λ e. let x : i ≡ suc j = omega (arith, leb-false i j e) in rw x)
 
-pub skips-none : (set t : ℕ) → skips-entries (lowest set) set t ≡ []
-unfolding skips-entries
+abbrev skip : ℕ → ℕ → Release
+skip n t = record { task = n; time = t }
+
+pub skips-none : (set t : ℕ) → skipped-entries (lowest set) set t ≡ []
+unfolding skipped-entries
 skips-none set t = skips-same 0 (lowest set) set t (omega arith) (λ k a b. lowest-first set k b)
 
-skips-one : (n set t : ℕ) → member n set ≡ true → skips-entries (suc n) set t ≡ skips-entries n set t ++ (skipped-bytes n t ∷ [])
-unfolding skips-entries
+skips-one : (n set t : ℕ) → member n set ≡ true → skipped-entries (suc n) set t ≡ skipped-entries n set t ++ (ReleaseSkipped (skip n t) ∷ [])
+unfolding skipped-entries
 skips-one n set t e = rw e
 
-pub skips-turn : (set left n after t : ℕ) → Turn set left n after → skips-entries (lowest after) set t ≡ skips-entries (lowest left) set t ++ (skipped-bytes n t ∷ [])
+pub skips-turn : (set left n after t : ℕ) → Turn set left n after → skipped-entries (lowest after) set t ≡ skipped-entries (lowest left) set t ++ (ReleaseSkipped (skip n t) ∷ [])
 skips-turn set left n after t turn =
     skips-same (suc n) (lowest after) set t (omega (arith, turn .rises)) (λ k a b. turn .between k a b)
     ∙ rw (turn .lowest-left) (skips-one n set t (turn .there))
 
-pub skips-most : (k set t : ℕ) → length (joined (skips-entries k set t)) ≤ 10 * k
-unfolding skips-entries joined
+pub skips-most : (k set t : ℕ) → length (each entry-bytes (skipped-entries k set t)) ≤ 10 * k
+unfolding skipped-entries each
 skips-most zero set t = omega arith
 skips-most (suc k) set t =
     by-test (member k set)
-    (λ e. rw e (omega (arith, skips-most k set t, ap length (joined-both (skips-entries k set t) (skipped-bytes k t ∷ [])), length-append (joined (skips-entries k set t)) (joined (skipped-bytes k t ∷ [])), skipped-more k)))
-    (λ e. rw e (omega (arith, skips-most k set t, ap length (ap joined (append-nil (skips-entries k set t))))))
+    (λ e. rw e (omega (arith, skips-most k set t, ap length (each-both entry-bytes (skipped-entries k set t) (last ∷ [])), length-append (each entry-bytes (skipped-entries k set t)) (each entry-bytes (last ∷ [])), one-more)))
+    (λ e. rw e (omega (arith, skips-most k set t, ap length (ap (each entry-bytes) (append-nil (skipped-entries k set t))))))
   where
-    skipped-more : (n : ℕ) → length (joined (skipped-bytes n t ∷ [])) ≡ 10
-    skipped-more n = unfold joined in ap length (append-nil (skipped-bytes n t)) ∙ skipped-size n t
+    last : RecordEntry
+    last = ReleaseSkipped (skip k t)
+
+    one-more : length (each entry-bytes (ReleaseSkipped (skip k t) ∷ [])) ≡ 10
+    one-more = ap length (each-one entry-bytes (ReleaseSkipped (skip k t))) ∙ entry-size (ReleaseSkipped (skip k t))

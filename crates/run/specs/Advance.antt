@@ -6,11 +6,11 @@ use Rattle.rules.specs.Instant.{due, sooner, step-a, step-e, step-f, at-g, occu
 use Rattle.rules.specs.Registers.{phase-in}
 use Rattle.rules.specs.Steps.{Stands, CopiesOut}
 use Rattle.rules.specs.Kept.{Kept, kept, Whole, by-task, Beside, beside, registers-in, read}
-use Rattle.entries.specs.Entries.{interval-bytes}
-use Rattle.run.specs.Types.{List, [], _∷_, ℕ, _-_, _*_, _^_, _≤_, State, Stage, Closed, NoInterval, Span, Batch, Advanced}
+use Rattle.rules.specs.Entries.{done-entries, entries}
+use Rattle.run.specs.Types.{List, [], _∷_, ℕ, _-_, _*_, _^_, _≤_, RecordEntry, IntervalEnded, State, Stage, Closed, NoInterval, Span, Batch, Advanced}
 use Rattle.run.specs.Listed.{releases-at}
 use Rattle.run.specs.Run.{first-time, released-at, released-after}
-use Rattle.run.specs.Putting.{done-entries, moment-entries, Puts}
+use Rattle.run.specs.Putting.{Puts}
 
 -- ---- The next releases
 
@@ -28,9 +28,9 @@ NextTick rest times codes x =
 
 -- ---- The steps, with the entries that they leave
 
-abbrev pub span-entries : Closed → List (List ℕ)
+abbrev pub span-entries : Closed → List RecordEntry
 span-entries NoInterval = []
-span-entries (Span e) = interval-bytes e ∷ []
+span-entries (Span e) = IntervalEnded e ∷ []
 
 -- the copy-out of step a
 pub record CopyOutPut (t : ℕ) (k k' : Kept) (b : Beside) (out : List ℕ) (place : ℕ) (out' : List ℕ) : Type 0 where
@@ -65,7 +65,7 @@ EndsAfter t at priority columns k blocked out place k' blocked' out' =
 -- steps a to g
 pub record Steps (t set : ℕ) (k : Kept) (b : Beside) (out : List ℕ) (place : ℕ) (k' : Kept) (b' : Beside) (out' : List ℕ) : Type 0 where
   pub state : read k' b' ≡ at-g (read k b) t set
-  pub puts : Puts 0 (moment-entries (record { time = t; occurred = occurred (read k b) t set })) out place out'
+  pub puts : Puts 0 (entries t (occurred (read k b) t set)) out place out'
 
 -- ---- A run advanced
 

@@ -4,24 +4,19 @@ use mathlib.Core.Logic.{_⊎_}
 use Prim.Native.Nat.{_<_}
 use lib.ListN.{length}
 use Rattle.entries.specs.Entries.{laid}
-use Rattle.rules.specs.Instant.{due, sooner, at-g, occurred}
 use Rattle.rules.specs.Steps.{Stands}
 use Rattle.dispatcher.specs.Dispatcher.{state-of}
-use Rattle.run.specs.Types.{true, false, List, [], _∷_, ℕ, _+_, _-_, _^_, _≤_, Release, State, Due, Tick, Dispatcher, Piece}
+use Rattle.run.specs.Types.{true, false, List, [], _∷_, _++_, ℕ, _+_, _-_, _^_, _≤_, Release, State, Tick, Dispatcher, Piece}
 use Rattle.run.specs.Listed.{releases-at}
-use Rattle.run.specs.Run.{Moment, first-time, released-at, released-after, record-bytes}
+use Rattle.run.specs.Run.{Moment, released-at, released-after, next-time, moment, run, record-bytes}
 
--- when the next instant of a run is
-abbrev pub next-time : State → List Release → Due
-next-time d rs = sooner (first-time rs) (due (d .phase))
-
--- Each moment is the next instant, and what occurred at it is what the rules say, from a state with the releases that are left; after the
--- last one there are this state and these releases.
+-- Each moment is the next instant as the rules say, from a state with the releases that are left; after the last one there are this state
+-- and these releases.
 unfoldable pub Leads : State → List Release → List Moment → State → List Release → Type 0
 Leads d rs [] d' rs' = (d ≡ d') × (rs ≡ rs')
 Leads d rs (m ∷ ms) d' rs' =
-    (next-time d rs ≡ Tick (m .time)) × (m .occurred ≡ occurred d (m .time) (released-at (m .time) rs))
-    × Leads (at-g d (m .time) (released-at (m .time) rs)) (released-after (m .time) rs) ms d' rs'
+    (next-time d rs ≡ Tick (m .time)) × (m ≡ moment d (m .time) (released-at (m .time) rs))
+    × Leads (m .state) (released-after (m .time) rs) ms d' rs'
 
 -- the most bytes that one instant leaves: a job done, an interval ended, 32 releases skipped
 abbrev pub most : ℕ
@@ -32,6 +27,9 @@ most = 371
 pub record Makes (rest : List ℕ) (d : Dispatcher) (budget : ℕ) (out : List ℕ) (x : Piece) (out' : List ℕ) : Type 0 where
   pub moments : List Moment
   pub leads : Leads (state-of d) (releases-at rest 0) moments (state-of (x .state)) (releases-at rest (x .read))
+  -- the moments made, and then the run from the state left, are the run
+  pub goes-on : (k : ℕ) → run (k + length moments) (state-of d) (releases-at rest 0)
+      ≡ moments ++ run k (state-of (x .state)) (releases-at rest (x .read))
   pub within : x .read ≤ length rest
   pub size-is : x .size ≡ length (record-bytes moments)
   pub fits : x .size ≤ length out

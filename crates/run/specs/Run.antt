@@ -1,19 +1,22 @@
--- The run of a file: its releases and all due times handed to the dispatcher by instants, with no mark call, until nothing is
--- pending; and its record, in the order in which things occur.
-use Rattle.run.specs.Types.{true, false, cond, List, [], _∷_, _++_, ℕ, zero, suc, _+_, _*_, Release, TaskPart, State, Done, NoJob, Job, Closing, Unclosed, BeforeReleases, AfterReleases, Due, Never, Tick, Occurred, Answer, Refused, Served, Step}
+-- The run of a file: its releases and all due times, instant by instant, with no mark call, until nothing is pending; and its record, in
+-- the order in which things occur. No instant of a file's run is refused, so that nothing is said of refusals here: the moments are what the
+-- calls answer that feed the file to a dispatcher (record/specs/FileClaim `gives-record`).
+use Rattle.run.specs.Types.{true, false, List, [], _∷_, _++_, ℕ, zero, suc, _+_, _*_, Release, TaskPart, State, RecordEntry, Due, Never, Tick, Occurred}
 use lib.Dec.{eqb}
 use lib.ListN.{length}
-use Rattle.sets.specs.Sets.{member, insert}
-use Rattle.entries.specs.Entries.{job-bytes, interval-bytes, skipped-bytes}
+use Rattle.sets.specs.Sets.{insert}
+use Rattle.entries.specs.Entries.{entry-bytes, each}
 use Rattle.table.specs.TaskPart.{task-part}
-use Rattle.rules.specs.Instant.{due, sooner}
-use Rattle.rules.specs.Calls.{opened, instant}
+use Rattle.rules.specs.Instant.{due, sooner, at-g, occurred}
+use Rattle.rules.specs.Entries.{entries}
+use Rattle.rules.specs.Calls.{opened}
 
--- ---- The run: a list of instants with what occurred
+-- ---- The run: a list of instants, with what occurred and the state after it
 
 pub record Moment : Type 0 where
   pub time : ℕ
   pub occurred : Occurred
+  pub state : State
 
 abbrev pub first-time : List Release → Due
 first-time [] = Never
@@ -32,17 +35,21 @@ unfoldable pub released-after : ℕ → List Release → List Release
 released-after t [] = []
 released-after t (r ∷ rs) = elim (eqb (r .time) t) [ true ↦ released-after t rs | false ↦ r ∷ rs ]
 
-abbrev pub moment : ℕ → Answer → List Moment
-moment t (Refused n) = []
-moment t (Served o) = record { time = t; occurred = o } ∷ []
+-- when the next instant of a run is
+abbrev pub next-time : State → List Release → Due
+next-time d rs = sooner (first-time rs) (due (d .phase))
+
+-- an instant, as the rules say
+abbrev pub moment : State → ℕ → ℕ → Moment
+moment d t set = record { time = t; occurred = occurred d t set; state = at-g d t set }
 
 -- at most k instants
 unfoldable pub run : ℕ → State → List Release → List Moment
 run zero d rs = []
 run (suc k) d rs =
-    elim (sooner (first-time rs) (due (d .phase))) [
+    elim (next-time d rs) [
       | Never ↦ []
-      | Tick t ↦ let s : Step = instant d t (released-at t rs) in moment t (s .answer) ++ run k (s .state) (released-after t rs)
+      | Tick t ↦ let m : Moment = moment d t (released-at t rs) in m ∷ run k (m .state) (released-after t rs)
     ]
 
 -- as many instants as no run of n releases needs
@@ -53,25 +60,12 @@ budget n = 32 * n + 32
 unfoldable pub moments-of : List ℕ → List Release → List Moment
 moments-of s rs = let k : TaskPart = task-part s in run (budget (length rs)) (opened (k .table) (k .marked)) rs
 
--- ---- The record: kind 16 at step a, kind 17 at the interval's end, kind 18 at step c by rising task number
+-- ---- The record
 
-unfoldable pub done-bytes : Done → List ℕ
-done-bytes NoJob = []
-done-bytes (Job e) = job-bytes e
-
-unfoldable pub skips-bytes : ℕ → ℕ → ℕ → List ℕ
-skips-bytes zero set t = []
-skips-bytes (suc k) set t = skips-bytes k set t ++ cond (member k set) (skipped-bytes k t) []
-
--- an interval that ends at step b stands before the skipped releases, one that ends at step f behind them
-unfoldable pub closed-bytes : Closing → List ℕ → List ℕ
-closed-bytes Unclosed skips = skips
-closed-bytes (BeforeReleases e) skips = interval-bytes e ++ skips
-closed-bytes (AfterReleases e) skips = skips ++ interval-bytes e
-
-unfoldable pub moment-bytes : Moment → List ℕ
-moment-bytes m = let o : Occurred = m .occurred in done-bytes (o .done) ++ closed-bytes (o .closed) (skips-bytes 32 (o .skipped) (m .time))
+-- a run's entries, in the order in which things occur
+unfoldable pub record-entries : List Moment → List RecordEntry
+record-entries [] = []
+record-entries (m ∷ ms) = entries (m .time) (m .occurred) ++ record-entries ms
 
 unfoldable pub record-bytes : List Moment → List ℕ
-record-bytes [] = []
-record-bytes (m ∷ ms) = moment-bytes m ++ record-bytes ms
+record-bytes ms = each entry-bytes (record-entries ms)

@@ -1,5 +1,5 @@
 -- The names that the definitions share. Those that lower crates declare are passed on to the crates above.
-pub use Rattle.rules.specs.Types.{Closed, NoInterval, Span, Table, TaskPart, Refusal, NoRefusal, Alone, AtEntry, JobEntry, IntervalEntry, State, WaitingReleases, Stage, Interval, Phase, Between, Within}
+pub use Rattle.rules.specs.Types.{Closed, NoInterval, Span, Table, TaskPart, Refusal, NoRefusal, Alone, AtEntry, JobEntry, IntervalEntry, RecordEntry, JobDone, IntervalEnded, ReleaseSkipped, State, WaitingReleases, Stage, Interval, Phase, Between, Within}
 pub use Rattle.rules.specs.declared.Done.{Done}
 pub use Rattle.rules.specs.declared.Done.the-variants.{NoJob, Job}
 pub use Rattle.rules.specs.declared.Closing.{Closing}

@@ -8,12 +8,13 @@ use entries::JobEntry;
 use entries::SKIPPED_SIZE;
 ghost use mathlib.Core.List.{[], _∷_};
 ghost use Prim.Native.Nat.{_≤_};
-ghost use Rattle.entries.specs.Entries.{job-bytes, interval-bytes, skipped-bytes};
-ghost use Rattle.run.specs.Putting.{skips-entries, Puts};
+ghost use Rattle.rules.specs.Entries.{skipped-entries};
+ghost use Rattle.run.specs.Types.{JobDone, IntervalEnded, ReleaseSkipped};
+ghost use Rattle.run.specs.Putting.{Puts};
 
 pub fn job_at(out: &mut [u8], at: usize, e: JobEntry) -> usize
     requires { ⌜ at ≤ 1000 ⌝ }
-    ensures { λ r. ⌜ Puts at (job-bytes e ∷ []) (now (out .entry)) r (now (out .exit)) ⌝ }
+    ensures { λ r. ⌜ Puts at (JobDone e ∷ []) (now (out .entry)) r (now (out .exit)) ⌝ }
 {
     if at <= out.len() {
         entries::put_job(&mut out[at..], e);
@@ -23,7 +24,7 @@ pub fn job_at(out: &mut [u8], at: usize, e: JobEntry) -> usize
 
 pub fn interval_at(out: &mut [u8], at: usize, e: IntervalEntry) -> usize
     requires { ⌜ at ≤ 1000 ⌝ }
-    ensures { λ r. ⌜ Puts at (interval-bytes e ∷ []) (now (out .entry)) r (now (out .exit)) ⌝ }
+    ensures { λ r. ⌜ Puts at (IntervalEnded e ∷ []) (now (out .entry)) r (now (out .exit)) ⌝ }
 {
     if at <= out.len() {
         entries::put_interval(&mut out[at..], e);
@@ -33,7 +34,7 @@ pub fn interval_at(out: &mut [u8], at: usize, e: IntervalEntry) -> usize
 
 fn skipped_at(out: &mut [u8], at: usize, task: u8, time: u64) -> usize
     requires { ⌜ at ≤ 1000 ⌝ }
-    ensures { λ r. ⌜ Puts at (skipped-bytes task time ∷ []) (now (out .entry)) r (now (out .exit)) ⌝ }
+    ensures { λ r. ⌜ Puts at (ReleaseSkipped (record { task = task; time = time }) ∷ []) (now (out .entry)) r (now (out .exit)) ⌝ }
 {
     if at <= out.len() {
         entries::put_skipped(&mut out[at..], task, time);
@@ -44,7 +45,7 @@ fn skipped_at(out: &mut [u8], at: usize, task: u8, time: u64) -> usize
 // The skipped releases by rising task number. The loop goes from member to member.
 pub fn skips_at(out: &mut [u8], start: usize, set: u32, time: u64) -> usize
     requires { ⌜ start ≤ 100 ⌝ }
-    ensures { λ r. ⌜ Puts start (skips-entries 32 set time) (now (out .entry)) r (now (out .exit)) ⌝ }
+    ensures { λ r. ⌜ Puts start (skipped-entries 32 set time) (now (out .entry)) r (now (out .exit)) ⌝ }
 {
     let mut at = start;
     let mut left = set;

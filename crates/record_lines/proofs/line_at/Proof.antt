@@ -5,7 +5,8 @@ use native.Mathlib.Omega.{arith}
 use Rattle.entries.specs.Entries.{record-entry-size}
 use Rattle.lines.specs.Text.{Prints}
 use Rattle.record_lines.specs.Types.{RecordEntry}
-use Rattle.record_lines.specs.Lines.{line-of, entry-line, entry-size}
+use Rattle.lines.specs.Lines.{line-of}
+use Rattle.record_lines.specs.Lines.{entry-line, entry-size}
 use Rattle.record_lines.proofs.Laws.{size-fits}
 use borrow.Author.Needs.{needs}
 use Rattle.record_lines.proofs.line_at.Statement.{statement}

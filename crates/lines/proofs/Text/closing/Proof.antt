@@ -1,5 +1,7 @@
 -- `lines::Text::closing` meets its contract: by cases. Assumes nothing.
-use Rattle.lines.proofs.Laws.{nothing}
+use Rattle.entries.specs.Entries.{each}
+use Rattle.lines.specs.Types.{IntervalEnded}
+use Rattle.lines.proofs.Laws.{nothing, one-entry}
 use borrow.Author.Needs.{needs}
 use Rattle.lines.proofs.Text.closing.Statement.{statement}
 use Rattle.lines.proofs.Text.closing.Tie as tie
@@ -20,13 +22,14 @@ interval-requires-2 : tie.Need-interval-requires-2
 interval-requires-2 c κs = search needs
 
 returns : tie.Need-returns
+unfolding each
 returns c = rw (c .enum-told .given .1) (nothing (c .before .before .args .self) 72)
 
 returns-2 : tie.Need-returns-2
-returns-2 c = rw (c .before .before .closed .given .1) (c .interval .ensures)
+returns-2 c = rw (c .before .before .closed .given .1) (one-entry (IntervalEnded _) (c .interval .ensures))
 
 returns-3 : tie.Need-returns-3
-returns-3 c = rw (c .before .before .closed2 .given .1) (c .interval2 .ensures)
+returns-3 c = rw (c .before .before .closed2 .given .1) (one-entry (IntervalEnded _) (c .interval2 .ensures))
 
 pub closing-spec : {M : Type 1} → statement M
 closing-spec =

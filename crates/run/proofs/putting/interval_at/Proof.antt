@@ -3,7 +3,8 @@ use mathlib.Core.Path.{ap, _∙_}
 use mathlib.Core.Logic.{⊎-elim}
 use lib.ListN.{length}
 use Rattle.entries.specs.Entries.{interval-bytes}
-use Rattle.run.proofs.Slices.{interval-size, one, put-rest, put-past, put-length}
+use Rattle.run.specs.Types.{IntervalEnded}
+use Rattle.run.proofs.Slices.{one, put-rest, put-past, put-length}
 use borrow.Author.Needs.{needs}
 use Rattle.run.proofs.putting.interval_at.Statement.{statement}
 use Rattle.run.proofs.putting.interval_at.Tie as tie
@@ -37,8 +38,8 @@ returns c =
     let a = c .before .before .args in
     let e = interval-bytes (a .e) in
     ⊎-elim
-    (λ w. one (a .at) e (a .out .now) (interval-size (a .e)) (w .5 ∙ put-rest e (a .at) (a .out .now) _ (w .2 .last .0) (w .0 .taken) (w .2 .ensures)))
-    (λ w. one (a .at) e (a .out .now) (interval-size (a .e)) (w .1 ∙ put-past e (a .at) (a .out .now) (w .0 .left)))
+    (λ w. one (a .at) (IntervalEnded (a .e)) (a .out .now) (w .5 ∙ put-rest e (a .at) (a .out .now) _ (w .2 .last .0) (w .0 .taken) (w .2 .ensures)))
+    (λ w. one (a .at) (IntervalEnded (a .e)) (a .out .now) (w .1 ∙ put-past e (a .at) (a .out .now) (w .0 .left)))
     (c .if1 .came)
 
 pub interval-at-spec : {M : Type 1} → statement M

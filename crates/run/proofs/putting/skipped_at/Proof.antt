@@ -3,7 +3,8 @@ use mathlib.Core.Path.{ap, _∙_}
 use mathlib.Core.Logic.{⊎-elim}
 use lib.ListN.{length}
 use Rattle.entries.specs.Entries.{skipped-bytes}
-use Rattle.run.proofs.Slices.{skipped-size, one, put-rest, put-past, put-length}
+use Rattle.run.specs.Types.{ReleaseSkipped}
+use Rattle.run.proofs.Slices.{one, put-rest, put-past, put-length}
 use borrow.Author.Needs.{needs}
 use Rattle.run.proofs.putting.skipped_at.Statement.{statement}
 use Rattle.run.proofs.putting.skipped_at.Tie as tie
@@ -37,8 +38,8 @@ returns c =
     let a = c .before .before .args in
     let e = skipped-bytes (a .task) (a .time) in
     ⊎-elim
-    (λ w. one (a .at) e (a .out .now) (skipped-size (a .task) (a .time)) (w .5 ∙ put-rest e (a .at) (a .out .now) _ (w .2 .last .0) (w .0 .taken) (w .2 .ensures)))
-    (λ w. one (a .at) e (a .out .now) (skipped-size (a .task) (a .time)) (w .1 ∙ put-past e (a .at) (a .out .now) (w .0 .left)))
+    (λ w. one (a .at) (ReleaseSkipped (record { task = a .task; time = a .time })) (a .out .now) (w .5 ∙ put-rest e (a .at) (a .out .now) _ (w .2 .last .0) (w .0 .taken) (w .2 .ensures)))
+    (λ w. one (a .at) (ReleaseSkipped (record { task = a .task; time = a .time })) (a .out .now) (w .1 ∙ put-past e (a .at) (a .out .now) (w .0 .left)))
     (c .if1 .came)
 
 pub skipped-at-spec : {M : Type 1} → statement M

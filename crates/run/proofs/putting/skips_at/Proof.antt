@@ -6,7 +6,8 @@ use lib.ListN.{length}
 use Rattle.sets.specs.Sets.{lowest}
 use Rattle.sets.proofs.Laws.{lowest-none, lowest-most}
 use Rattle.rules.proofs.Members.{Left, start, turn, falls}
-use Rattle.run.specs.Putting.{skips-entries, Puts}
+use Rattle.rules.specs.Entries.{skipped-entries}
+use Rattle.run.specs.Putting.{Puts}
 use Rattle.run.proofs.Slices.{none, both, skips-none, skips-turn, skips-most}
 use borrow.Author.Needs.{needs}
 use Rattle.run.proofs.putting.skips_at.Statement.{statement}
@@ -14,7 +15,7 @@ use Rattle.run.proofs.putting.skips_at.Tie as tie
 
 abbrev Inv-loop : tie.InvT-loop
 Inv-loop out₀ start set time at₀ left₀ out at left =
-    Left set left × Puts start (skips-entries (lowest left) set time) out₀ at out × (length out ≡ length out₀)
+    Left set left × Puts start (skipped-entries (lowest left) set time) out₀ at out × (length out ≡ length out₀)
 
 abbrev μ-loop : tie.MeasureT-loop
 μ-loop out₀ start set time at₀ left₀ out at left = 32 - lowest left
