@@ -1,7 +1,6 @@
 // Reads an input on standard input and prints its run, instant by instant: a J, I or S line for each entry of its record, or an R line
 // where the input is refused. No more of a record is kept than a piece of it. A read that fails is no input, and at the first write that
 // fails the program stops; either is said in a line on standard error.
-use lines::Text;
 use streams::Got;
 use table::Refusal;
 use table::TaskPart;
@@ -22,18 +21,6 @@ const LINES: usize = 16384;
 // As many instants as no run has.
 const INSTANTS: usize = 32 * 4096 + 32;
 
-// Prints the first `count` bytes of `bytes`, and answers whether that was possible.
-fn print(bytes: &[u8], count: usize) -> bool
-    requires { ⌜ count ≤ length (now bytes) ⌝ }
-{
-    streams::write(b"gateway: standard output", &bytes[..count])
-}
-
-fn print_text(text: Text, out: &mut [u8]) {
-    let count = lines::put(text, out);
-    print(out, count);
-}
-
 // Prints the lines of the entries, as many at once as there is room for, and answers whether that was possible.
 fn print_lines(entries: &[u8], out: &mut [u8]) -> bool {
     let mut at: usize = 0;
@@ -43,7 +30,7 @@ fn print_lines(entries: &[u8], out: &mut [u8]) -> bool {
         if len == 0 {
             return true;
         }
-        if !print(out, len) {
+        if !streams::write_front(b"gateway", out, len) {
             return false;
         }
         at = filled.next;
@@ -70,13 +57,17 @@ fn print_run(input: &[u8], part: TaskPart, out: &mut [u8])
     }
 }
 
+fn print_refusal(refusal: Refusal) {
+    printing::print_text(b"gateway", lines::refused_input_line(refusal));
+}
+
 fn answer(input: &[u8], out: &mut [u8]) {
     let part = run::check_file(input);
     let refusal = part.refusal;
     match refusal {
         Refusal::NoRefusal => print_run(input, part, out),
-        Refusal::Alone(_) => print_text(lines::refused_input_line(refusal), out),
-        Refusal::AtEntry(_, _) => print_text(lines::refused_input_line(refusal), out),
+        Refusal::Alone(_) => print_refusal(refusal),
+        Refusal::AtEntry(_, _) => print_refusal(refusal),
     }
 }
 
@@ -85,7 +76,7 @@ fn read(input: &mut [u8]) -> Got
     requires { ⌜ file-most ≤ length (now input) ⌝ }
     ensures { λ r. ⌜ Counts (r .count) (now (input .exit)) ⌝ }
 {
-    streams::read_full(b"gateway: standard input", input)
+    streams::fill(b"gateway", input, 0)
 }
 
 fn main() {

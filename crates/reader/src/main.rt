@@ -7,7 +7,6 @@ use entries::RELEASE_SIZE;
 use entries::RecordEntry;
 use lines::Text;
 use record::Outcome;
-use streams::Got;
 use table::Refusal;
 ghost use Prim.Native.Nat.{_+_, _≤_};
 ghost use mathlib.Core.Path.{_≡_};
@@ -33,54 +32,22 @@ const LINES: usize = 16384;
 // As many times as no input fills the buffer. A proved loop has to end, and nothing says that the input does.
 const TURNS: usize = 1099511627776;
 
-// How many bytes are kept to be printed, and whether no write failed.
-struct Kept {
-    len: usize,
-    good: bool,
-}
-
 // The place behind some whole entries, and the number by which the entry there is refused: 0 where there is none.
 struct Stop {
     at: usize,
     number: u8,
 }
 
-// Prints the first `count` bytes of `bytes`, and answers whether that was possible.
-fn print(bytes: &[u8], count: usize) -> bool
-    requires { ⌜ count ≤ length (now bytes) ⌝ }
-{
-    streams::write(b"reader: standard output", &bytes[..count])
-}
-
-fn print_text(text: Text) {
-    let mut out = [0u8; 192];
-    let n = lines::put(text, &mut out);
-    print(&out, n);
+fn print(text: Text) {
+    printing::print_text(b"reader", text);
 }
 
 // The line of a refusal, if there is one.
 fn print_refusal(refusal: Refusal) {
     match refusal {
         Refusal::NoRefusal => {}
-        Refusal::Alone(_) => print_text(lines::refused_input_line(refusal)),
-        Refusal::AtEntry(_, _) => print_text(lines::refused_input_line(refusal)),
-    }
-}
-
-// Puts a text behind the `len` bytes of `out`, which are printed first where there may be no room behind them.
-fn gather(out: &mut [u8], len: usize, text: Text) -> Kept
-    requires { ⌜ len ≤ length (now out) ⌝ }
-    ensures { λ r. ⌜ r .len ≤ length (now (out .entry)) ⌝ }
-{
-    if out.len() - len < 192 {
-        let good = print(out, len);
-        let put = lines::put(text, out);
-        return Kept { len: put, good };
-    }
-    let put = lines::put(text, &mut out[len..]);
-    Kept {
-        len: len + put,
-        good: true,
+        Refusal::Alone(_) => print(lines::refused_input_line(refusal)),
+        Refusal::AtEntry(_, _) => print(lines::refused_input_line(refusal)),
     }
 }
 
@@ -98,41 +65,14 @@ fn print_list(list: &[u8], size: usize, out: &mut [u8]) {
     let mut at = 0;
     while at < size && RELEASE_SIZE <= list.len() - at {
         let line = listed_at(list, at);
-        let kept = gather(out, len, line);
+        let kept = printing::gather(b"reader", out, len, line);
         if !kept.good {
             return;
         }
         len = kept.len;
         at += RELEASE_SIZE;
     }
-    print(out, len);
-}
-
-// Reads behind the `kept` bytes at the front of `input` until it is full, the input ends or a read fails, and answers how many bytes are there
-// then. Where no read failed and there is room behind them, the input has ended.
-fn fill(input: &mut [u8], kept: usize) -> Got
-    requires { ⌜ kept ≤ length (now input) ⌝ }
-    ensures { λ r. ⌜ (kept ≤ r .count) × (r .count ≤ length (now (input .entry))) ⌝ }
-{
-    let got = streams::read_full(b"reader: standard input", &mut input[kept..]);
-    Got {
-        count: kept + got.count,
-        good: got.good,
-    }
-}
-
-// Moves the bytes from `from` up to `end` to the front, and answers how many there are.
-fn keep(input: &mut [u8], from: usize, end: usize) -> usize
-    requires { ⌜ (from ≤ end) × (end ≤ length (now input)) ⌝ }
-    ensures { λ r. ⌜ r ≤ end ⌝ }
-{
-    let n = end - from;
-    let mut i = 0;
-    while i < n {
-        input[i] = input[from + i];
-        i += 1;
-    }
-    n
+    streams::write_front(b"reader", out, len);
 }
 
 // Prints a refusal where `count` bytes are there, of which the first `have` have been read, and the line of what is cut short where they
@@ -140,13 +80,13 @@ fn keep(input: &mut [u8], from: usize, end: usize) -> usize
 fn print_if_there(input: &mut [u8], count: usize, have: usize, refusal: Refusal) {
     let mut left = if have < count { count - have } else { 0 };
     while left > 0 {
-        let got = fill(input, 0);
+        let got = streams::fill(b"reader", input, 0);
         if !got.good {
             return;
         }
         let more = got.count;
         if more == 0 {
-            print_text(lines::cut_short_line());
+            print(lines::cut_short_line());
             return;
         }
         left = if more < left { left - more } else { 0 };
@@ -209,8 +149,8 @@ fn refusal_of_long(input: &mut [u8], start: usize) -> Refusal
         if ended {
             return Refusal::Alone(18);
         }
-        let kept = keep(input, stop.at, end);
-        let got = fill(input, kept);
+        let kept = streams::keep(input, stop.at, end);
+        let got = streams::fill(b"reader", input, kept);
         if !got.good {
             return Refusal::NoRefusal;
         }
@@ -242,13 +182,13 @@ fn answer(tasks: &[u8], stored: &[u8], list: &mut [u8], out: &mut [u8]) {
 fn drive(input: &mut [u8], list: &mut [u8], out: &mut [u8])
     requires { ⌜ length (now input) ≡ 524820 ⌝ }
 {
-    let got = fill(input, 0);
+    let got = streams::fill(b"reader", input, 0);
     if !got.good {
         return;
     }
     let end = got.count;
     if end < LENGTH {
-        print_text(lines::cut_short_line());
+        print(lines::cut_short_line());
         return;
     }
     let size = words::get_u32(input, 0) as usize;
@@ -259,7 +199,7 @@ fn drive(input: &mut [u8], list: &mut [u8], out: &mut [u8])
     }
     let start = LENGTH + size;
     if end < start {
-        print_text(lines::cut_short_line());
+        print(lines::cut_short_line());
         return;
     }
     if end < input.len() {

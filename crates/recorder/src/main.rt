@@ -18,13 +18,6 @@ const ENTRIES: usize = 16384;
 // As many instants as no run has.
 const INSTANTS: usize = 32 * 4096 + 32;
 
-// Writes the first `count` bytes of `bytes`, and answers whether that was possible.
-fn print(bytes: &[u8], count: usize) -> bool
-    requires { ⌜ count ≤ length (now bytes) ⌝ }
-{
-    streams::write(b"recorder: standard output", &bytes[..count])
-}
-
 fn write_run(input: &[u8], part: TaskPart, out: &mut [u8])
     requires { ⌜ part .end ≤ length (now input) ⌝ }
     requires { ⌜ 371 ≤ length (now out) ⌝ }
@@ -35,7 +28,7 @@ fn write_run(input: &[u8], part: TaskPart, out: &mut [u8])
     let mut left = INSTANTS;
     while left != 0 {
         let x = run::next_piece(&input[at..], d, left, out);
-        if !print(out, x.size) {
+        if !streams::write_front(b"recorder", out, x.size) {
             return;
         }
         at += x.read;
@@ -73,7 +66,7 @@ fn read(input: &mut [u8]) -> Got
     requires { ⌜ file-most ≤ length (now input) ⌝ }
     ensures { λ r. ⌜ Counts (r .count) (now (input .exit)) ⌝ }
 {
-    streams::read_full(b"recorder: standard input", input)
+    streams::fill(b"recorder", input, 0)
 }
 
 fn main() {

@@ -3,7 +3,6 @@
 // read or write that fails the program stops, and says so in a line on standard error.
 use call_entries::CallEntry;
 use dispatcher::Dispatcher;
-use lines::Text;
 use streams::Got;
 use table::Refusal;
 ghost use Prim.Native.Nat.{_≤_, _<_, min};
@@ -24,12 +23,6 @@ struct Head {
 // Whether all bytes were there, and whether no read failed.
 struct Skipped {
     whole: bool,
-    good: bool,
-}
-
-// How many bytes are kept to be printed, and whether no write failed.
-struct Kept {
-    len: usize,
     good: bool,
 }
 
@@ -55,25 +48,12 @@ fn least(a: usize, b: usize) -> usize
     if a < b { a } else { b }
 }
 
-// Prints the first `count` bytes of `bytes`, and answers whether that was possible.
-fn print(bytes: &[u8], count: usize) -> bool
-    requires { ⌜ count ≤ length (now bytes) ⌝ }
-{
-    streams::write(b"session: standard output", &bytes[..count])
-}
-
-fn print_text(text: Text) -> bool {
-    let mut out = [0u8; 192];
-    let n = lines::put(text, &mut out);
-    print(&out, n)
-}
-
 // Reads up to `count` bytes to the front of `to`, fewer only where the input ends or a read fails.
 fn read(to: &mut [u8], count: usize) -> Got
     requires { ⌜ count ≤ length (now to) ⌝ }
     ensures { λ r. ⌜ r .count ≤ count ⌝ }
 {
-    streams::read_full(b"session: standard input", &mut to[..count])
+    streams::fill(b"session", &mut to[..count], 0)
 }
 
 // Reads `count` bytes and drops them, and answers whether they were there and no read failed.
@@ -102,23 +82,6 @@ fn skip(space: &mut [u8], count: usize) -> Skipped {
     }
 }
 
-// Puts a text behind the `len` bytes of `out`, which are printed first where there may be no room behind them.
-fn gather(out: &mut [u8], len: usize, text: Text) -> Kept
-    requires { ⌜ len ≤ length (now out) ⌝ }
-    ensures { λ r. ⌜ r .len ≤ length (now (out .entry)) ⌝ }
-{
-    if out.len() - len < 192 {
-        let good = print(out, len);
-        let put = lines::put(text, out);
-        return Kept { len: put, good };
-    }
-    let put = lines::put(text, &mut out[len..]);
-    Kept {
-        len: len + put,
-        good: true,
-    }
-}
-
 // Serves the whole calls at the start of `s`, with `out` to gather their lines in, as far as they can be printed.
 fn serve(d: Dispatcher, s: &[u8], out: &mut [u8]) -> Served
     ensures { λ r. ⌜ r .taken ≤ length (now (s .entry)) ⌝ }
@@ -134,7 +97,7 @@ fn serve(d: Dispatcher, s: &[u8], out: &mut [u8]) -> Served
         }
         let answered = call_entries::answer(state, entry);
         let text = answered.text;
-        let kept = gather(out, len, text);
+        let kept = printing::gather(b"session", out, len, text);
         if !kept.good {
             return Served {
                 state,
@@ -147,37 +110,11 @@ fn serve(d: Dispatcher, s: &[u8], out: &mut [u8]) -> Served
         state = next;
         at += size;
     }
-    let good = print(out, len);
+    let good = streams::write_front(b"session", out, len);
     Served {
         state,
         taken: at,
         good,
-    }
-}
-
-// Moves the bytes from `from` up to `end` to the front, and answers how many there are.
-fn keep(input: &mut [u8], from: usize, end: usize) -> usize
-    requires { ⌜ (from ≤ end) × (end ≤ length (now input)) ⌝ }
-    ensures { λ r. ⌜ r ≤ end ⌝ }
-{
-    let n = end - from;
-    let mut i = 0;
-    while i < n {
-        input[i] = input[from + i];
-        i += 1;
-    }
-    n
-}
-
-// Reads once behind the `kept` bytes at the front of `input`, and answers how many bytes are there then.
-fn refill(input: &mut [u8], kept: usize) -> Got
-    requires { ⌜ kept ≤ length (now input) ⌝ }
-    ensures { λ r. ⌜ (kept ≤ r .count) × (r .count ≤ length (now (input .entry))) ⌝ }
-{
-    let got = streams::read_once(b"session: standard input", &mut input[kept..]);
-    Got {
-        count: kept + got.count,
-        good: got.good,
     }
 }
 
@@ -195,7 +132,7 @@ fn turn(input: &mut [u8], out: &mut [u8], kept: usize, d: Dispatcher) -> Progres
     requires { ⌜ kept ≤ length (now input) ⌝ }
     ensures { λ r. ⌜ r .kept ≤ length (now (input .entry)) ⌝ }
 {
-    let got = refill(input, kept);
+    let got = streams::read_behind(b"session", input, kept);
     let end = got.count;
     if end == kept {
         return Progress {
@@ -206,7 +143,7 @@ fn turn(input: &mut [u8], out: &mut [u8], kept: usize, d: Dispatcher) -> Progres
         };
     }
     let served = serve(d, &input[..end], out);
-    let left = keep(input, served.taken, end);
+    let left = streams::keep(input, served.taken, end);
     let more = unfinished(&input[..left]);
     let state = served.state;
     Progress {
@@ -236,7 +173,7 @@ fn run(input: &mut [u8], out: &mut [u8], d: Dispatcher) {
         turns -= 1;
     }
     if kept > 0 {
-        print_text(lines::cut_short_line());
+        printing::print_text(b"session", lines::cut_short_line());
     }
 }
 
@@ -286,13 +223,13 @@ fn drive(input: &mut [u8], out: &mut [u8])
         return;
     }
     if !head.whole {
-        print_text(lines::cut_short_line());
+        printing::print_text(b"session", lines::cut_short_line());
         return;
     }
     let kept = head.kept;
     let opening = guarantees::open(&input[..kept]);
     let refusal = opening.refusal;
-    if !print_text(lines::opening_lines(refusal)) {
+    if !printing::print_text(b"session", lines::opening_lines(refusal)) {
         return;
     }
     if let Refusal::NoRefusal = refusal {

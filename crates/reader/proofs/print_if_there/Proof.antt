@@ -6,16 +6,19 @@ use Rattle.reader.proofs.print_if_there.Statement.{statement}
 use Rattle.reader.proofs.print_if_there.Tie as tie
 
 abbrev Inv-loop : tie.InvT-loop
-Inv-loop input₀ count have refusal left₀ input left = length input ≡ length input₀
+Inv-loop input₀ count have refusal left₀ t8 input left = length input ≡ length input₀
 
 abbrev μ-loop : tie.MeasureT-loop
-μ-loop input₀ count have refusal left₀ input left = left
+μ-loop input₀ count have refusal left₀ t8 input left = left
 
 sub-left : tie.Need-sub-left Inv-loop μ-loop
 sub-left c = search needs
 
 loop-holds : tie.Need-loop-holds Inv-loop μ-loop
 loop-holds c = search needs
+
+slice-aggregate-fill : tie.Need-slice-aggregate-fill Inv-loop μ-loop
+slice-aggregate-fill c = search needs
 
 fill-requires : tie.Need-fill-requires Inv-loop μ-loop
 fill-requires c κs = search needs
@@ -29,8 +32,8 @@ returns c = search needs
 cut-short-line-requires : tie.Need-cut-short-line-requires Inv-loop μ-loop
 cut-short-line-requires c κs = search needs
 
-print-text-requires : tie.Need-print-text-requires Inv-loop μ-loop
-print-text-requires c κs = search needs
+print-requires : tie.Need-print-requires Inv-loop μ-loop
+print-requires c κs = search needs
 
 same-length-2 : tie.Need-same-length-2 Inv-loop μ-loop
 same-length-2 c = search needs
@@ -70,11 +73,12 @@ print-if-there-spec =
     μ-loop
     sub-left
     loop-holds
+    slice-aggregate-fill
     fill-requires
     same-length
     returns
     cut-short-line-requires
-    print-text-requires
+    print-requires
     same-length-2
     returns-2
     sub-left-2

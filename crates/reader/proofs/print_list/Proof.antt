@@ -9,10 +9,10 @@ use Rattle.reader.proofs.print_list.Statement.{statement}
 use Rattle.reader.proofs.print_list.Tie as tie
 
 abbrev Inv-loop : tie.InvT-loop
-Inv-loop list size out₀ len₀ at₀ out len at = (at ≤ length list) × (len ≤ length out₀) × (length out ≡ length out₀)
+Inv-loop list size out₀ len₀ at₀ t8 t9 out len at = (at ≤ length list) × (length out ≡ length out₀)
 
 abbrev μ-loop : tie.MeasureT-loop
-μ-loop list size out₀ len₀ at₀ out len at = length list - at
+μ-loop list size out₀ len₀ at₀ t8 t9 out len at = length list - at
 
 loop-holds : tie.Need-loop-holds Inv-loop μ-loop
 loop-holds c = search needs
@@ -22,6 +22,9 @@ sub-if1 c = search needs
 
 listed-at-requires : tie.Need-listed-at-requires Inv-loop μ-loop
 listed-at-requires c κs = search needs
+
+slice-aggregate-gather : tie.Need-slice-aggregate-gather Inv-loop μ-loop
+slice-aggregate-gather c = search needs
 
 gather-requires : tie.Need-gather-requires Inv-loop μ-loop
 gather-requires c κs = search needs
@@ -37,20 +40,23 @@ add-at c = search needs
 
 loop-less : tie.Need-loop-less Inv-loop μ-loop
 loop-less c =
-    let v = c .before .before .before .before .before .before .before in
+    let v = c .before .before .before .before .before .before .before .before in
     let s = v .before .before .before .before .before .args .list .now in
     let left = leb-true 10 (length s - v .before .before .loop .at) (v .if1 .taken) in
     omega (arith, left)
 
 loop-again : tie.Need-loop-again Inv-loop μ-loop
 loop-again c =
-    let v = c .before .before .before .before .before .before .before in
+    let v = c .before .before .before .before .before .before .before .before in
     let s = v .before .before .before .before .before .args .list .now in
     let left = leb-true 10 (length s - v .before .before .loop .at) (v .if1 .taken) in
-    (omega (arith, left), search needs, search needs)
+    (omega (arith, left), search needs)
 
-print-requires : tie.Need-print-requires Inv-loop μ-loop
-print-requires c κs = search needs
+slice-aggregate-write-front : tie.Need-slice-aggregate-write-front Inv-loop μ-loop
+slice-aggregate-write-front c = search needs
+
+write-front-requires : tie.Need-write-front-requires Inv-loop μ-loop
+write-front-requires c κs = search needs
 
 same-length-2 : tie.Need-same-length-2 Inv-loop μ-loop
 same-length-2 c = search needs
@@ -67,12 +73,14 @@ print-list-spec =
     loop-holds
     sub-if1
     listed-at-requires
+    slice-aggregate-gather
     gather-requires
     same-length
     returns
     add-at
     loop-less
     loop-again
-    print-requires
+    slice-aggregate-write-front
+    write-front-requires
     same-length-2
     returns-2)

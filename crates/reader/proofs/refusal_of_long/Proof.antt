@@ -7,10 +7,10 @@ use Rattle.reader.proofs.refusal_of_long.Statement.{statement}
 use Rattle.reader.proofs.refusal_of_long.Tie as tie
 
 abbrev Inv-loop : tie.InvT-loop
-Inv-loop input₀ start from₀ end₀ place₀ turns₀ input from end place turns = (length input ≡ length input₀) × (from ≤ end) × (end ≤ length input₀) × (place + turns * 1048576 ≤ 1099511627776 * 1048576)
+Inv-loop input₀ start from₀ end₀ place₀ turns₀ t11 input from end place turns = (length input ≡ length input₀) × (from ≤ end) × (end ≤ length input₀) × (place + turns * 1048576 ≤ 1099511627776 * 1048576)
 
 abbrev μ-loop : tie.MeasureT-loop
-μ-loop input₀ start from₀ end₀ place₀ turns₀ input from end place turns = turns
+μ-loop input₀ start from₀ end₀ place₀ turns₀ t11 input from end place turns = turns
 
 loop-holds : tie.Need-loop-holds Inv-loop μ-loop
 loop-holds c = search needs
@@ -38,6 +38,9 @@ returns-2 c = search needs
 
 keep-requires : tie.Need-keep-requires Inv-loop μ-loop
 keep-requires c κs = search needs
+
+slice-aggregate-fill : tie.Need-slice-aggregate-fill Inv-loop μ-loop
+slice-aggregate-fill c = search needs
 
 fill-requires : tie.Need-fill-requires Inv-loop μ-loop
 fill-requires c κs = search needs
@@ -78,6 +81,7 @@ refusal-of-long-spec =
     same-length-2
     returns-2
     keep-requires
+    slice-aggregate-fill
     fill-requires
     same-length-3
     returns-3

@@ -18,6 +18,9 @@ same-length-2 c = search needs
 returns : tie.Need-returns
 returns c = search needs
 
+slice-aggregate-print-text : tie.Need-slice-aggregate-print-text
+slice-aggregate-print-text c = search needs
+
 cut-short-line-requires : tie.Need-cut-short-line-requires
 cut-short-line-requires c κs = search needs
 
@@ -41,6 +44,9 @@ slice-aggregate-open c = sym (length-take-le _ _ (omega arith))
 
 open-requires : tie.Need-open-requires
 open-requires c κs = search needs
+
+slice-aggregate-print-text-2 : tie.Need-slice-aggregate-print-text-2
+slice-aggregate-print-text-2 c = search needs
 
 opening-lines-requires : tie.Need-opening-lines-requires
 opening-lines-requires c κs = search needs
@@ -89,6 +95,7 @@ drive-spec =
     same-length
     same-length-2
     returns
+    slice-aggregate-print-text
     cut-short-line-requires
     print-text-requires
     same-length-3
@@ -97,6 +104,7 @@ drive-spec =
     slice-reshare-prefix-open
     slice-aggregate-open
     open-requires
+    slice-aggregate-print-text-2
     opening-lines-requires
     print-text-requires-2
     same-length-5

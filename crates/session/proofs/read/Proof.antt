@@ -6,17 +6,17 @@ use lib.Seq.{length-take-le}
 use Rattle.session.proofs.read.Statement.{statement}
 use Rattle.session.proofs.read.Tie as tie
 
-slice-relend-prefix-read-full : tie.Need-slice-relend-prefix-read-full
-slice-relend-prefix-read-full c = search needs
+slice-aggregate-fill : tie.Need-slice-aggregate-fill
+slice-aggregate-fill c = search needs
 
-slice-aggregate-read-full : tie.Need-slice-aggregate-read-full
-slice-aggregate-read-full c = search needs
+slice-relend-prefix-fill : tie.Need-slice-relend-prefix-fill
+slice-relend-prefix-fill c = search needs
 
-slice-aggregate-read-full-2 : tie.Need-slice-aggregate-read-full-2
-slice-aggregate-read-full-2 c = let a = c .before .before .before .args in sym (length-take-le (a .count) (a .to .now) (c .before .before .before .pre))
+slice-aggregate-fill-2 : tie.Need-slice-aggregate-fill-2
+slice-aggregate-fill-2 c = let a = c .before .before .before .args in sym (length-take-le (a .count) (a .to .now) (c .before .before .before .pre))
 
-read-full-requires : tie.Need-read-full-requires
-read-full-requires c κs = search needs
+fill-requires : tie.Need-fill-requires
+fill-requires c κs = search needs
 
 same-length : tie.Need-same-length
 same-length c = search needs
@@ -28,9 +28,9 @@ pub read-spec : {M : Type 1} → statement M
 read-spec =
     tie.close
     (tie.spec
-    slice-aggregate-read-full
-    slice-relend-prefix-read-full
-    slice-aggregate-read-full-2
-    read-full-requires
+    slice-aggregate-fill
+    slice-relend-prefix-fill
+    slice-aggregate-fill-2
+    fill-requires
     same-length
     returns)

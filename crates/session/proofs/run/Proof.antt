@@ -9,10 +9,10 @@ use Rattle.session.proofs.run.Statement.{statement}
 use Rattle.session.proofs.run.Tie as tie
 
 abbrev Inv-loop : tie.InvT-loop
-Inv-loop input₀ out₀ state₀ kept₀ more₀ turns₀ input out state kept more turns = (length input ≡ length input₀) × (length out ≡ length out₀) × (kept ≤ length input₀)
+Inv-loop input₀ out₀ state₀ kept₀ more₀ turns₀ t10 input out state kept more turns = (length input ≡ length input₀) × (length out ≡ length out₀) × (kept ≤ length input₀)
 
 abbrev μ-loop : tie.MeasureT-loop
-μ-loop input₀ out₀ state₀ kept₀ more₀ turns₀ input out state kept more turns = turns
+μ-loop input₀ out₀ state₀ kept₀ more₀ turns₀ t10 input out state kept more turns = turns
 
 loop-holds : tie.Need-loop-holds Inv-loop μ-loop
 loop-holds c = search needs
@@ -39,6 +39,9 @@ loop-less c =
 
 loop-again : tie.Need-loop-again Inv-loop μ-loop
 loop-again c = search needs
+
+slice-aggregate-print-text : tie.Need-slice-aggregate-print-text Inv-loop μ-loop
+slice-aggregate-print-text c = search needs
 
 cut-short-line-requires : tie.Need-cut-short-line-requires Inv-loop μ-loop
 cut-short-line-requires c κs = search needs
@@ -78,6 +81,7 @@ run-spec =
     sub-turns
     loop-less
     loop-again
+    slice-aggregate-print-text
     cut-short-line-requires
     print-text-requires
     same-length-3

@@ -1,13 +1,16 @@
 -- `session::turn` is safe and ends, and what it keeps is within the slice. Assumes nothing.
 use mathlib.Core.Path.{sym}
-use borrow.Author.Needs.{needs}
 use native.Mathlib.Omega.{arith}
 use lib.Seq.{length-take-le}
+use borrow.Author.Needs.{needs}
 use Rattle.session.proofs.turn.Statement.{statement}
 use Rattle.session.proofs.turn.Tie as tie
 
-refill-requires : tie.Need-refill-requires
-refill-requires c κs = search needs
+slice-aggregate-read-behind : tie.Need-slice-aggregate-read-behind
+slice-aggregate-read-behind c = search needs
+
+read-behind-requires : tie.Need-read-behind-requires
+read-behind-requires c κs = search needs
 
 same-length : tie.Need-same-length
 same-length c = search needs
@@ -25,9 +28,7 @@ serve-requires : tie.Need-serve-requires
 serve-requires c κs = search needs
 
 keep-requires : tie.Need-keep-requires
-keep-requires c κs =
-    let filled = c .before .before .before .before .before .before .before .before .before .refill in
-    (omega (arith, length-take-le (filled .result .count) (filled .last .0) (omega arith)), omega arith)
+keep-requires c κs = search needs
 
 slice-reshare-prefix-unfinished : tie.Need-slice-reshare-prefix-unfinished
 slice-reshare-prefix-unfinished c = search needs
@@ -51,7 +52,8 @@ pub turn-spec : {M : Type 1} → statement M
 turn-spec =
     tie.close
     (tie.spec
-    refill-requires
+    slice-aggregate-read-behind
+    read-behind-requires
     same-length
     returns
     slice-reshare-prefix-serve

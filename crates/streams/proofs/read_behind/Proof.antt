@@ -1,8 +1,15 @@
 -- `streams::read_behind` meets its contract: what the read counts, behind what stood there. Assumes nothing.
+use mathlib.Core.Path.{_≡_, sym, _∙_, subst}
+use Prim.Native.Nat.{ℕ, _-_}
 use native.Mathlib.Omega.{arith}
+use lib.ListN.{length, take}
+use borrow.Rule.Slice.PartMut.{putMid, take-put}
 use borrow.Author.Needs.{needs}
 use Rattle.streams.proofs.read_behind.Statement.{statement}
 use Rattle.streams.proofs.read_behind.Tie as tie
+
+least-requires : tie.Need-least-requires
+least-requires c κs = search needs
 
 sub-read-once : tie.Need-sub-read-once
 sub-read-once c = search needs
@@ -24,8 +31,22 @@ same-length c = search needs
 
 returns : tie.Need-returns
 returns c =
-    let once = c .before .before .before .read-once in
-    (omega arith, omega arith, λ e. omega (arith, once .ensures .1 e))
+    let a = c .before .before .before .before .before .before .before .before .args in
+    let l = c .before .before .before .before .before .least in
+    let once = c .before .before .before .read-once in (
+      (omega (arith, l .ensures), omega arith),
+      ((λ e. omega (arith, l .ensures, once .ensures .1 e)), subst (λ (k : ℕ). take k (putMid (l .result) (length (a .to .now) - l .result) (a .to .now) (once .last .1 .0)) ≡ take k (a .to .now)) (l .ensures) (take-put (l .result) (length (a .to .now) - l .result) (a .to .now) (once .last .1 .0) (omega (arith, l .ensures)))),
+    )
 
 pub read-behind-spec : {M : Type 1} → statement M
-read-behind-spec = tie.close (tie.spec sub-read-once part-read-once-start part-read-once-end read-once-requires add-t6 same-length returns)
+read-behind-spec =
+    tie.close
+    (tie.spec
+    least-requires
+    sub-read-once
+    part-read-once-start
+    part-read-once-end
+    read-once-requires
+    add-t6
+    same-length
+    returns)

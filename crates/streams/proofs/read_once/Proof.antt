@@ -7,6 +7,9 @@ use Rattle.streams.proofs.read_once.Tie as tie
 read-requires : tie.Need-read-requires
 read-requires c κs = search needs
 
+slice-aggregate-fail : tie.Need-slice-aggregate-fail
+slice-aggregate-fail c = search needs
+
 fail-requires : tie.Need-fail-requires
 fail-requires c κs = search needs
 
@@ -26,4 +29,14 @@ returns-2 : tie.Need-returns-2
 returns-2 c = (c .count .ensures .0, λ e. absurd (true≢false e))
 
 pub read-once-spec : {M : Type 1} → statement M
-read-once-spec = tie.close (tie.spec read-requires fail-requires same-length returns count-requires same-length-2 returns-2)
+read-once-spec =
+    tie.close
+    (tie.spec
+    read-requires
+    slice-aggregate-fail
+    fail-requires
+    same-length
+    returns
+    count-requires
+    same-length-2
+    returns-2)
