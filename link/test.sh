@@ -135,14 +135,14 @@ version=$(sed -n 's/^#define GATEWAY_VERSION "\(.*\)"$/\1/p' link/gateway.h)
 grep -q "^## $version" CHANGELOG.md
 passed=$((passed + 1))
 mkdir "$inputs/old"
-sed 's/_v3(/_v2(/' link/gateway.h >"$inputs/old/gateway.h"
+sed 's/_v[0-9]*(/_v0(/' link/gateway.h >"$inputs/old/gateway.h"
 cp link/session.c "$inputs/old"
 cc -std=c11 -c -o "$inputs/old/session.o" "$inputs/old/session.c"
 if cc -o "$inputs/old/session" "$inputs/old/session.o" target/staticlib/libgateway.a 2>"$inputs/log"; then
     echo "a program with the header of another layout is linked"
     exit 1
 fi
-grep -q 'undefined reference to .*_v1' "$inputs/log"
+grep -q 'undefined reference to .*_v0' "$inputs/log"
 passed=$((passed + 1))
 mkdir -p "$inputs/other/src"
 cat >"$inputs/other/Cargo.toml" <<END
