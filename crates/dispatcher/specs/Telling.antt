@@ -7,7 +7,7 @@ use Prim.Native.Nat.{_+_, _*_, _^_, _/_, _%_}
 use lib.Dec.{eqb}
 use lib.ListN.{getD, set}
 use Rattle.words.specs.Words.{bytesOf}
-use Rattle.entries.specs.Entries.{choice-bytes}
+use Rattle.entries.specs.Entries.{task-byte, choice-bytes}
 
 -- bytes as one word, lowest first
 unfoldable pub word : List ℕ → ℕ
@@ -66,9 +66,9 @@ told-of o apart told =
 
 -- ---- Read back
 
--- a task, by the lowest bit of a number and a byte: 255 is none, but for a unit that is told to have one
+-- a task, by the lowest bit of a number and a byte: the one that stands for none is none, but for a unit that is told to have one
 abbrev pub task-in : ℕ → ℕ → MaybeTask
-task-in apart byte = cond (eqb byte 255) (cond (eqb (apart % 2) 0) NoTask (Task byte)) (Task byte)
+task-in apart byte = cond (eqb byte (task-byte NoTask)) (cond (eqb (apart % 2) 0) NoTask (Task byte)) (Task byte)
 
 unfoldable pub entry-in : ℕ → ℕ → ℕ → IntervalEntry
 entry-in begin end w =

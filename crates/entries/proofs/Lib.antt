@@ -1,4 +1,5 @@
 pub mod Laws
 pub mod Places
+pub mod CallSizes
 pub mod Front
 pub mod RoundTrip

@@ -6,7 +6,7 @@ use Prim.Native.Nat.{ℕ}
 use native.Mathlib.Omega.{arith}
 use borrow.Author.Tests.{eq-eqb}
 use lib.Dec.{eqb}
-use Rattle.table.specs.TaskPart.{task-part}
+use Rattle.table.specs.Head.{head-of}
 use Rattle.rules.specs.Instant.{at-g, occurred}
 use Rattle.rules.specs.Calls.{refusal, instant, served}
 use Rattle.guarantees.specs.Types.{State, Served, Call, Instant, Mark}
@@ -38,4 +38,4 @@ answers-fit (Instant t set ∷ cs) d h a l =
 pub file-fits : (s : List ℕ) (rs : List Release) → releases-of s ≡ Releases rs → MomentsFit (moments-of s rs)
 file-fits s rs h =
     let f = fed-file s rs h in
-    subst MomentsFit (f .gives) (answers-fit (f .calls) _ (opened-fits (task-part s .table) (task-part s .marked)) (f .all-served) (f .early))
+    subst MomentsFit (f .gives) (answers-fit (f .calls) _ (opened-fits (head-of s .table) (head-of s .marked)) (f .all-served) (f .early))

@@ -11,6 +11,7 @@ use lib.Seq.{take-at}
 use Rattle.sets.proofs.Laws.{by-test}
 use Rattle.words.proofs.Laws.{rest-whole}
 use Rattle.entries.specs.Entries.{laid}
+use Rattle.entries.specs.Limits.{instant-most}
 use Rattle.rules.specs.Instant.{at-g, occurred}
 use Rattle.rules.specs.Steps.{Stands}
 use Rattle.rules.specs.Kept.{Kept, kept, ByTask, by-task, Beside, beside, read}
@@ -20,7 +21,7 @@ use Rattle.run.specs.Listed.{releases-at}
 use Rattle.run.specs.Run.{Moment, released-at, released-after, moment-bytes, record-bytes}
 use Rattle.run.specs.Putting.{moment-entries, joined, put-all}
 use Rattle.run.specs.Advance.{Advances, Made, Steps}
-use Rattle.run.specs.Pieces.{next-time, Leads, most, Makes}
+use Rattle.run.specs.Pieces.{next-time, Leads, Makes}
 use Rattle.run.proofs.Listing.{in-part, behind-part}
 use Rattle.run.proofs.Slices.{laid-none, laid-both, laid-length, put-all-laid, rest-laid, rest-length, put-all-length}
 use Rattle.run.proofs.InOrder.{entries-joined, moment-most}
@@ -38,7 +39,7 @@ unfolding record-bytes
 bytes-one m = append-nil (moment-bytes m)
 
 -- what so many moments leave at most
-pub bytes-most : (ms : List Moment) → length (record-bytes ms) ≤ most * length ms
+pub bytes-most : (ms : List Moment) → length (record-bytes ms) ≤ instant-most * length ms
 unfolding record-bytes
 bytes-most [] = omega arith
 bytes-most (m ∷ ms) = omega (arith, bytes-most ms, moment-most m, ap length (entries-joined m), length-append (moment-bytes m) (record-bytes ms))
@@ -121,19 +122,19 @@ module _ {rest : List ℕ} {d : State} {budget : ℕ} {before : List ℕ} {k : K
       size-is : x .size ≡ length (moment-bytes (moment-at (read k b) (releases-at rest at) (x .time)))
       size-is = steps .puts .place-is ∙ omega (arith, ap length (entries-joined moment))
 
-      small : x .size ≤ most
+      small : x .size ≤ instant-most
       small = omega (arith, size-is, moment-most moment, ap length (entries-joined moment))
 
-      pub puts : most ≤ length out - size → size + x .size ≤ length out
+      pub puts : instant-most ≤ length out - size → size + x .size ≤ length out
       puts room = omega (arith, small, g .fits, g .same)
 
       -- what the instant leaves is laid behind what was laid before
-      pub moves : {out' : List ℕ} → (left ≡ 0 → ⊥) → most ≤ length out - size
+      pub moves : {out' : List ℕ} → (left ≡ 0 → ⊥) → instant-most ≤ length out - size
           → out' ≡ take size out ++ (rest-after ++ drop (length out - size) (drop size out))
           → Reached rest d budget before k' b' (at + x .read) (size + x .size) (left - 1) out'
       moves {out'} some room e =
           let es : List (List ℕ) = moment-entries moment in
-          let few : length (joined es) ≤ most = moment-most moment in
+          let few : length (joined es) ≤ instant-most = moment-most moment in
           let done : List ℕ = record-bytes (g .moments) in
           let bytes : List ℕ = moment-bytes moment in
           let all : record-bytes (g .moments ++ (moment ∷ [])) ≡ done ++ bytes = bytes-both (g .moments) (moment ∷ []) ∙ ap (λ (z : List ℕ). done ++ z) (bytes-one moment) in
@@ -187,7 +188,7 @@ module _ {rest : List ℕ} (d : Dispatcher) {budget : ℕ} {before : List ℕ} {
   }
 
   -- or before it
-  pub stops : x .ended ≡ false → x .left ≡ left → (x .left ≡ 0) ⊎ (length before < x .size + most) → Makes rest d budget before x out'
+  pub stops : x .ended ≡ false → x .left ≡ left → (x .left ≡ 0) ⊎ (length before < x .size + instant-most) → Makes rest d budget before x out'
   stops e same why = record {
     moments = g .moments;
     leads = subst (λ (z : State). Leads (state-of d) (releases-at rest 0) (g .moments) z (releases-at rest (x .read))) (sym (state-is (x .state) ek eb)) (g .leads);
@@ -205,7 +206,7 @@ module _ {rest : List ℕ} (d : Dispatcher) {budget : ℕ} {before : List ℕ} {
 
 module _ {rest : List ℕ} {d : Dispatcher} {budget : ℕ} {out : List ℕ} {x : Piece} {out' : List ℕ} (m : Makes rest d budget out x out') where
   -- a piece moves on, where there is room for an instant
-  pub moves-on : (budget ≡ 0 → ⊥) → most ≤ length out → x .left < budget
+  pub moves-on : (budget ≡ 0 → ⊥) → instant-most ≤ length out → x .left < budget
   moves-on some room = by-test (x .ended) (λ h. omega (arith, m .ended-is h .0, some-is)) (λ h. ⊎-elim
       (λ e. omega (arith, e, some-is))
       (λ l. omega (arith, m .left-is h, l, m .size-is, bytes-most (m .moments)))
@@ -215,7 +216,7 @@ module _ {rest : List ℕ} {d : Dispatcher} {budget : ℕ} {out : List ℕ} {x :
       some-is = omega arith
 
   -- what it leaves can be counted
-  pub grows : x .size + most * x .left ≤ most * budget
+  pub grows : x .size + instant-most * x .left ≤ instant-most * budget
   grows = omega (arith, m .few, m .size-is, bytes-most (m .moments))
 
   -- the slice keeps its length, and has the piece's bytes in its front

@@ -1,11 +1,12 @@
 -- The run of a file: its releases and all due times handed to the dispatcher by instants, with no mark call, until nothing is
 -- pending; and its record, in the order in which things occur.
-use Rattle.run.specs.Types.{true, false, cond, List, [], _∷_, _++_, ℕ, zero, suc, _+_, _*_, Release, TaskPart, State, Done, NoJob, Job, Closing, Unclosed, BeforeReleases, AfterReleases, Due, Never, Tick, Occurred, Answer, Refused, Served, Step}
+use Rattle.run.specs.Types.{true, false, cond, List, [], _∷_, _++_, ℕ, zero, suc, _+_, _*_, Release, Head, State, Done, NoJob, Job, Closing, Unclosed, BeforeReleases, AfterReleases, Due, Never, Tick, Occurred, Answer, Refused, Served, Step}
 use lib.Dec.{eqb}
 use lib.ListN.{length}
 use Rattle.sets.specs.Sets.{member, insert}
 use Rattle.entries.specs.Entries.{job-bytes, interval-bytes, skipped-bytes}
-use Rattle.table.specs.TaskPart.{task-part}
+use Rattle.entries.specs.Limits.{budget}
+use Rattle.table.specs.Head.{head-of}
 use Rattle.rules.specs.Instant.{due, sooner}
 use Rattle.rules.specs.Calls.{opened, instant}
 
@@ -45,13 +46,9 @@ run (suc k) d rs =
       | Tick t ↦ let s : Step = instant d t (released-at t rs) in moment t (s .answer) ++ run k (s .state) (released-after t rs)
     ]
 
--- as many instants as no run of n releases needs
-abbrev pub budget : ℕ → ℕ
-budget n = 32 * n + 32
-
 -- the run of an input with its releases
 unfoldable pub moments-of : List ℕ → List Release → List Moment
-moments-of s rs = let k : TaskPart = task-part s in run (budget (length rs)) (opened (k .table) (k .marked)) rs
+moments-of s rs = let k : Head = head-of s in run (budget (length rs)) (opened (k .table) (k .marked)) rs
 
 -- ---- The record: kind 16 at step a, kind 17 at the interval's end, kind 18 at step c by rising task number
 
