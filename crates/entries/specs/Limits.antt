@@ -27,9 +27,13 @@ last-release = 1000000000
 abbrev pub longest-head : ℕ
 longest-head = tasks * size 1
 
+-- of a list of releases that is accepted
+abbrev pub longest-list : ℕ
+longest-list = releases * size 2
+
 -- of an input that is accepted
 abbrev pub longest-file : ℕ
-longest-file = longest-head + releases * size 2
+longest-file = longest-head + longest-list
 
 -- of a head or an input that is enough to read: one whole entry more, of which a task's is the longest
 abbrev pub head-most : ℕ

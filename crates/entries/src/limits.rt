@@ -21,8 +21,10 @@ pub const LAST_RELEASE: u64 = 1000000000;
 // The bytes of a head that is accepted, at most: an entry for each task.
 pub const LONGEST_HEAD: usize = TASKS * TASK_SIZE;
 
-// Of an input that is accepted.
-pub const LONGEST_FILE: usize = LONGEST_HEAD + RELEASES * RELEASE_SIZE;
+// Of a list of releases, and of an input that is accepted.
+pub const LONGEST_LIST: usize = RELEASES * RELEASE_SIZE;
+
+pub const LONGEST_FILE: usize = LONGEST_HEAD + LONGEST_LIST;
 
 // As many bytes of a head or an input as are enough to read: one whole entry more, of which a task's is the longest.
 pub const HEAD_MOST: usize = LONGEST_HEAD + TASK_SIZE;

@@ -1,5 +1,5 @@
 -- The tables that opening serves: they have a task, all priorities are different, and each length is in its range.
-use Rattle.guarantees.specs.Types.{_≡_, refl, sym, ap, _∙_, subst, Bool, true, false, cond, _&&_, _||_, List, _⊎_, inl, inr, ⊎-elim, ℕ, zero, suc, _+_, _^_, _≤_, _<_, Table, State, Opening, Refusal, NoRefusal, Alone, AtEntry, Head}
+use Rattle.guarantees.specs.Types.{_≡_, refl, sym, ap, _∙_, subst, Bool, true, false, cond, _&&_, _||_, List, _⊎_, inl, inr, ⊎-elim, ℕ, zero, suc, _+_, _^_, _≤_, _<_, Table, State, NoRefusal, AtEntry, Head}
 use Rattle.entries.specs.declared.TaskParameters.{TaskParameters}
 use Rattle.entries.specs.declared.Entry.{Entry}
 use Rattle.entries.specs.declared.Entry.the-variants.{Malformed, TaskEntry, ReleaseEntry}
@@ -37,7 +37,7 @@ neither false b h = (refl, h)
 -- ---- a table as it is read
 
 abbrev pub InRange : ℕ → Type 0
-InRange x = (1 ≤ x) × (x ≤ 1000000)
+InRange x = (1 ≤ x) × (x ≤ limits.longest-phase)
 
 pub record Fair (table : Table) (marked : ℕ) : Type 0 where
   pub present : table .present < 2 ^ 32

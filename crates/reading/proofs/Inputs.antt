@@ -4,9 +4,9 @@ use mathlib.Core.Path.{_≡_, refl, sym, ap, ap₂, _∙_, subst}
 use mathlib.Core.List.{append-assoc}
 use Prim.Native.Nat.{zero, _-_, _^_, _≤_, _<_}
 use native.Mathlib.Omega.{arith}
-use borrow.Author.Tests.{eqb-true, eqb-false, eq-eqb, ne-eqb, leb-true, leb-false}
-use lib.Dec.{eqb, leb}
-use lib.ListN.{length, take, getD, length-append}
+use borrow.Author.Tests.{eq-eqb, leb-true, leb-false}
+use lib.Dec.{leb}
+use lib.ListN.{length, take, length-append}
 use lib.Seq.{length-take-le, take-append-seam, getD-append-seam}
 use Rattle.sets.proofs.Laws.{by-test}
 use Rattle.words.specs.Words.{bytesOf, numberAt}
@@ -29,7 +29,7 @@ use Rattle.record.specs.Types.{TaskParameters, Entry, Malformed, TaskEntry, Rel
 use Rattle.record.proofs.Accepted.{Accepted, accepted}
 use Rattle.record.proofs.Outcomes
 use Rattle.record.proofs.TasksAlone.{unlike}
-use Rattle.reading.specs.Types.{Bool, true, false, cond, List, [], _∷_, _++_, ℕ, suc, _+_, _*_, Release, Refusal, NoRefusal, Alone, AtEntry}
+use Rattle.reading.specs.Types.{true, false, List, [], _∷_, _++_, ℕ, suc, _+_, Release, NoRefusal, Alone}
 use Rattle.reading.specs.Reading.{list-bytes, input-of}
 use Rattle.reading.specs.Parts.{ReadHead, Opened}
 use Rattle.reading.proofs.RunTold.{tally}

@@ -1,6 +1,6 @@
 -- The run of a file: its releases and all due times handed to the dispatcher by instants, with no mark call, until nothing is
 -- pending; and its record, in the order in which things occur.
-use Rattle.run.specs.Types.{true, false, cond, List, [], _∷_, _++_, ℕ, zero, suc, _+_, _*_, Release, Head, State, Done, NoJob, Job, Closing, Unclosed, BeforeReleases, AfterReleases, Due, Never, Tick, Occurred, Answer, Refused, Served, Step}
+use Rattle.run.specs.Types.{true, false, cond, List, [], _∷_, _++_, ℕ, zero, suc, _+_, Release, Head, State, Done, NoJob, Job, Closing, Unclosed, BeforeReleases, AfterReleases, Due, Never, Tick, Occurred, Answer, Refused, Served, Step}
 use lib.Dec.{eqb}
 use lib.ListN.{length}
 use Rattle.sets.specs.Sets.{member, insert}

@@ -7,12 +7,12 @@ use Prim.Native.Nat.{ℕ, zero, suc, _+_, _-_, _^_, _≤_, _<_}
 use native.Mathlib.Nat.{not-suc-le-zero}
 use native.Mathlib.Omega.{arith}
 use borrow.Author.Tests.{eqb-true, eq-eqb, ne-eqb, leb-true, le-leb, leb-false, lt-leb}
-use lib.Dec.{eqb, leb, ltb}
+use lib.Dec.{eqb, leb}
 use lib.ListN.{length, getD}
 use Rattle.sets.specs.Sets.{member, remove}
 use Rattle.sets.proofs.Laws.{by-test, clash, none, both, either-left, either-right, remove-in, remove-out, remove-small}
 use Rattle.words.specs.Words.{numberAt}
-use Rattle.entries.specs.Entries.{size, is-release, entry-at, release-at}
+use Rattle.entries.specs.Entries.{is-release, entry-at, release-at}
 use Rattle.entries.specs.Limits as limits
 use Rattle.table.specs.Types.{TaskParameters, Release, Entry, Malformed, TaskEntry, ReleaseEntry, Table, Head}
 use Rattle.table.specs.Head.{no-table, behind-head, given, number-refused, mark-or-length-refusal, task-refusal, with-task, with-marked, refused-at, read-to, head-from, head-of}
