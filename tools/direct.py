@@ -77,8 +77,8 @@ def refusal(kinds):
     return answer
 
 
-def part_end(a, b, s):
-    """Where the task part of an accepted file ends; of a refused one nothing is told."""
+def head_end(a, b, s):
+    """Where the head of an accepted file ends; of a refused one nothing is told."""
     return number(16 if len(s) in (16, 26) else 0)
 
 
@@ -171,7 +171,7 @@ CALLS = (
     Call("say_entry(entries::entry_at(s, at))", refusal((TASK, RELEASE)), input_and_place),
     Call("say_filled(record_lines::fill(s, at, &mut lent[..room]))", filled, room_and_record),
     Call("say_record_entry(entries::record_entry_at(s, at))", refusal((JOB_DONE, INTERVAL, SKIPPED)), record_and_place),
-    Call("say(run::check_file(s).end as u64)", part_end, file_or_not),
+    Call("say(run::check_file(s).end as u64)", head_end, file_or_not),
     Call("say(blockable(s, a) as u64)", blockable, set_and_interval),
 )
 

@@ -70,7 +70,7 @@ class RoundTrip(unittest.TestCase):
         self.assertEqual(read(TASKS, record(TASKS + b"".join(release_entry(*each) for each in most))), most)
 
 
-class TaskPart(unittest.TestCase):
+class Head(unittest.TestCase):
     """The task entries are checked first, as at opening, with places in them."""
 
     def refused(self, tasks, number, place):

@@ -1,5 +1,5 @@
 -- The names that the definitions and the proofs share. Those that lower crates declare are passed on to the crates above.
-pub use Rattle.rules.specs.Types.{Clock, Unset, At, Closed, NoInterval, Span, Table, Jobs, WaitingReleases, Processor, Idle, CopyingIn, Executing, Finished, CopyOut, NoCopyOut, CopyingOut, CopiedOut, CopyIn, Unchosen, NoneChosen, Copying, Loaded, Cancelled, Interval, Next, NoneNext, LoadedNext, PromotedNext, Outgoing, NoneOutgoing, AwaitsCopyOut, Phase, Between, Within, State, Stage, MaybeTask, NoTask, Task, JobEntry, IntervalEntry, Refusal, NoRefusal, Alone, AtEntry, TaskPart}
+pub use Rattle.rules.specs.Types.{Clock, Unset, At, Closed, NoInterval, Span, Table, Jobs, WaitingReleases, Processor, Idle, CopyingIn, Executing, Finished, CopyOut, NoCopyOut, CopyingOut, CopiedOut, CopyIn, Unchosen, NoneChosen, Copying, Loaded, Cancelled, Interval, Next, NoneNext, LoadedNext, PromotedNext, Outgoing, NoneOutgoing, AwaitsCopyOut, Phase, Between, Within, State, Stage, MaybeTask, NoTask, Task, JobEntry, IntervalEntry, Refusal, NoRefusal, Alone, AtEntry, Head}
 pub use Rattle.rules.specs.declared.Done.{Done}
 pub use Rattle.rules.specs.declared.Done.the-variants.{NoJob, Job}
 pub use Rattle.rules.specs.declared.Closing.{Closing}

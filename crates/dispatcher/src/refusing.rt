@@ -1,9 +1,11 @@
 // The refusals of a call, each in its order, over the numbers that a dispatcher is kept as.
+use entries::limits;
 use rules::at;
 use rules::due_tick;
 ghost use mathlib.Core.Path.{_≡_};
 ghost use mathlib.Core.Bool.{not, _&&_};
 ghost use lib.Dec.{eqb, ltb};
+ghost use Rattle.entries.specs.Limits as limits;
 ghost use Rattle.dispatcher.specs.Promises.{NotAfter, Refuses, MarkRefuses};
 
 // Whether there was an instant at or after `t`: 0 is allowed first.
@@ -18,12 +20,12 @@ fn not_after(t: u64, times: &[u64; 7], codes: &[u8; 9]) -> bool
 
 // Only a set that is not empty has a last time.
 fn too_late(t: u64, set: u32) -> bool
-    ensures { λ r. ⌜ r ≡ (not (eqb set 0) && ltb 1000000000 t) ⌝ }
+    ensures { λ r. ⌜ r ≡ (not (eqb set 0) && ltb limits.last-release t) ⌝ }
 {
     if set == 0 {
         return false;
     }
-    t > 1000000000
+    t > limits::LAST_RELEASE
 }
 
 // An instant: 16, 10, 14, 15, in this order; 0 is none. The due time as a plain number is enough for 15, and cheaper than the enum.

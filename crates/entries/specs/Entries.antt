@@ -15,7 +15,9 @@ size kind =
     (cond (eqb kind 2) 10
     (cond (eqb kind 16) 27
     (cond (eqb kind 17) 24
-    (cond (eqb kind 18) 10 0))))
+    (cond (eqb kind 18) 10
+    (cond (eqb kind 64) 13
+    (cond (eqb kind 65) 3 0))))))
 
 -- ---- An entry of the input, taken apart
 
@@ -33,6 +35,10 @@ task-at s at = record {
 -- kind 2: task (1), time (8)
 unfoldable pub release-at : List ℕ → ℕ → Release
 release-at s at = record { task = numberAt 1 s (at + 1); time = numberAt 8 s (at + 2) }
+
+-- the kind byte at a place is a release's, be the entry whole or cut short
+abbrev pub is-release : List ℕ → ℕ → Bool
+is-release s at = eqb (numberAt 1 s at) 2
 
 -- the entry whose kind byte is at a place before the end: 2 where the kind is not 1 or 2, 1 where the entry is cut short
 unfoldable pub entry-at : List ℕ → ℕ → Entry

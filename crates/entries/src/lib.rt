@@ -1,4 +1,9 @@
-// The wire format: the entries of an input and of a record, written and taken apart.
+// The wire format: the entries of an input and of a record, written and taken apart, and the calls of a session, taken apart.
+mod calls;
+pub mod limits;
+
+pub use calls::call_at;
+pub use calls::call_size;
 ghost use mathlib.Core.Path.{_≡_};
 ghost use mathlib.Core.List.{[], _∷_};
 ghost use Prim.Native.Nat.{_+_, _≤_};
@@ -137,6 +142,14 @@ pub enum RecordEntry {
     ReleaseSkipped(Release),
 }
 
+// Kind 64 is a call of an instant, with its time and the set of tasks released then, and kind 65 a mark call, with its task and mark.
+pub enum CallEntry {
+    CutShort,
+    OtherKind,
+    InstantCall { time: u64, set: u32 },
+    MarkCall { task: u8, mark: u8 },
+}
+
 // The task of the entry at the front. One test of the slice's length, by the caller, serves all its bytes.
 fn front_task(rest: &[u8]) -> TaskParameters
     requires { ⌜ entries.size 1 ≤ length (now rest) ⌝ }
@@ -152,15 +165,36 @@ fn front_task(rest: &[u8]) -> TaskParameters
     }
 }
 
+// The task of the release entry at the front: one field alone, for whoever has tested that the entry is there.
+pub fn release_task(rest: &[u8]) -> u8
+    ensures { λ r. ⌜ r ≡ entries.release-at (now (rest .entry)) 0 .task ⌝ }
+{
+    words::get_u8(rest, RELEASE_TASK)
+}
+
+// And its time.
+pub fn release_time(rest: &[u8]) -> u64
+    ensures { λ r. ⌜ r ≡ entries.release-at (now (rest .entry)) 0 .time ⌝ }
+{
+    words::get_u64(rest, RELEASE_TIME)
+}
+
 // The release of the entry at the front, also where it was skipped.
 fn front_release(rest: &[u8]) -> Release
     requires { ⌜ entries.size 2 ≤ length (now rest) ⌝ }
     ensures { λ r. ⌜ r ≡ entries.release-at (now (rest .entry)) 0 ⌝ }
 {
     Release {
-        task: words::get_u8(rest, RELEASE_TASK),
-        time: words::get_u64(rest, RELEASE_TIME),
+        task: release_task(rest),
+        time: release_time(rest),
     }
+}
+
+// Whether the kind byte at `at` is a release's, be the entry whole or cut short.
+pub fn is_release(s: &[u8], at: usize) -> bool
+    ensures { λ r. ⌜ r ≡ entries.is-release (now (s .entry)) at ⌝ }
+{
+    words::get_u8(s, at) == RELEASE_KIND
 }
 
 // The entry of an input whose kind byte is at `at`: 2 where the kind is not 1 or 2, then 1 where the entry is cut short.

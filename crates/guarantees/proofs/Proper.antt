@@ -1,12 +1,12 @@
 -- The tables that opening serves: they have a task, all priorities are different, and each length is in its range.
-use Rattle.guarantees.specs.Types.{_≡_, refl, sym, ap, _∙_, subst, Bool, true, false, cond, _&&_, _||_, List, _⊎_, inl, inr, ⊎-elim, ℕ, zero, suc, _+_, _^_, _≤_, _<_, Table, State, Opening, Refusal, NoRefusal, Alone, AtEntry, TaskPart}
+use Rattle.guarantees.specs.Types.{_≡_, refl, sym, ap, _∙_, subst, Bool, true, false, cond, _&&_, _||_, List, _⊎_, inl, inr, ⊎-elim, ℕ, zero, suc, _+_, _^_, _≤_, _<_, Table, State, NoRefusal, AtEntry, Head}
 use Rattle.entries.specs.declared.TaskParameters.{TaskParameters}
 use Rattle.entries.specs.declared.Entry.{Entry}
 use Rattle.entries.specs.declared.Entry.the-variants.{Malformed, TaskEntry, ReleaseEntry}
 use native.Mathlib.Omega.{arith}
 use native.Mathlib.Nat.{not-suc-le-zero}
-use borrow.Author.Tests.{eqb-true, eqb-false, eq-eqb, ltb-false}
-use lib.Dec.{eqb, ltb}
+use borrow.Author.Tests.{eqb-true, eqb-false, eq-eqb, leb-false, ltb-false}
+use lib.Dec.{eqb, leb, ltb}
 use lib.ListN.{length, getD, set, length-set}
 use lib.Seq.{getD-set-same, getD-set-other}
 use Rattle.table.specs.Table.{copyin-length, execution-length, copyout-length, with-lengths}
@@ -14,8 +14,10 @@ use Rattle.table.proofs.Columns.{copyin-more, execution-more, copyout-more, col
 use Rattle.sets.specs.Sets.{member, insert}
 use Rattle.sets.proofs.Laws.{by-test, below-suc, clash, both, none, insert-same, insert-other, insert-out, insert-small, member-task}
 use Rattle.entries.specs.Entries.{entry-at}
-use Rattle.table.specs.TaskPart.{no-table, given, outside, number-refused, mark-or-length-refusal, task-refusal, with-task, with-marked, refused-at, read-to, behind-tasks, tasks-from, task-part}
-use Rattle.rules.specs.Calls.{opened, not-opened, opened-behind, opening}
+use Rattle.entries.specs.Limits as limits
+use Rattle.table.specs.Head.{no-table, given, outside, number-refused, mark-or-length-refusal, task-refusal, with-task, with-marked, refused-at, read-to, behind-head, head-from, head-of}
+use Rattle.table.proofs.Alone.{Whole, accepted, whole-head}
+use Rattle.rules.specs.Calls.{opened, opening}
 
 -- ---- tests in a row
 
@@ -35,7 +37,7 @@ neither false b h = (refl, h)
 -- ---- a table as it is read
 
 abbrev pub InRange : ℕ → Type 0
-InRange x = (1 ≤ x) × (x ≤ 1000000)
+InRange x = (1 ≤ x) × (x ≤ limits.longest-phase)
 
 pub record Fair (table : Table) (marked : ℕ) : Type 0 where
   pub present : table .present < 2 ^ 32
@@ -76,8 +78,8 @@ not-given (suc m) t p h j l =
 in-range : (x : ℕ) → outside x ≡ false → InRange x
 unfolding outside
 in-range x h =
-    let y : (eqb x 0 ≡ false) × (ltb 1000000 x ≡ false) = neither (eqb x 0) (ltb 1000000 x) h in
-    (omega (arith, eqb-false x 0 (y .0)), ltb-false 1000000 x (y .1))
+    let y : (eqb x 0 ≡ false) × (ltb limits.longest-phase x ≡ false) = neither (eqb x 0) (ltb limits.longest-phase x) h in
+    (omega (arith, eqb-false x 0 (y .0)), ltb-false limits.longest-phase x (y .1))
 
 -- a task entry that meets no refusal
 module _ (t : Table) (marked : ℕ) (fair : Fair t marked) (roomy : Roomy t) (p : TaskParameters) (taken : task-refusal t p ≡ 0) where
@@ -91,15 +93,15 @@ module _ (t : Table) (marked : ℕ) (fair : Fair t marked) (roomy : Roomy t) (p 
   met : Met
   unfolding task-refusal number-refused mark-or-length-refusal
   met =
-      let a : Bool = ltb 31 n || member n (t .present) in
+      let a : Bool = leb limits.tasks n || member n (t .present) in
       let c : Bool = outside (p .copyin) || (outside (p .execution) || outside (p .copyout)) in
       let f : (a ≡ false) × (given 32 t (p .priority) ≡ false) × (ltb 1 (p .mark) ≡ false) × (c ≡ false) =
       none-passed 3 4 5 6 a (given 32 t (p .priority)) (ltb 1 (p .mark)) c taken in
-      let x : (ltb 31 n ≡ false) × (member n (t .present) ≡ false) = neither (ltb 31 n) (member n (t .present)) (f .0) in
+      let x : (leb limits.tasks n ≡ false) × (member n (t .present) ≡ false) = neither (leb limits.tasks n) (member n (t .present)) (f .0) in
       let y : (outside (p .copyin) ≡ false) × ((outside (p .execution) || outside (p .copyout)) ≡ false) =
       neither (outside (p .copyin)) (outside (p .execution) || outside (p .copyout)) (f .3) in
       let z : (outside (p .execution) ≡ false) × (outside (p .copyout) ≡ false) = neither (outside (p .execution)) (outside (p .copyout)) (y .1) in
-      (omega (arith, ltb-false 31 n (x .0)), x .1, f .1, in-range (p .copyin) (y .0), in-range (p .execution) (z .0), in-range (p .copyout) (z .1))
+      (omega (arith, leb-false limits.tasks n (x .0)), x .1, f .1, in-range (p .copyin) (y .0), in-range (p .execution) (z .0), in-range (p .copyout) (z .1))
 
   -- of a column: a property of the new task's value and of those of the tasks before
   stored : (P : ℕ → Type 0) (old new : ℕ → ℕ) (v : ℕ) → ((k : ℕ) → k < 32 → new k ≡ cond (eqb k n) v (old k)) → P v
@@ -178,14 +180,14 @@ module _ (t : Table) (marked : ℕ) (fair : Fair t marked) (roomy : Roomy t) (p 
 -- ---- the entries one after another
 
 -- what an entry can lead to
-module _ (P : TaskPart → Type 0) (s : List ℕ) (k at : ℕ) (t : Table) (marked : ℕ) where
+module _ (P : Head → Type 0) (s : List ℕ) (k at : ℕ) (t : Table) (marked : ℕ) where
   entry-cases : P (read-to t marked at) → ((n : ℕ) → P (refused-at n at))
-      → ((p : TaskParameters) → task-refusal t p ≡ 0 → P (tasks-from k s (at + 16) (with-task t p) (with-marked marked p))) → P (tasks-from (suc k) s at t marked)
-  unfolding tasks-from
-  entry-cases h f g = go (behind-tasks s at)
+      → ((p : TaskParameters) → task-refusal t p ≡ 0 → P (head-from k s (at + 16) (with-task t p) (with-marked marked p))) → P (head-from (suc k) s at t marked)
+  unfolding head-from
+  entry-cases h f g = go (behind-head s at)
     where
       go-task : (p : TaskParameters) (r : ℕ) → task-refusal t p ≡ r
-          → P (elim r [ zero ↦ tasks-from k s (at + 16) (with-task t p) (with-marked marked p) | suc n ↦ refused-at (suc n) at ])
+          → P (elim r [ zero ↦ head-from k s (at + 16) (with-task t p) (with-marked marked p) | suc n ↦ refused-at (suc n) at ])
       go-task p zero e = g p e
       go-task p (suc n) e = f (suc n)
 
@@ -193,7 +195,7 @@ module _ (P : TaskPart → Type 0) (s : List ℕ) (k at : ℕ) (t : Table) (mark
           → P (elim e [
             | Malformed n ↦ refused-at n at
             | ReleaseEntry r ↦ read-to t marked at
-            | TaskEntry p ↦ elim (task-refusal t p) [ zero ↦ tasks-from k s (at + 16) (with-task t p) (with-marked marked p) | suc n ↦ refused-at (suc n) at ]
+            | TaskEntry p ↦ elim (task-refusal t p) [ zero ↦ head-from k s (at + 16) (with-task t p) (with-marked marked p) | suc n ↦ refused-at (suc n) at ]
           ])
       go-entry (Malformed n) = f n
       go-entry (ReleaseEntry r) = h
@@ -205,36 +207,36 @@ module _ (P : TaskPart → Type 0) (s : List ℕ) (k at : ℕ) (t : Table) (mark
             | false ↦ elim (entry-at s at) [
               | Malformed n ↦ refused-at n at
               | ReleaseEntry r ↦ read-to t marked at
-              | TaskEntry p ↦ elim (task-refusal t p) [ zero ↦ tasks-from k s (at + 16) (with-task t p) (with-marked marked p) | suc n ↦ refused-at (suc n) at ]
+              | TaskEntry p ↦ elim (task-refusal t p) [ zero ↦ head-from k s (at + 16) (with-task t p) (with-marked marked p) | suc n ↦ refused-at (suc n) at ]
             ]
           ])
       go true = h
       go false = go-entry (entry-at s at)
 
 -- what is read without a refusal is fair, and has a task or nothing was read
-abbrev Read : ℕ → TaskPart → Type 0
+abbrev Read : ℕ → Head → Type 0
 Read at r = r .refusal ≡ NoRefusal → Fair (r .table) (r .marked) × ((r .end ≡ at) ⊎ ((n : ℕ) × (member n (r .table .present) ≡ true)))
 
 -- with a task before, there is one after
-abbrev ReadOn : TaskPart → Type 0
+abbrev ReadOn : Head → Type 0
 ReadOn r = r .refusal ≡ NoRefusal → Fair (r .table) (r .marked) × ((n : ℕ) × (member n (r .table .present) ≡ true))
 
 unread {ℓ} : {A : Type ℓ} (n at : ℕ) → AtEntry n at ≡ NoRefusal → A
 unread n at e = absurd (let z : _≡_ {A = ℕ} 0 1 = cc in omega arith)
 
-reads-on : (k : ℕ) (s : List ℕ) (at : ℕ) (t : Table) (marked n : ℕ) → Fair t marked → Roomy t → member n (t .present) ≡ true → ReadOn (tasks-from k s at t marked)
-reads-on zero s at t marked n f r m = unfold tasks-from in λ e. (f, (n, m))
+reads-on : (k : ℕ) (s : List ℕ) (at : ℕ) (t : Table) (marked n : ℕ) → Fair t marked → Roomy t → member n (t .present) ≡ true → ReadOn (head-from k s at t marked)
+reads-on zero s at t marked n f r m = unfold head-from in λ e. (f, (n, m))
 reads-on (suc k) s at t marked n f r m =
     entry-cases ReadOn s k at t marked (λ e. (f, (n, m))) (λ x e. unread x at e)
     (λ p e. reads-on k s (at + 16) (with-task t p) (with-marked marked p) n (fair-more t marked f r p e) (roomy-more t marked f r p e) (members-more t marked f r p e n m))
 
-reads : (k : ℕ) (s : List ℕ) (at : ℕ) (t : Table) (marked : ℕ) → Fair t marked → Roomy t → Read at (tasks-from k s at t marked)
-reads zero s at t marked f r = unfold tasks-from in λ e. (f, inl refl)
+reads : (k : ℕ) (s : List ℕ) (at : ℕ) (t : Table) (marked : ℕ) → Fair t marked → Roomy t → Read at (head-from k s at t marked)
+reads zero s at t marked f r = unfold head-from in λ e. (f, inl refl)
 reads (suc k) s at t marked f r =
     entry-cases (Read at) s k at t marked (λ e. (f, inl refl)) (λ x e. unread x at e)
     (λ p e x.
-    let y : Fair (tasks-from k s (at + 16) (with-task t p) (with-marked marked p) .table) (tasks-from k s (at + 16) (with-task t p) (with-marked marked p) .marked)
-    × ((n : ℕ) × (member n (tasks-from k s (at + 16) (with-task t p) (with-marked marked p) .table .present) ≡ true)) =
+    let y : Fair (head-from k s (at + 16) (with-task t p) (with-marked marked p) .table) (head-from k s (at + 16) (with-task t p) (with-marked marked p) .marked)
+    × ((n : ℕ) × (member n (head-from k s (at + 16) (with-task t p) (with-marked marked p) .table .present) ≡ true)) =
     reads-on k s (at + 16) (with-task t p) (with-marked marked p) (p .number) (fair-more t marked f r p e) (roomy-more t marked f r p e) (some-more t marked f r p e) x in
     (y .0, inr (y .1)))
 
@@ -256,27 +258,16 @@ some-proper table marked f n m = record {
   fresh = refl;
 }
 
-abbrev OpensIf : Opening → Type 0
-OpensIf o = o .refusal ≡ NoRefusal → Opens (o .state)
-
-opens-behind : (k : TaskPart) (size : ℕ) (r : Refusal) → k .refusal ≡ r → (size ≡ 0 → ⊥) → Read 0 k → OpensIf (opened-behind k size r)
-opens-behind k size NoRefusal e h read = go (eqb (k .end) size) refl (read e)
-  where
-    go : (b : Bool) → eqb (k .end) size ≡ b → Fair (k .table) (k .marked) × ((k .end ≡ 0) ⊎ ((n : ℕ) × (member n (k .table .present) ≡ true)))
-        → OpensIf (cond b (record { state = opened (k .table) (k .marked); refusal = NoRefusal }) (not-opened (AtEntry 2 (k .end))))
-    go true b x y =
-        ⊎-elim (λ z. absurd (h (omega (arith, eqb-true (k .end) size b)))) (λ z. some-proper (k .table) (k .marked) (x .0) (z .0) (z .1)) (x .1)
-    go false b x y = unread 2 (k .end) y
-opens-behind k size (Alone n) e h read = λ x. absurd (let z : _≡_ {A = ℕ} 0 1 = cc in omega arith)
-opens-behind k size (AtEntry n at) e h read = λ x. unread n at x
+-- what was read of the bytes from their start
+all-read : (bytes : List ℕ) → Read 0 (head-of bytes)
+unfolding head-of
+all-read bytes = reads (length bytes) bytes 0 no-table 0 fair-none roomy-none
 
 pub opens : (bytes : List ℕ) → opening bytes .refusal ≡ NoRefusal → Opens (opening bytes .state)
 unfolding opening
-opens bytes = go (eqb (length bytes) 0) refl
-  where
-    go : (b : Bool) → eqb (length bytes) 0 ≡ b
-        → OpensIf (cond b (not-opened (Alone 12)) (opened-behind (task-part bytes) (length bytes) (task-part bytes .refusal)))
-    go true b = λ x. absurd (let z : _≡_ {A = ℕ} 0 1 = cc in omega arith)
-    go false b =
-        opens-behind (task-part bytes) (length bytes) (task-part bytes .refusal) refl (eqb-false (length bytes) 0 b)
-        (unfold task-part in reads (length bytes) bytes 0 no-table 0 fair-none roomy-none)
+opens bytes h =
+    let w : Whole bytes = accepted bytes h in
+    let k : Head = head-of bytes in
+    let x = all-read bytes (w .none-refused) in
+    subst (λ (k : Head). Opens (opened (k .table) (k .marked))) (sym (whole-head bytes w))
+    (⊎-elim (λ z. absurd (w .some (sym (w .whole) ∙ z))) (λ z. some-proper (k .table) (k .marked) (x .0) (z .0) (z .1)) (x .1))

@@ -9,7 +9,7 @@ use lib.Dec.{eqb, leb}
 use lib.ListN.{length}
 use Rattle.sets.proofs.Laws.{by-test}
 use Rattle.table.specs.Refusals.{refusal-number}
-use Rattle.table.specs.TaskPart.{task-part}
+use Rattle.table.specs.Head.{head-of}
 use Rattle.rules.specs.Calls.{opening}
 use Rattle.run.specs.Files.{Checked, Rejected, Releases, releases-of}
 use Rattle.run.specs.Run.{record-bytes, moments-of}
@@ -75,7 +75,7 @@ read-back tasks rs bytes y =
     let a : Accepted s rs = accepted s rs (y .admissible) in
     let ps : List Release = run-told (moments-of s rs) in
     let t : told bytes ≡ Releases ps = tells s rs (y .admissible) bytes (y .its-record) in
-    (ps, t, ordered (task-part s .table .present) (fair s rs a .present) ps rs (a .sorted) (as-many s rs (y .admissible) bytes (y .its-record) ps t))
+    (ps, t, ordered (head-of s .table .present) (fair s rs a .present) ps rs (a .sorted) (as-many s rs (y .admissible) bytes (y .its-record) ps t))
 
 module _ (tasks bytes : List ℕ) (ps : List Release) (h : opening tasks .refusal ≡ NoRefusal) where
   abbrev s : List ℕ
@@ -93,7 +93,7 @@ module _ (tasks bytes : List ℕ) (ps : List Release) (h : opening tasks .refusa
       go f =
           let a : Accepted s (f .qs) = accepted s (f .qs) (f .releases) in
           let e : f .qs ≡ sorted ps = read-as (none-past ps fit .1) f in
-          none (early ps (sym (sorted-tally late ps) ∙ ap (tally late) (sym e) ∙ none-late (task-part s .table .present) (f .qs) (a .sorted)))
+          none (early ps (sym (sorted-tally late ps) ∙ ap (tally late) (sym e) ∙ none-late (head-of s .table .present) (f .qs) (a .sorted)))
           (omega (arith, a .few, ap length e, all-tally (sorted ps), all-tally ps, sorted-tally (λ r. true) ps))
 
   -- they yield the record, if its bytes are those of their run
@@ -102,7 +102,7 @@ module _ (tasks bytes : List ℕ) (ps : List Release) (h : opening tasks .refusa
       let f : Found s bytes (releases-of s) = found s bytes (releases-of s) b in
       let a : Accepted s (f .qs) = accepted s (f .qs) (f .releases) in
       let e : f .qs ≡ sorted ps =
-      read-as (in-time ps (as-many s (f .qs) (f .releases) bytes (f .its-record) ps t late ∙ none-late (task-part s .table .present) (f .qs) (a .sorted))) f in
+      read-as (in-time ps (as-many s (f .qs) (f .releases) bytes (f .its-record) ps t late ∙ none-late (head-of s .table .present) (f .qs) (a .sorted))) f in
       record {
         opens = h;
         admissible = f .releases ∙ ap Releases e;

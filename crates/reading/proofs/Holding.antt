@@ -18,11 +18,11 @@ use Rattle.entries.specs.Entries.{each}
 use Rattle.run.specs.Run.{run, record-entries, record-bytes}
 use Rattle.run.specs.Pieces.{Makes}
 use Rattle.run.proofs.Reaching.{same-slice, front}
-use Rattle.record.specs.Types.{TaskPart, NoRefusal, Piece}
+use Rattle.record.specs.Types.{Head, NoRefusal, Piece}
 use Rattle.record.specs.Cursor.{Cursor, Served, Room, start, run-bytes, budget-at}
 use Rattle.record.proofs.Running.{is-start, splits, served-on}
-use Rattle.table.specs.TaskPart.{task-part}
-use Rattle.run.specs.Files.{Checked, Rejected, Releases, refusal-of, releases-of, part-of, file-part}
+use Rattle.table.specs.Head.{head-of}
+use Rattle.run.specs.Files.{Checked, Rejected, Releases, refusal-of, releases-of, head-unless, file-head}
 use Rattle.record.proofs.Accepted.{accepted}
 use Rattle.record.proofs.Outcomes.{AllRead, accepted-whole, listed-all, same-run}
 use Rattle.reading.specs.Parts.{Tells}
@@ -105,7 +105,7 @@ pub record Holding (s whole stored : List ℕ) (c : Cursor) (size left : ℕ) : 
   pub within : size ≤ length stored
   pub served : Served s c
 
-module _ (s stored : List ℕ) (k : TaskPart) (budget : ℕ) (d : Dispatcher) (e : state-of d ≡ opened (k .table) (k .marked)) where
+module _ (s stored : List ℕ) (k : Head) (budget : ℕ) (d : Dispatcher) (e : state-of d ≡ opened (k .table) (k .marked)) where
   pub begins : Room s (start k) budget stored false → Holding s (run-bytes s (record { state = state-of d; at = k .end }) budget) stored (record { state = state-of d; at = k .end }) 0 budget
   begins r = record { rest = refl; within = omega arith; served = subst (λ (c : Cursor). Served s c) (is-start k d e) (r .served) }
 
@@ -157,17 +157,17 @@ module _ {s whole stored : List ℕ} (d : Dispatcher) {at size left : ℕ} (h : 
 
 -- ---- an input by what checking it found
 
-module _ (s : List ℕ) (k : TaskPart) (is : k ≡ file-part s) (stored : List ℕ) where
+module _ (s : List ℕ) (k : Head) (is : k ≡ file-head s) (stored : List ℕ) where
   pub yields-accepted : k .refusal ≡ NoRefusal → same-bytes (run-bytes s (start k) (budget-at s (start k))) stored ≡ yields s stored
   unfolding yielded-by
   yields-accepted h =
       let read : AllRead s k = accepted-whole s k is h in
-      sym (ap (yielded-by s stored) (listed-all s k (read .part) (read .releases)) ∙ ap (λ (x : List ℕ). same-bytes x stored) (same-run s k (read .part) (read .releases)))
+      sym (ap (yielded-by s stored) (listed-all s k (read .whole) (read .releases)) ∙ ap (λ (x : List ℕ). same-bytes x stored) (same-run s k (read .whole) (read .releases)))
 
   pub yields-refused : (k .refusal ≡ NoRefusal → ⊥) → false ≡ yields s stored
-  unfolding yielded-by file-part
+  unfolding yielded-by file-head
   yields-refused h = go (releases-of s) refl
     where
       go : (c : Checked) → releases-of s ≡ c → false ≡ yielded-by s stored c
       go (Rejected r) e = refl
-      go (Releases rs) e = absurd (h (ap (λ (x : TaskPart). x .refusal) (is ∙ ap (λ (x : Checked). part-of (task-part s) (refusal-of x)) e) ∙ accepted s rs e .tasks))
+      go (Releases rs) e = absurd (h (ap (λ (x : Head). x .refusal) (is ∙ ap (λ (x : Checked). head-unless (head-of s) (refusal-of x)) e) ∙ accepted s rs e .tasks))

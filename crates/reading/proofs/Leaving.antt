@@ -9,7 +9,7 @@ use lib.Dec.{eqb}
 use lib.ListN.{length, getD}
 use Rattle.sets.specs.Sets.{member, union, insert, bit}
 use Rattle.sets.proofs.Laws.{by-test, united, same-task, member-task}
-use Rattle.table.specs.TaskPart.{task-part}
+use Rattle.table.specs.Head.{head-of}
 use Rattle.rules.specs.With.{at-clock}
 use Rattle.rules.specs.Order.{highest-of}
 use Rattle.rules.specs.Instant.{completed, after-done, without-done, step-a, close, step-b, taken, deferred, skipped, original, stamped, step-c, cancel, step-d, choose, step-e, begin, step-g, fresh-stage, at-a, at-b, new-at, late-at, at-e, at-f, at-g, occurred}
@@ -262,11 +262,11 @@ pub leaves-one : (s : List ℕ) (rs : List Release) → releases-of s ≡ Releas
 unfolding Demand3Files
 leaves-one s rs h test =
     let a : Accepted s rs = accepted s rs h in
-    let d : State = opened (task-part s .table) (task-part s .marked) in
+    let d : State = opened (head-of s .table) (head-of s .marked) in
     let f = fed-file s rs h in
     let claim = demand-3-files s rs h .of-the-feed (f .calls) (f .feeds) in
     let fed : tally test (run-told (answers d (f .calls))) + held-with test (held (after-calls d (f .calls))) ≡ held-with test (held d) + tally test rs =
-    feed-leaves test (task-part s .table) (task-part s .marked) (fair s rs a) (f .calls) d rs (fit s rs a) (unfold opened in record { release = refl; times = refl }) (f .feeds) in
+    feed-leaves test (head-of s .table) (head-of s .marked) (fair s rs a) (f .calls) d rs (fit s rs a) (unfold opened in record { release = refl; times = refl }) (f .feeds) in
     omega (
       arith,
       fed,

@@ -9,10 +9,10 @@ use Rattle.sets.proofs.Laws.{by-test}
 use Rattle.words.specs.Words.{numberAt}
 use Rattle.entries.specs.Entries.{task-at, release-at, entry-at, job-at, interval-at, record-entry-at, record-entry-size}
 use Rattle.table.specs.Refusals.{refusal-number}
-use Rattle.table.specs.TaskPart.{no-table, given, outside, number-refused, mark-or-length-refusal, task-refusal, with-task, with-marked, behind-tasks, tasks-from, task-part}
+use Rattle.table.specs.Head.{no-table, given, outside, number-refused, mark-or-length-refusal, task-refusal, with-task, with-marked, refused, behind-head, head-from, head-of, with-nothing-behind, head-alone}
 use Rattle.table.proofs.Laws.{at-end, malformed, released, refuses, takes}
-use Rattle.rules.specs.Calls.{not-opened, opened-behind, opening}
-use Rattle.guarantees.specs.Types.{Table, TaskPart}
+use Rattle.rules.specs.Calls.{opening}
+use Rattle.guarantees.specs.Types.{Table, Head}
 use Rattle.run.specs.Files.{Checked, Rejected, Releases, with-release}
 use Rattle.record.specs.Types.{TaskParameters, Entry, Malformed, TaskEntry, ReleaseEntry}
 use Rattle.reading.specs.Types.{Bool, true, false, cond, List, [], ℕ, zero, suc, _+_, Release, Refusal, NoRefusal, Alone, AtEntry, RecordEntry, MalformedRecord, JobDone, IntervalEnded, ReleaseSkipped}
@@ -58,37 +58,36 @@ task-low t p =
     (either Few (given 32 t (p .priority)) 5 _ (omega arith)
     (either Few (ltb 1 (p .mark)) 6 _ (omega arith) (either Few lengths 7 0 (omega arith) (omega arith))))
 
-abbrev PartLow : TaskPart → Type 0
-PartLow k = RefusalLow (k .refusal)
+abbrev HeadLow : Head → Type 0
+HeadLow k = RefusalLow (k .refusal)
 
-tasks-low : (k : ℕ) (s : List ℕ) (at : ℕ) (t : Table) (m : ℕ) → PartLow (tasks-from k s at t m)
-tasks-low zero s at t m = unfold tasks-from in tt
+tasks-low : (k : ℕ) (s : List ℕ) (at : ℕ) (t : Table) (m : ℕ) → HeadLow (head-from k s at t m)
+tasks-low zero s at t m = unfold head-from in tt
 tasks-low (suc k) s at t m =
-    by-test (behind-tasks s at)
-    (λ b. subst PartLow (sym (at-end s at t m (suc k) b)) tt)
+    by-test (behind-head s at)
+    (λ b. subst HeadLow (sym (at-end s at t m (suc k) b)) tt)
     (λ b. go b (entry-at s at) refl (entry-low s at) (λ p. tasks-low k s (at + 16) (with-task t p) (with-marked m p)))
   where
     More : Type 0
-    More = (p : TaskParameters) → PartLow (tasks-from k s (at + 16) (with-task t p) (with-marked m p))
+    More = (p : TaskParameters) → HeadLow (head-from k s (at + 16) (with-task t p) (with-marked m p))
 
-    go-task : behind-tasks s at ≡ false → (p : TaskParameters) (n : ℕ) → entry-at s at ≡ TaskEntry p → task-refusal t p ≡ n → More → PartLow (tasks-from (suc k) s at t m)
-    go-task b p zero e r more = subst PartLow (sym (takes s at t m k b p e r)) (more p)
-    go-task b p (suc n) e r more = subst PartLow (sym (refuses s at t m k b p (suc n) e r (omega arith))) (omega arith, omega (arith, task-low t p))
+    go-task : behind-head s at ≡ false → (p : TaskParameters) (n : ℕ) → entry-at s at ≡ TaskEntry p → task-refusal t p ≡ n → More → HeadLow (head-from (suc k) s at t m)
+    go-task b p zero e r more = subst HeadLow (sym (takes s at t m k b p e r)) (more p)
+    go-task b p (suc n) e r more = subst HeadLow (sym (refuses s at t m k b p (suc n) e r (omega arith))) (omega arith, omega (arith, task-low t p))
 
-    go : behind-tasks s at ≡ false → (i : Entry) → entry-at s at ≡ i → EntryLow (entry-at s at) → More → PartLow (tasks-from (suc k) s at t m)
-    go b (Malformed n) e l more = subst PartLow (sym (malformed s at t m k b n e)) (subst EntryLow e l)
-    go b (ReleaseEntry q) e l more = subst PartLow (sym (released s at t m k b q e)) tt
+    go : behind-head s at ≡ false → (i : Entry) → entry-at s at ≡ i → EntryLow (entry-at s at) → More → HeadLow (head-from (suc k) s at t m)
+    go b (Malformed n) e l more = subst HeadLow (sym (malformed s at t m k b n e)) (subst EntryLow e l)
+    go b (ReleaseEntry q) e l more = subst HeadLow (sym (released s at t m k b q e)) tt
     go b (TaskEntry p) e l more = go-task b p (task-refusal t p) e refl more
 
 pub opening-low : (tasks : List ℕ) → RefusalLow (opening tasks .refusal)
-unfolding opening task-part
-opening-low tasks =
-    go (eqb (length tasks) 0) (eqb (task-part tasks .end) (length tasks)) (task-part tasks .refusal) refl (tasks-low (length tasks) tasks 0 no-table 0)
+unfolding opening head-alone
+opening-low tasks = go (eqb (length tasks) 0) (eqb (head-of tasks .end) (length tasks)) (head-of tasks .refusal) refl (unfold head-of in tasks-low (length tasks) tasks 0 no-table 0)
   where
-    go : (b e : Bool) (r : Refusal) → eqb (task-part tasks .end) (length tasks) ≡ e → RefusalLow r
-        → RefusalLow (cond b (not-opened (Alone 12)) (opened-behind (task-part tasks) (length tasks) r) .refusal)
+    go : (b e : Bool) (r : Refusal) → eqb (head-of tasks .end) (length tasks) ≡ e → HeadLow (head-of tasks)
+        → HeadLow (cond b (refused (Alone 12)) (with-nothing-behind (head-of tasks) (length tasks) r))
     go true e r x l = omega arith
-    go false true NoRefusal x l = rw x tt
+    go false true NoRefusal x l = rw x l
     go false false NoRefusal x l = rw x (omega arith)
     go false e (Alone n) x l = l
     go false e (AtEntry n at) x l = l

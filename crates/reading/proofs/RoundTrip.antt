@@ -12,7 +12,7 @@ use Rattle.sets.proofs.Laws.{by-test}
 use Rattle.words.specs.Words.{bytesOf, numberAt}
 use Rattle.words.proofs.Laws.{one-byte, first-byte}
 use Rattle.entries.specs.Entries.{entry-at, release-at, release-bytes}
-use Rattle.table.specs.TaskPart.{task-part}
+use Rattle.table.specs.Head.{head-of}
 use Rattle.run.specs.Files.{Checked, Rejected, Releases, refusal-of, release-refusal, releases-from, releases-of}
 use Rattle.run.specs.Run.{record-bytes, moments-of}
 use Rattle.run.proofs.Checking
@@ -108,16 +108,16 @@ unfolding RoundTrip file
 round-trip s out lent n bytes h = go (releases-of s) refl h
   where
     tasks : List ℕ
-    tasks = take (task-part s .end) s
+    tasks = take (head-of s .end) s
 
     go : (c : Checked) → releases-of s ≡ c → written-of s out c .outcome ≡ Recorded n
-        → reading tasks (take n (written-of s out c .memory)) lent ≡ written (drop (task-part s .end) s) lent
+        → reading tasks (take n (written-of s out c .memory)) lent ≡ written (drop (head-of s .end) s) lent
     go (Rejected r) e h = absurd (let z : _≡_ {A = ℕ} 0 1 = cc in omega arith)
     go (Releases rs) e h =
         let a : Accepted s rs = accepted s rs e in
-        let list : list-bytes rs ≡ drop (task-part s .end) s =
-        list-back s bytes (length s) (task-part s .end) (task-part s .table .present) NoneBefore 0 rs (omega arith) (a .read) in
-        let whole : input-of tasks rs ≡ s = ap (λ (l : List ℕ). tasks ++ l) list ∙ take-append-drop (task-part s .end) s in
+        let list : list-bytes rs ≡ drop (head-of s .end) s =
+        list-back s bytes (length s) (head-of s .end) (head-of s .table .present) NoneBefore 0 rs (omega arith) (a .read) in
+        let whole : input-of tasks rs ≡ s = ap (λ (l : List ℕ). tasks ++ l) list ∙ take-append-drop (head-of s .end) s in
         let record-is : List ℕ = record-bytes (moments-of s rs) in
         let y : Yields tasks rs record-is = record {
           opens = ap (λ (o : Opening). o .refusal) (opens s rs a);

@@ -3,7 +3,7 @@ use mathlib.Core.Path.{_≡_}
 use mathlib.Core.Logic.{_⊎_}
 use Prim.Native.Nat.{_<_}
 use lib.ListN.{take, drop, getD}
-use Rattle.table.specs.TaskPart.{task-part}
+use Rattle.table.specs.Head.{head-of}
 use Rattle.rules.specs.Calls.{opening}
 use Rattle.run.specs.Files.{Releases, releases-of}
 use Rattle.run.specs.Run.{record-bytes, moments-of}
@@ -53,4 +53,4 @@ AllBytes s = (i : ℕ) → getD s i 0 < 256
 -- what `record::write` wrote for an input that is accepted is read back as exactly its release entries
 unfoldable pub RoundTrip : Type 0
 RoundTrip = (s out lent : List ℕ) (n : ℕ) → AllBytes s → file s out .outcome ≡ Recorded n →
-    reading (take (task-part s .end) s) (take n (file s out .memory)) lent ≡ written (drop (task-part s .end) s) lent
+    reading (take (head-of s .end) s) (take n (file s out .memory)) lent ≡ written (drop (head-of s .end) s) lent

@@ -3,8 +3,10 @@ use mathlib.Core.Path.{_≡_}
 use mathlib.Core.Logic.{_⊎_}
 use Prim.Native.Nat.{_+_, _*_, _/_, _%_, _^_, _≤_, _<_}
 use lib.ListN.{length, take, drop}
-use Rattle.table.specs.declared.TaskPart.{TaskPart}
-use Rattle.table.specs.TaskPart.{task-part}
+use Rattle.entries.specs.Entries.{size}
+use Rattle.entries.specs.Limits as limits
+use Rattle.table.specs.declared.Head.{Head}
+use Rattle.table.specs.Head.{head-of}
 use Rattle.rules.specs.Calls.{opening}
 use Rattle.run.specs.Files.{Releases, refusal-of}
 use Rattle.reading.specs.Types.{Bool, true, false, List, [], _∷_, _++_, ℕ, Release, NoRefusal, RecordEntry, MalformedRecord, JobDone, IntervalEnded, ReleaseSkipped}
@@ -24,9 +26,9 @@ no-release = record { task = 0; time = 0 }
 -- its length and the release that it tells of, where it is not refused
 abbrev pub decoded : RecordEntry → Decoded
 decoded (MalformedRecord n) = Faulty
-decoded (JobDone e) = Whole (record { size = 27; counts = true; release = release-of e })
-decoded (IntervalEnded e) = Whole (record { size = 24; counts = false; release = no-release })
-decoded (ReleaseSkipped r) = Whole (record { size = 10; counts = true; release = r })
+decoded (JobDone e) = Whole (record { size = size 16; counts = true; release = release-of e })
+decoded (IntervalEnded e) = Whole (record { size = size 17; counts = false; release = no-release })
+decoded (ReleaseSkipped r) = Whole (record { size = size 18; counts = true; release = r })
 
 abbrev pub fault : RecordEntry → ℕ
 fault (MalformedRecord n) = n
@@ -54,7 +56,7 @@ AllFit (r ∷ rs) = ((r .task < 256) × (r .time < 2 ^ 64)) × AllFit rs
 
 unfoldable pub AllEarly : List Release → Type 0
 AllEarly [] = Unit {0}
-AllEarly (r ∷ rs) = (r .time ≤ 1000000000) × AllEarly rs
+AllEarly (r ∷ rs) = (r .time ≤ limits.last-release) × AllEarly rs
 
 -- ---- Noted in a slice
 
@@ -94,20 +96,27 @@ pub record Rebuilt (tasks keys before : List ℕ) (size : ℕ) (after : List ℕ
   pub size-is : size ≡ length (input-of tasks (releases-in keys))
   pub holds : take size after ≡ input-of tasks (releases-in keys)
 
--- an input's task part, as it was read
-pub record ReadPart (s : List ℕ) (part : TaskPart) : Type 0 where
+-- an input's head, as it was read
+pub record ReadHead (s : List ℕ) (k : Head) : Type 0 where
   pub some : length s ≡ 0 → ⊥
-  pub is : part ≡ task-part s
-  pub accepted : part .refusal ≡ NoRefusal
+  pub is : k ≡ head-of s
+  pub accepted : k .refusal ≡ NoRefusal
 
--- task entries that open a dispatcher, and their part
-pub record Opened (tasks : List ℕ) (part : TaskPart) : Type 0 where
+-- task entries that open a dispatcher, and their head
+pub record Opened (tasks : List ℕ) (k : Head) : Type 0 where
   pub opens : opening tasks .refusal ≡ NoRefusal
-  pub is : part ≡ task-part tasks
+  pub is : k ≡ head-of tasks
+
+-- of how many releases a record tells at most that is shorter than so many release entries
+abbrev pub few : ℕ
+few = 512
+
+abbrev pub some : ℕ
+some = 2048
 
 -- memory for reading: task entries that open a dispatcher; room for as many numbers as a file may have releases, or as the record can tell of; and
 -- for the input that they make
 pub record Lent (tasks stored keys input : List ℕ) : Type 0 where
   pub opens : opening tasks .refusal ≡ NoRefusal
-  pub enough : (4096 ≤ length keys) ⊎ (length stored ≤ 10 * length keys)
-  pub room : 32 * 16 + 10 * length keys ≤ length input
+  pub enough : (limits.releases ≤ length keys) ⊎ (length stored ≤ size 2 * length keys)
+  pub room : limits.longest-head + size 2 * length keys ≤ length input

@@ -1,6 +1,7 @@
 // The releases that a record tells of, each as one number: time first, then task.
 use entries::RecordEntry;
 use entries::Release;
+use entries::limits;
 use table::Refusal;
 ghost use mathlib.Core.Path.{_≡_};
 ghost use Rattle.reading.specs.Parts.{decoded, fault, NotesMore, Collects};
@@ -84,7 +85,7 @@ fn note(keys: &mut [u64], n: Noted, told: Telling) -> Noted
             possible: false,
         };
     }
-    if 1000000000 < time {
+    if limits::LAST_RELEASE < time {
         return Noted {
             count,
             possible: false,

@@ -1,32 +1,27 @@
-// From the task entries and a stored record, the release entries that made it.
+// From the head of an input and a stored record, the release entries that made it.
 use crate::collect::collect;
 use crate::order::sort;
 use crate::rebuild::rebuild;
 use crate::replay::yields;
+use entries::RELEASE_SIZE;
+use entries::limits;
 use record::Outcome;
-use rules::at;
+use table::Head;
 use table::Refusal;
-use table::Table;
-use table::TaskPart;
 ghost use mathlib.Core.Path.{_≡_};
 ghost use Prim.Native.Nat.{_+_, _*_, _≤_};
 ghost use lib.ListN.{length};
+ghost use Rattle.entries.specs.Entries.{size};
 ghost use Rattle.record.specs.Writing.{Wrote, written};
 ghost use Rattle.reading.specs.Told.{told};
 ghost use Rattle.reading.specs.Reading.{listed-if, read-told, reading};
-ghost use Rattle.reading.specs.Parts.{releases-in, Opened, Lent};
+ghost use Rattle.reading.specs.Parts.{releases-in, few, some, Opened, Lent};
 ghost use Rattle.reading.specs.Acceptance.{ReadWithClaim};
-
-// As many releases as a file may have.
-const MOST: usize = 4096;
 
 // A record of few bytes tells of few releases: no entry that tells of one is shorter than a release entry. Then less memory is cleared first.
 const SOME: usize = 2048;
 
 const FEW: usize = 512;
-
-// The most bytes of task entries.
-const TASKS: usize = 32 * entries::TASK_SIZE;
 
 // A list of release entries in the front of `out`, or 13 with the length needed.
 fn write_list(list: &[u8], out: &mut [u8]) -> Outcome
@@ -42,18 +37,18 @@ fn write_list(list: &[u8], out: &mut [u8]) -> Outcome
 // The list of the releases that the numbers stand for, where its run has this record; else 18. `input` has room for the input that they make.
 fn read_listed(
     tasks: &[u8],
-    part: TaskPart,
+    head: Head,
     keys: &[u64],
     stored: &[u8],
     input: &mut [u8],
     out: &mut [u8],
 ) -> Outcome
-    requires { ⌜ Opened (now tasks) part ⌝ }
-    requires { ⌜ length (now tasks) + 10 * length (now keys) ≤ length (now input) ⌝ }
+    requires { ⌜ Opened (now tasks) head ⌝ }
+    requires { ⌜ length (now tasks) + size 2 * length (now keys) ≤ length (now input) ⌝ }
     ensures { λ r. ⌜ Wrote (listed-if (now (tasks .entry)) (now (stored .entry)) (now (out .entry)) (releases-in (now (keys .entry)))) r (now (out .exit)) ⌝ }
 {
     let end = rebuild(tasks, keys, input);
-    if yields(&input[..end], part, stored) {
+    if yields(&input[..end], head, stored) {
         let from = tasks.len();
         return write_list(&input[from..end], out);
     }
@@ -63,13 +58,13 @@ fn read_listed(
 // Behind task entries that open a dispatcher. `keys` has room for every release that the record may tell of.
 fn read_record(
     tasks: &[u8],
-    part: TaskPart,
+    head: Head,
     stored: &[u8],
     keys: &mut [u64],
     input: &mut [u8],
     out: &mut [u8],
 ) -> Outcome
-    requires { ⌜ Opened (now tasks) part ⌝ }
+    requires { ⌜ Opened (now tasks) head ⌝ }
     requires { ⌜ Lent (now tasks) (now stored) (now keys) (now input) ⌝ }
     ensures { λ r. ⌜ Wrote (read-told (now (tasks .entry)) (now (stored .entry)) (now (out .entry)) (told (now (stored .entry)))) r (now (out .exit)) ⌝ }
 {
@@ -83,77 +78,63 @@ fn read_record(
             }
             let count = noted.count;
             sort(&mut keys[..count]);
-            read_listed(tasks, part, &keys[..count], stored, input, out)
+            read_listed(tasks, head, &keys[..count], stored, input, out)
         }
         Refusal::Alone(_) => Outcome::RefusedInput(fault),
         Refusal::AtEntry(_, _) => Outcome::RefusedInput(fault),
     }
 }
 
-fn read_few(tasks: &[u8], part: TaskPart, stored: &[u8], out: &mut [u8]) -> Outcome
-    requires { ⌜ Opened (now tasks) part ⌝ }
-    requires { ⌜ length (now stored) ≤ 5120 ⌝ }
+fn read_few(tasks: &[u8], head: Head, stored: &[u8], out: &mut [u8]) -> Outcome
+    requires { ⌜ Opened (now tasks) head ⌝ }
+    requires { ⌜ length (now stored) ≤ few * size 2 ⌝ }
     ensures { λ r. ⌜ Wrote (read-told (now (tasks .entry)) (now (stored .entry)) (now (out .entry)) (told (now (stored .entry)))) r (now (out .exit)) ⌝ }
 {
     let mut keys = [0u64; FEW];
-    let mut input = [0u8; TASKS + FEW * entries::RELEASE_SIZE];
-    read_record(tasks, part, stored, &mut keys, &mut input, out)
+    let mut input = [0u8; limits::LONGEST_HEAD + FEW * RELEASE_SIZE];
+    read_record(tasks, head, stored, &mut keys, &mut input, out)
 }
 
-fn read_some(tasks: &[u8], part: TaskPart, stored: &[u8], out: &mut [u8]) -> Outcome
-    requires { ⌜ Opened (now tasks) part ⌝ }
-    requires { ⌜ length (now stored) ≤ 20480 ⌝ }
+fn read_some(tasks: &[u8], head: Head, stored: &[u8], out: &mut [u8]) -> Outcome
+    requires { ⌜ Opened (now tasks) head ⌝ }
+    requires { ⌜ length (now stored) ≤ some * size 2 ⌝ }
     ensures { λ r. ⌜ Wrote (read-told (now (tasks .entry)) (now (stored .entry)) (now (out .entry)) (told (now (stored .entry)))) r (now (out .exit)) ⌝ }
 {
     let mut keys = [0u64; SOME];
-    let mut input = [0u8; TASKS + SOME * entries::RELEASE_SIZE];
-    read_record(tasks, part, stored, &mut keys, &mut input, out)
+    let mut input = [0u8; limits::LONGEST_HEAD + SOME * RELEASE_SIZE];
+    read_record(tasks, head, stored, &mut keys, &mut input, out)
 }
 
-fn read_any(tasks: &[u8], part: TaskPart, stored: &[u8], out: &mut [u8]) -> Outcome
-    requires { ⌜ Opened (now tasks) part ⌝ }
+fn read_any(tasks: &[u8], head: Head, stored: &[u8], out: &mut [u8]) -> Outcome
+    requires { ⌜ Opened (now tasks) head ⌝ }
     ensures { λ r. ⌜ Wrote (read-told (now (tasks .entry)) (now (stored .entry)) (now (out .entry)) (told (now (stored .entry)))) r (now (out .exit)) ⌝ }
 {
-    let mut keys = [0u64; MOST];
-    let mut input = [0u8; TASKS + MOST * entries::RELEASE_SIZE];
-    read_record(tasks, part, stored, &mut keys, &mut input, out)
+    let mut keys = [0u64; limits::RELEASES];
+    let mut input = [0u8; limits::LONGEST_FILE];
+    read_record(tasks, head, stored, &mut keys, &mut input, out)
 }
 
 // With as much memory as the record asks for.
-fn read_opened(tasks: &[u8], part: TaskPart, stored: &[u8], out: &mut [u8]) -> Outcome
-    requires { ⌜ Opened (now tasks) part ⌝ }
+fn read_opened(tasks: &[u8], head: Head, stored: &[u8], out: &mut [u8]) -> Outcome
+    requires { ⌜ Opened (now tasks) head ⌝ }
     ensures { λ r. ⌜ Wrote (read-told (now (tasks .entry)) (now (stored .entry)) (now (out .entry)) (told (now (stored .entry)))) r (now (out .exit)) ⌝ }
 {
-    if stored.len() <= FEW * entries::RELEASE_SIZE {
-        return read_few(tasks, part, stored, out);
+    if stored.len() <= FEW * RELEASE_SIZE {
+        return read_few(tasks, head, stored, out);
     }
-    if stored.len() <= SOME * entries::RELEASE_SIZE {
-        return read_some(tasks, part, stored, out);
+    if stored.len() <= SOME * RELEASE_SIZE {
+        return read_some(tasks, head, stored, out);
     }
-    read_any(tasks, part, stored, out)
+    read_any(tasks, head, stored, out)
 }
 
 fn read_checked(tasks: &[u8], stored: &[u8], out: &mut [u8]) -> Outcome
     ensures { λ r. ⌜ Wrote (reading (now (tasks .entry)) (now (stored .entry)) (now (out .entry))) r (now (out .exit)) ⌝ }
 {
-    let opened = guarantees::open(tasks);
-    let refusal = opened.refusal;
+    let head = table::head_alone(tasks);
+    let refusal = head.refusal;
     match refusal {
-        Refusal::NoRefusal => {
-            let state = opened.state;
-            let table = Table {
-                present: state.sets[at::PRESENT],
-                priority: state.priority,
-                columns: state.columns,
-            };
-            let part = TaskPart {
-                table,
-                marked: state.sets[at::MARKED],
-                end: tasks.len(),
-                refusal,
-            };
-            read_opened(tasks, part, stored, out)
-        }
+        Refusal::NoRefusal => read_opened(tasks, head, stored, out),
         Refusal::Alone(_) => Outcome::RefusedInput(refusal),
         Refusal::AtEntry(_, _) => Outcome::RefusedInput(refusal),
     }

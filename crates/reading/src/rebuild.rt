@@ -3,13 +3,13 @@ use entries::Release;
 ghost use mathlib.Core.Path.{_≡_};
 ghost use Prim.Native.Nat.{_+_, _*_, _≤_};
 ghost use lib.ListN.{length, take};
-ghost use Rattle.entries.specs.Entries.{laid};
+ghost use Rattle.entries.specs.Entries.{size, laid};
 ghost use Rattle.reading.specs.Parts.{Rebuilt, releases-in};
 ghost use Rattle.reading.specs.Reading.{list-bytes};
 
 // A release entry for each number, in the front of `out`.
 fn lay(keys: &[u64], out: &mut [u8])
-    requires { ⌜ 10 * length (now keys) ≤ length (now out) ⌝ }
+    requires { ⌜ size 2 * length (now keys) ≤ length (now out) ⌝ }
     ensures { λ _. ⌜ now (out .exit) ≡ laid 0 (list-bytes (releases-in (now (keys .entry)))) (now (out .entry)) ⌝ }
 {
     let mut i: usize = 0;
@@ -27,7 +27,7 @@ fn lay(keys: &[u64], out: &mut [u8])
 
 // The input in the front of `out`, and its length.
 pub fn rebuild(tasks: &[u8], keys: &[u64], out: &mut [u8]) -> usize
-    requires { ⌜ length (now tasks) + 10 * length (now keys) ≤ length (now out) ⌝ }
+    requires { ⌜ length (now tasks) + size 2 * length (now keys) ≤ length (now out) ⌝ }
     ensures { λ r. ⌜ Rebuilt (now (tasks .entry)) (now (keys .entry)) (now (out .entry)) r (now (out .exit)) ⌝ }
 {
     let from = bytes::copy(tasks, out);

@@ -1,14 +1,15 @@
 // A run made again, instant by instant, and held against a record piece by piece, so that no more of it is kept than a piece.
 use entries::RELEASE_SIZE;
+use entries::limits;
+use table::Head;
 use table::Refusal;
-use table::TaskPart;
 ghost use mathlib.Core.Path.{_≡_};
 ghost use mathlib.Core.Bool.{false, _&&_};
 ghost use Prim.Native.Nat.{_≤_};
 ghost use lib.Dec.{eqb};
 ghost use lib.ListN.{length, take, drop};
 ghost use Rattle.record.specs.Cursor.{Room, start, run-bytes};
-ghost use Rattle.reading.specs.Parts.{Tells, ReadPart};
+ghost use Rattle.reading.specs.Parts.{Tells, ReadHead};
 ghost use Rattle.reading.specs.Reading.{same-bytes, yields};
 
 // How many bytes of a run are made before they are held against the record: long pieces are compared faster than what one instant leaves.
@@ -51,14 +52,14 @@ fn goes_on_with(stored: &[u8], at: usize, made: &[u8], n: usize) -> bool
 }
 
 // Whether the record of a run, of at most `budget` instants, is `stored`.
-fn replays(s: &[u8], part: TaskPart, budget: usize, stored: &[u8]) -> bool
-    requires { ⌜ Room (now s) (start part) budget (now stored) false ⌝ }
-    ensures { λ r. ⌜ r ≡ same-bytes (run-bytes (now (s .entry)) (start part) budget) (now (stored .entry)) ⌝ }
+fn replays(s: &[u8], head: Head, budget: usize, stored: &[u8]) -> bool
+    requires { ⌜ Room (now s) (start head) budget (now stored) false ⌝ }
+    ensures { λ r. ⌜ r ≡ same-bytes (run-bytes (now (s .entry)) (start head) budget) (now (stored .entry)) ⌝ }
 {
     let mut made = [0u8; PIECE];
-    let table = part.table;
-    let mut d = dispatcher::opened(table, part.marked);
-    let mut at = part.end;
+    let table = head.table;
+    let mut d = dispatcher::opened(table, head.marked);
+    let mut at = head.end;
     let mut size: usize = 0;
     let mut left = budget;
     while left != 0 {
@@ -74,17 +75,18 @@ fn replays(s: &[u8], part: TaskPart, budget: usize, stored: &[u8]) -> bool
     size == stored.len()
 }
 
-// Whether an input, of which the task part is read already, is accepted and its run's record is `stored`.
-pub fn yields(s: &[u8], part: TaskPart, stored: &[u8]) -> bool
-    requires { ⌜ ReadPart (now s) part ⌝ }
+// Whether an input, of which the head is read already, is accepted and its run's record is `stored`.
+pub fn yields(s: &[u8], head: Head, stored: &[u8]) -> bool
+    requires { ⌜ ReadHead (now s) head ⌝ }
     ensures { λ r. ⌜ r ≡ yields (now (s .entry)) (now (stored .entry)) ⌝ }
 {
-    let checked = run::check_behind(s, part);
+    let checked = run::check_behind(s, head);
     let refusal = checked.refusal;
     match refusal {
         Refusal::NoRefusal => {
             let n = (s.len() - checked.end) / RELEASE_SIZE;
-            replays(s, checked, 32 * n + 32, stored)
+            let budget = limits::INSTANTS_EACH * n + limits::INSTANTS_EACH;
+            replays(s, checked, budget, stored)
         }
         Refusal::Alone(_) => false,
         Refusal::AtEntry(_, _) => false,

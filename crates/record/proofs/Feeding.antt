@@ -10,6 +10,7 @@ use lib.Dec.{eqb, ltb}
 use lib.ListN.{length}
 use Rattle.sets.specs.Sets.{member, difference, bit, size}
 use Rattle.sets.proofs.Laws.{by-test, clash, none, empty, difference-left, difference-right, difference-small, size-none}
+use Rattle.entries.specs.Limits as limits
 use Rattle.rules.specs.Instant.{due, sooner, at-g, occurred}
 use Rattle.rules.specs.Calls.{refusal, unknown, not-after, before-now, instant, served, after-call}
 use Rattle.guarantees.specs.Types.{Table, Clock, Unset, At, State, Due, Never, Tick, Served, Step, Call, Instant}
@@ -51,7 +52,7 @@ first-ahead Unset rs t h e = refl
 first-ahead (At u) [] t h e = absurd (let z : _≡_ {A = ℕ} 0 1 = cc in omega arith)
 first-ahead (At u) (r ∷ rs) t h e = let x : r .time ≡ t = cc in lt-leb t u (omega arith)
 
-first-early : (present : ℕ) (rs : List Release) (t : ℕ) → Sorted present rs → first-time rs ≡ Tick t → t ≤ 3000000000
+first-early : (present : ℕ) (rs : List Release) (t : ℕ) → Sorted present rs → first-time rs ≡ Tick t → t ≤ limits.last-instant
 unfolding Sorted
 first-early present [] t h e = absurd (let z : _≡_ {A = ℕ} 0 1 = cc in omega arith)
 first-early present (r ∷ rs) t h e = let x : r .time ≡ t = cc in omega (arith, h .1)
@@ -137,9 +138,9 @@ module _ (table : Table) (marks : ℕ) (fair : Fair table marks) where
         (λ x. x))))
 
     -- 10
-    none-late : (not (eqb (released-at t rs) 0) && ltb 1000000000 t) ≡ false
+    none-late : (not (eqb (released-at t rs) 0) && ltb limits.last-release t) ≡ false
     none-late =
-        by-test (eqb set 0) (λ e. rw e) (λ e. rw e (le-ltb 1000000000 t (early (table .present) (fair .present) t rs (fit .sorted) e)))
+        by-test (eqb set 0) (λ e. rw e) (λ e. rw e (le-ltb limits.last-release t (early (table .present) (fair .present) t rs (fit .sorted) e)))
 
     -- 14
     after-last : not-after (d .clock) t ≡ false
@@ -149,7 +150,7 @@ module _ (table : Table) (marks : ℕ) (fair : Fair table marks) where
         (sooner-is (first-time rs) (due (d .phase)) t next)
 
     -- nor is an instant late
-    not-far : t ≤ 3000000000
+    not-far : t ≤ limits.last-instant
     not-far =
         ⊎-elim (first-early (table .present) rs t (fit .sorted))
         (λ e. omega (arith, due-times table marks fair d t (fit .good) e .bound, debt-less d (fit .good .sound)))
@@ -159,7 +160,7 @@ module _ (table : Table) (marks : ℕ) (fair : Fair table marks) where
     no-row : refusal d t (released-at t rs) ≡ 0
     unfolding refusal unknown
     no-row =
-        no-test 16 10 14 15 (not (eqb (difference set (d .table .present)) 0)) (not (eqb set 0) && ltb 1000000000 t) (not-after (d .clock) t) (before-now (due (d .phase)) t)
+        no-test 16 10 14 15 (not (eqb (difference set (d .table .present)) 0)) (not (eqb set 0) && ltb limits.last-release t) (not-after (d .clock) t) (before-now (due (d .phase)) t)
         (ap not none-unknown) none-late after-last (in-time .1)
 
     is-served : eqb (refusal d t (released-at t rs)) 0 ≡ true

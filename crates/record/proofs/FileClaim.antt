@@ -6,7 +6,8 @@ use native.Mathlib.Omega.{arith}
 use lib.ListN.{length}
 use Rattle.sets.specs.Sets.{size}
 use Rattle.sets.proofs.Laws.{size-none}
-use Rattle.table.specs.TaskPart.{task-part}
+use Rattle.entries.specs.Limits as limits
+use Rattle.table.specs.Head.{head-of}
 use Rattle.rules.specs.Instant.{due, sooner}
 use Rattle.rules.specs.Calls.{opened, instant, after-call}
 use Rattle.guarantees.specs.Types.{State, Due, Never, Tick, Call, Instant, Mark, Answer, Refused, Served, Occurred}
@@ -20,7 +21,7 @@ use Rattle.guarantees.specs.Entries.{answers as occurred-by}
 use Rattle.guarantees.proofs.Invariant.{mass, good-opened}
 use Rattle.record.specs.Types.{Release}
 use Rattle.run.specs.Files.{Releases, releases-of}
-use Rattle.run.specs.Run.{Moment, first-time, released-at, released-after, budget, moments-of}
+use Rattle.run.specs.Run.{Moment, first-time, released-at, released-after, moments-of}
 use Rattle.record.specs.FileClaim.{Feeds, served-moment, answers, occurrences, FedClaim, Demand3Files}
 use Rattle.record.proofs.Accepted.{Accepted, accepted}
 use Rattle.record.proofs.TasksAlone.{opens, fair, claim}
@@ -70,42 +71,42 @@ as-answered (Mark n m ∷ cs) d = as-answered cs (after-call d (Mark n m))
 
 module _ (s : List ℕ) (rs : List Release) (a : Accepted s rs) where
   abbrev d : State
-  d = opened (task-part s .table) (task-part s .marked)
+  d = opened (head-of s .table) (head-of s .marked)
 
-  pub fit : Fit (task-part s .table) (task-part s .marked) (fair s rs a) (opened (task-part s .table) (task-part s .marked)) rs
-  fit = record { good = good-opened (task-part s .table) (task-part s .marked) (fair s rs a); sorted = a .sorted; ahead = unfold opened in tt }
+  pub fit : Fit (head-of s .table) (head-of s .marked) (fair s rs a) (opened (head-of s .table) (head-of s .marked)) rs
+  fit = record { good = good-opened (head-of s .table) (head-of s .marked) (fair s rs a); sorted = a .sorted; ahead = unfold opened in tt }
 
-  none-yet : mass (opened (task-part s .table) (task-part s .marked)) ≡ 0
+  none-yet : mass (opened (head-of s .table) (head-of s .marked)) ≡ 0
   unfolding mass opened
   none-yet = omega (arith, size-none)
 
   -- a run has at most 25 instants for each release
-  pub fed : Fed (budget (length rs)) (opened (task-part s .table) (task-part s .marked)) rs (moments-of s rs)
+  pub fed : Fed (limits.budget (length rs)) (opened (head-of s .table) (head-of s .marked)) rs (moments-of s rs)
   unfolding moments-of
-  fed = feeding (task-part s .table) (task-part s .marked) (fair s rs a) (budget (length rs)) d rs fit (omega (arith, none-yet))
+  fed = feeding (head-of s .table) (head-of s .marked) (fair s rs a) (limits.budget (length rs)) d rs fit (omega (arith, none-yet))
 
-  pub completed : AllCompleted (history (opened (task-part s .table) (task-part s .marked)) (fed .calls))
+  pub completed : AllCompleted (history (opened (head-of s .table) (head-of s .marked)) (fed .calls))
   completed =
       subst (λ (cs : List Call). AllCompleted (history d cs)) (append-nil (fed .calls))
       (claim s rs a (fed .calls) .complete-every-job [] (unfold EmptySets in fed .rests))
 
-  none-waits : after-calls (opened (task-part s .table) (task-part s .marked)) (fed .calls) .waiting .tasks ≡ 0
+  none-waits : after-calls (opened (head-of s .table) (head-of s .marked)) (fed .calls) .waiting .tasks ≡ 0
   none-waits =
       subst (λ (cs : List Call). after-calls d cs .waiting .tasks ≡ 0) (append-nil (fed .calls))
       (claim s rs a (fed .calls) .nothing-waits [] (unfold EmptySets in fed .rests))
 
-  none-waits-yet : size (opened (task-part s .table) (task-part s .marked) .waiting .tasks) ≡ 0
+  none-waits-yet : size (opened (head-of s .table) (head-of s .marked) .waiting .tasks) ≡ 0
   unfolding opened
   none-waits-yet = size-none
 
-  pub releases-so : total is-take (history (opened (task-part s .table) (task-part s .marked)) (fed .calls)) + releases-skipped (moments-of s rs) ≡ length rs
+  pub releases-so : total is-take (history (opened (head-of s .table) (head-of s .marked)) (fed .calls)) + releases-skipped (moments-of s rs) ≡ length rs
   releases-so = omega (arith, fed .releases, ap size none-waits, size-none, none-waits-yet)
 
   -- what the record is made of, and what the feed answers
-  same : occurred-by (opened (task-part s .table) (task-part s .marked)) (fed .calls) ≡ occurrences (moments-of s rs)
+  same : occurred-by (opened (head-of s .table) (head-of s .marked)) (fed .calls) ≡ occurrences (moments-of s rs)
   same = sym (as-answered (fed .calls) d) ∙ ap occurrences (fed .gives)
 
-  fed-claim : FedClaim (opened (task-part s .table) (task-part s .marked)) rs (moments-of s rs) (fed .calls)
+  fed-claim : FedClaim (opened (head-of s .table) (head-of s .marked)) rs (moments-of s rs) (fed .calls)
   fed-claim = record {
     all-served = fed .all-served;
     gives-record = fed .gives;
@@ -126,15 +127,15 @@ module _ (s : List ℕ) (rs : List Release) (a : Accepted s rs) where
   }
 
 pub fed-file : (s : List ℕ) (rs : List Release) → releases-of s ≡ Releases rs
-    → Fed (budget (length rs)) (opened (task-part s .table) (task-part s .marked)) rs (moments-of s rs)
+    → Fed (limits.budget (length rs)) (opened (head-of s .table) (head-of s .marked)) rs (moments-of s rs)
 fed-file s rs h = fed s rs (accepted s rs h)
 
 pub demand-3-files : Demand3Files
 unfolding Demand3Files
 demand-3-files s rs h =
     let a : Accepted s rs = accepted s rs h in
-    let d : State = opened (task-part s .table) (task-part s .marked) in
-    let f : Fed (budget (length rs)) d rs (moments-of s rs) = fed s rs a in
+    let d : State = opened (head-of s .table) (head-of s .marked) in
+    let f : Fed (limits.budget (length rs)) d rs (moments-of s rs) = fed s rs a in
     record {
       opens = opens s rs a;
       come-to-an-end = (f .calls, f .feeds);

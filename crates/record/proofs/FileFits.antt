@@ -6,7 +6,7 @@ use Prim.Native.Nat.{ℕ}
 use native.Mathlib.Omega.{arith}
 use borrow.Author.Tests.{eq-eqb}
 use lib.Dec.{eqb}
-use Rattle.table.specs.TaskPart.{task-part}
+use Rattle.table.specs.Head.{head-of}
 use Rattle.rules.specs.Instant.{at-g, occurred}
 use Rattle.rules.specs.Entries.{entries}
 use Rattle.rules.specs.Calls.{refusal, instant, served, after-call}
@@ -42,4 +42,4 @@ answers-fit (Instant t set ∷ cs) d h a l =
 pub file-fits : (s : List ℕ) (rs : List Release) → releases-of s ≡ Releases rs → EntriesFit (record-entries (moments-of s rs))
 file-fits s rs h =
     let f = fed-file s rs h in
-    subst (λ (ms : List Moment). EntriesFit (record-entries ms)) (f .gives) (answers-fit (f .calls) _ (opened-fits (task-part s .table) (task-part s .marked)) (f .all-served) (f .early))
+    subst (λ (ms : List Moment). EntriesFit (record-entries ms)) (f .gives) (answers-fit (f .calls) _ (opened-fits (head-of s .table) (head-of s .marked)) (f .all-served) (f .early))

@@ -10,12 +10,13 @@ use lib.Dec.{eqb, leb}
 use lib.ListN.{length, drop}
 use Rattle.sets.proofs.Laws.{by-test}
 use Rattle.words.specs.Words.{numberAt}
-use Rattle.entries.specs.Entries.{laid, entry-at, release-at}
-use Rattle.table.specs.TaskPart.{behind-tasks, task-refusal, with-task, with-marked, tasks-from, task-part}
-use Rattle.table.proofs.Laws.{part-within}
+use Rattle.entries.specs.Entries.{size, laid, entry-at, release-at}
+use Rattle.entries.specs.Limits as limits
+use Rattle.table.specs.Head.{behind-head, task-refusal, with-task, with-marked, head-from, head-of}
+use Rattle.table.proofs.Laws.{head-within}
 use Rattle.table.specs.declared.Table.{Table}
-use Rattle.record.specs.Types.{TaskParameters, Release, Entry, Malformed, TaskEntry, ReleaseEntry, Last, NoneBefore, Before, TaskPart, Refusal, NoRefusal, Alone, AtEntry, RefusedInput, TooShort, Recorded}
-use Rattle.run.specs.Files.{Checked, Rejected, Releases, refusal-of, with-release, release-refusal, releases-from, releases-behind, releases-of, part-of, file-part}
+use Rattle.record.specs.Types.{TaskParameters, Release, Entry, Malformed, TaskEntry, ReleaseEntry, Last, NoneBefore, Before, Head, Refusal, NoRefusal, Alone, AtEntry, RefusedInput, TooShort, Recorded}
+use Rattle.run.specs.Files.{Checked, Rejected, Releases, refusal-of, with-release, release-refusal, releases-from, releases-behind, releases-of, head-unless, file-head}
 use Rattle.run.specs.Listed.{releases-at}
 use Rattle.run.specs.Run.{moments-of, record-bytes}
 use Rattle.record.specs.Writing.{Wrote, written, written-of, file}
@@ -55,36 +56,36 @@ entry-release s at r e =
     by-test (eqb (numberAt 1 s at) 1)
     (λ a. by-test (leb 16 (length s - at)) (λ b. absurd (let z : _≡_ {A = ℕ} 0 1 = cc (rw (a, b) at e) in omega arith)) (λ b. absurd (let z : _≡_ {A = ℕ} 0 1 = cc (rw (a, b) at e) in omega arith)))
     (λ a. by-test (eqb (numberAt 1 s at) 2)
-    (λ b. by-test (leb 10 (length s - at)) (λ d. (eqb-true (numberAt 1 s at) 2 b, cc (rw (a, b, d) at e))) (λ d. absurd (let z : _≡_ {A = ℕ} 0 1 = cc (rw (a, b, d) at e) in omega arith)))
+    (λ b. by-test (leb (size 2) (length s - at)) (λ d. (eqb-true (numberAt 1 s at) 2 b, cc (rw (a, b, d) at e))) (λ d. absurd (let z : _≡_ {A = ℕ} 0 1 = cc (rw (a, b, d) at e) in omega arith)))
     (λ b. absurd (let z : _≡_ {A = ℕ} 0 1 = cc (rw (a, b) at e) in omega arith)))
 
 pub record Accepted (s : List ℕ) (at count : ℕ) (c : Checked) : Type 0 where
   pub list : c ≡ Releases (releases-at s at)
-  pub small : count + (length s - at) / 10 ≤ 4096
+  pub small : count + (length s - at) / size 2 ≤ limits.releases
 
 module _ (s : List ℕ) (present : ℕ) where
-  pub accepted : (k at : ℕ) (last : Last) (count : ℕ) → count ≤ 4096 → length s - at ≤ k → refusal-of (releases-from k s at present last count) ≡ NoRefusal
+  pub accepted : (k at : ℕ) (last : Last) (count : ℕ) → count ≤ limits.releases → length s - at ≤ k → refusal-of (releases-from k s at present last count) ≡ NoRefusal
       → Accepted s at count (releases-from k s at present last count)
   unfolding releases-from with-release
   accepted zero at last count n l h = record { list = ap Releases (sym (none s at (omega arith))); small = omega arith }
-  accepted (suc k) at last count n l h = go-end (leb (length s) at) refl (λ r c a b g. accepted k (at + 10) (Before r) c a b g)
+  accepted (suc k) at last count n l h = go-end (leb (length s) at) refl (λ r c a b g. accepted k (at + size 2) (Before r) c a b g)
     where
       whole : Checked
       whole = releases-from (suc k) s at present last count
 
       More : Type 0
-      More = (r : Release) (c : ℕ) → c ≤ 4096 → length s - (at + 10) ≤ k → refusal-of (releases-from k s (at + 10) present (Before r) c) ≡ NoRefusal → Accepted s (at + 10) c (releases-from k s (at + 10) present (Before r) c)
+      More = (r : Release) (c : ℕ) → c ≤ limits.releases → length s - (at + size 2) ≤ k → refusal-of (releases-from k s (at + size 2) present (Before r) c) ≡ NoRefusal → Accepted s (at + size 2) c (releases-from k s (at + size 2) present (Before r) c)
 
       go-refusal : (r : Release) (x : ℕ) → at < length s → entry-at s at ≡ ReleaseEntry r → release-refusal present last count r ≡ x → More → Accepted s at count whole
       go-refusal r zero m e f rec =
-          let t : whole ≡ with-release r (releases-from k s (at + 10) present (Before r) (count + 1)) = takes s at present last count k m r e f in
-          let g : refusal-of (releases-from k s (at + 10) present (Before r) (count + 1)) ≡ NoRefusal =
-          sym (passed-on r (releases-from k s (at + 10) present (Before r) (count + 1))) ∙ ap refusal-of (sym t) ∙ h in
-          let w : 10 ≤ length s - at = release-whole s at r e in
-          let i : Accepted s (at + 10) (count + 1) (releases-from k s (at + 10) present (Before r) (count + 1)) =
+          let t : whole ≡ with-release r (releases-from k s (at + size 2) present (Before r) (count + 1)) = takes s at present last count k m r e f in
+          let g : refusal-of (releases-from k s (at + size 2) present (Before r) (count + 1)) ≡ NoRefusal =
+          sym (passed-on r (releases-from k s (at + size 2) present (Before r) (count + 1))) ∙ ap refusal-of (sym t) ∙ h in
+          let w : size 2 ≤ length s - at = release-whole s at r e in
+          let i : Accepted s (at + size 2) (count + 1) (releases-from k s (at + size 2) present (Before r) (count + 1)) =
           rec r (count + 1) (omega (arith, few present last count r f)) (omega arith) g in
           record {
-            list = t ∙ ap (with-release r) (i .list) ∙ ap Releases (ap (λ (y : Release). y ∷ releases-at s (at + 10)) (entry-release s at r e .1) ∙ sym (here s at w));
+            list = t ∙ ap (with-release r) (i .list) ∙ ap Releases (ap (λ (y : Release). y ∷ releases-at s (at + size 2)) (entry-release s at r e .1) ∙ sym (here s at w));
             small = omega (arith, i .small, w);
           }
       go-refusal r (suc x) m e f rec = absurd (let z : _≡_ {A = ℕ} 0 1 = cc (rw (lt-leb (length s) at m, releases-from, e, f) at h) in omega arith)
@@ -103,19 +104,19 @@ module _ (s : List ℕ) (present : ℕ) where
 -- ---- an input whose task entries were read
 
 -- no instant of its run is refused, and none is late
-all-served : (s : List ℕ) → releases-of s ≡ Releases (releases-at s (task-part s .end)) → Served s (start (task-part s))
-unfolding task-part
+all-served : (s : List ℕ) → releases-of s ≡ Releases (releases-at s (head-of s .end)) → Served s (start (head-of s))
+unfolding head-of
 all-served s h =
-    let f = fed-file s (releases-at s (task-part s .end)) h in
+    let f = fed-file s (releases-at s (head-of s .end)) h in
     record {
-      within = part-within s;
+      within = head-within s;
       calls = f .calls;
       feeds = f .feeds;
       all-served = f .all-served;
       early = f .early;
     }
 
-module _ (s : List ℕ) (k : TaskPart) (read : ReadWhole s k) where
+module _ (s : List ℕ) (k : Head) (read : ReadWhole s k) where
   pub checked-from : releases-of s ≡ releases-from (length s) s (k .end) (k .table .present) NoneBefore 0
   unfolding releases-of
   checked-from =
@@ -137,7 +138,7 @@ module _ (s : List ℕ) (k : TaskPart) (read : ReadWhole s k) where
     runs = record {
       few = omega (arith, all .small);
       short = omega (arith, ap length same-run, how-many s (k .end), record-bound s (releases-at s (k .end)) listed-all);
-      served = subst (λ (x : TaskPart). Served s (start x)) (sym (read .tasks)) (all-served s (subst (λ (x : TaskPart). releases-of s ≡ Releases (releases-at s (x .end))) (read .tasks) listed-all));
+      served = subst (λ (x : Head). Served s (start x)) (sym (read .tasks)) (all-served s (subst (λ (x : Head). releases-of s ≡ Releases (releases-at s (x .end))) (read .tasks) listed-all));
     }
 
     pub whole-file : (lent : List ℕ) → file s lent ≡ written (run-bytes s (start k) (budget-at s (start k))) lent
@@ -157,13 +158,13 @@ module _ (s : List ℕ) (k : TaskPart) (read : ReadWhole s k) where
 
 -- an input that is refused by its task entries, or since it is empty
 module _ (s lent : List ℕ) where
-  pub refused-early : (r : Refusal) → (length s ≡ 0 → ⊥) → task-part s .refusal ≡ r → (r ≡ NoRefusal → ⊥) → Wrote (file s lent) (RefusedInput r) lent
+  pub refused-early : (r : Refusal) → (length s ≡ 0 → ⊥) → head-of s .refusal ≡ r → (r ≡ NoRefusal → ⊥) → Wrote (file s lent) (RefusedInput r) lent
   unfolding file releases-of
   refused-early r some e h =
       rw (ne-eqb (length s) 0 some)
-      (subst (λ (x : Refusal). Wrote (written-of s lent (releases-behind s (task-part s) x)) (RefusedInput r) lent) (sym e) (go r h))
+      (subst (λ (x : Refusal). Wrote (written-of s lent (releases-behind s (head-of s) x)) (RefusedInput r) lent) (sym e) (go r h))
     where
-      go : (r : Refusal) → (r ≡ NoRefusal → ⊥) → Wrote (written-of s lent (releases-behind s (task-part s) r)) (RefusedInput r) lent
+      go : (r : Refusal) → (r ≡ NoRefusal → ⊥) → Wrote (written-of s lent (releases-behind s (head-of s) r)) (RefusedInput r) lent
       go NoRefusal h = absurd (h refl)
       go (Alone n) h = record { outcome-is = refl; holds = refl }
       go (AtEntry n at) h = record { outcome-is = refl; holds = refl }
@@ -174,69 +175,69 @@ module _ (s lent : List ℕ) where
 
 -- ---- an input by what checking it found
 
--- none is refused: the task part was read whole, and so were the releases behind it
-pub record AllRead (s : List ℕ) (k : TaskPart) : Type 0 where
-  pub part : ReadWhole s k
+-- none is refused: the head was read whole, and so were the releases behind it
+pub record AllRead (s : List ℕ) (k : Head) : Type 0 where
+  pub whole : ReadWhole s k
   pub releases : refusal-of (releases-from (length s) s (k .end) (k .table .present) NoneBefore 0) ≡ NoRefusal
 
-module _ (s : List ℕ) (k : TaskPart) (is : k ≡ file-part s) where
-  -- by whether the input is empty, what the task part says, and what the releases say
-  part-cases : (P : TaskPart → Type 0) → (length s ≡ 0 → P (part-of k (Alone 12)))
-      → ((r : Refusal) → (length s ≡ 0 → ⊥) → task-part s .refusal ≡ r → (r ≡ NoRefusal → ⊥) → P (part-of k r))
-      → ((length s ≡ 0 → ⊥) → task-part s .refusal ≡ NoRefusal → P (part-of (task-part s) (refusal-of (releases-from (length s) s (task-part s .end) (task-part s .table .present) NoneBefore 0))))
-      → P (file-part s)
-  unfolding file-part releases-of
-  part-cases P none early late =
+module _ (s : List ℕ) (k : Head) (is : k ≡ file-head s) where
+  -- by whether the input is empty, what the head says, and what the releases say
+  head-cases : (P : Head → Type 0) → (length s ≡ 0 → P (head-unless k (Alone 12)))
+      → ((r : Refusal) → (length s ≡ 0 → ⊥) → head-of s .refusal ≡ r → (r ≡ NoRefusal → ⊥) → P (head-unless k r))
+      → ((length s ≡ 0 → ⊥) → head-of s .refusal ≡ NoRefusal → P (head-unless (head-of s) (refusal-of (releases-from (length s) s (head-of s .end) (head-of s .table .present) NoneBefore 0))))
+      → P (file-head s)
+  unfolding file-head releases-of
+  head-cases P none early late =
       by-test (eqb (length s) 0)
       (λ e. rw e (none (eqb-true (length s) 0 e)))
-      (λ e. rw e (go (eqb-false (length s) 0 e) (task-part s .refusal) refl))
+      (λ e. rw e (go (eqb-false (length s) 0 e) (head-of s .refusal) refl))
     where
-      go : (length s ≡ 0 → ⊥) → (r : Refusal) → task-part s .refusal ≡ r → P (part-of (task-part s) (refusal-of (releases-behind s (task-part s) r)))
+      go : (length s ≡ 0 → ⊥) → (r : Refusal) → head-of s .refusal ≡ r → P (head-unless (head-of s) (refusal-of (releases-behind s (head-of s) r)))
       go some NoRefusal e = late some e
       go some (Alone n) e = early (Alone n) some e (λ f. alone {r = Alone n} refl f)
       go some (AtEntry n at) e = early (AtEntry n at) some e (λ f. at-entry {r = AtEntry n at} refl f)
 
   pub accepted-whole : k .refusal ≡ NoRefusal → AllRead s k
   accepted-whole h =
-      part-cases (λ (x : TaskPart). k ≡ x → AllRead s k)
-      (λ e f. absurd (alone {r = Alone 12} refl (sym (ap (λ (x : TaskPart). x .refusal) f) ∙ h)))
-      (λ r some e n f. absurd (n (early r n (sym (ap (λ (x : TaskPart). x .refusal) f) ∙ h))))
-      (λ some e f. late some e (refusal-of (releases-from (length s) s (task-part s .end) (task-part s .table .present) NoneBefore 0)) refl f)
+      head-cases (λ (x : Head). k ≡ x → AllRead s k)
+      (λ e f. absurd (alone {r = Alone 12} refl (sym (ap (λ (x : Head). x .refusal) f) ∙ h)))
+      (λ r some e n f. absurd (n (early r n (sym (ap (λ (x : Head). x .refusal) f) ∙ h))))
+      (λ some e f. late some e (refusal-of (releases-from (length s) s (head-of s .end) (head-of s .table .present) NoneBefore 0)) refl f)
       is
     where
-      early : (r : Refusal) → (r ≡ NoRefusal → ⊥) → part-of k r .refusal ≡ NoRefusal → r ≡ NoRefusal
+      early : (r : Refusal) → (r ≡ NoRefusal → ⊥) → head-unless k r .refusal ≡ NoRefusal → r ≡ NoRefusal
       early NoRefusal n f = refl
       early (Alone m) n f = f
       early (AtEntry m at) n f = f
 
-      late : (length s ≡ 0 → ⊥) → task-part s .refusal ≡ NoRefusal
-          → (r : Refusal) → refusal-of (releases-from (length s) s (task-part s .end) (task-part s .table .present) NoneBefore 0) ≡ r → k ≡ part-of (task-part s) r → AllRead s k
+      late : (length s ≡ 0 → ⊥) → head-of s .refusal ≡ NoRefusal
+          → (r : Refusal) → refusal-of (releases-from (length s) s (head-of s .end) (head-of s .table .present) NoneBefore 0) ≡ r → k ≡ head-unless (head-of s) r → AllRead s k
       late some e NoRefusal g f = record {
-        part = record { some = some; tasks = f; none-refused = h };
-        releases = subst (λ (x : TaskPart). refusal-of (releases-from (length s) s (x .end) (x .table .present) NoneBefore 0) ≡ NoRefusal) (sym f) g;
+        whole = record { some = some; tasks = f; none-refused = h };
+        releases = subst (λ (x : Head). refusal-of (releases-from (length s) s (x .end) (x .table .present) NoneBefore 0) ≡ NoRefusal) (sym f) g;
       }
-      late some e (Alone m) g f = absurd (alone {r = Alone m} refl (sym (ap (λ (x : TaskPart). x .refusal) f) ∙ h))
-      late some e (AtEntry m at) g f = absurd (at-entry {r = AtEntry m at} refl (sym (ap (λ (x : TaskPart). x .refusal) f) ∙ h))
+      late some e (Alone m) g f = absurd (alone {r = Alone m} refl (sym (ap (λ (x : Head). x .refusal) f) ∙ h))
+      late some e (AtEntry m at) g f = absurd (at-entry {r = AtEntry m at} refl (sym (ap (λ (x : Head). x .refusal) f) ∙ h))
 
   pub refused-whole : (lent : List ℕ) (r : Refusal) → k .refusal ≡ r → (r ≡ NoRefusal → ⊥) → Wrote (file s lent) (RefusedInput r) lent
   refused-whole lent r h n =
-      part-cases (λ (x : TaskPart). k ≡ x → Wrote (file s lent) (RefusedInput r) lent)
-      (λ e f. subst (λ (x : Refusal). Wrote (file s lent) (RefusedInput x) lent) (sym (ap (λ (x : TaskPart). x .refusal) f) ∙ h) (refused-empty s lent e))
-      (λ q some e m f. subst (λ (x : Refusal). Wrote (file s lent) (RefusedInput x) lent) (sym (shown q m) ∙ sym (ap (λ (x : TaskPart). x .refusal) f) ∙ h) (refused-early s lent q some e m))
-      (λ some e f. late some e (refusal-of (releases-from (length s) s (task-part s .end) (task-part s .table .present) NoneBefore 0)) refl f)
+      head-cases (λ (x : Head). k ≡ x → Wrote (file s lent) (RefusedInput r) lent)
+      (λ e f. subst (λ (x : Refusal). Wrote (file s lent) (RefusedInput x) lent) (sym (ap (λ (x : Head). x .refusal) f) ∙ h) (refused-empty s lent e))
+      (λ q some e m f. subst (λ (x : Refusal). Wrote (file s lent) (RefusedInput x) lent) (sym (shown q m) ∙ sym (ap (λ (x : Head). x .refusal) f) ∙ h) (refused-early s lent q some e m))
+      (λ some e f. late some e (refusal-of (releases-from (length s) s (head-of s .end) (head-of s .table .present) NoneBefore 0)) refl f)
       is
     where
-      shown : (q : Refusal) → (q ≡ NoRefusal → ⊥) → part-of k q .refusal ≡ q
+      shown : (q : Refusal) → (q ≡ NoRefusal → ⊥) → head-unless k q .refusal ≡ q
       shown NoRefusal m = absurd (m refl)
       shown (Alone x) m = refl
       shown (AtEntry x at) m = refl
 
-      behind : (length s ≡ 0 → ⊥) → task-part s .refusal ≡ NoRefusal → (q : Refusal) → (q ≡ NoRefusal → ⊥)
-          → refusal-of (releases-from (length s) s (task-part s .end) (task-part s .table .present) NoneBefore 0) ≡ q → q ≡ r → Wrote (file s lent) (RefusedInput r) lent
-      behind some e q m g f = subst (λ (x : Refusal). Wrote (file s lent) (RefusedInput x) lent) f (refused-late s (task-part s) (record { some = some; tasks = refl; none-refused = e }) lent q m (sym g))
+      behind : (length s ≡ 0 → ⊥) → head-of s .refusal ≡ NoRefusal → (q : Refusal) → (q ≡ NoRefusal → ⊥)
+          → refusal-of (releases-from (length s) s (head-of s .end) (head-of s .table .present) NoneBefore 0) ≡ q → q ≡ r → Wrote (file s lent) (RefusedInput r) lent
+      behind some e q m g f = subst (λ (x : Refusal). Wrote (file s lent) (RefusedInput x) lent) f (refused-late s (head-of s) (record { some = some; tasks = refl; none-refused = e }) lent q m (sym g))
 
-      late : (length s ≡ 0 → ⊥) → task-part s .refusal ≡ NoRefusal
-          → (q : Refusal) → refusal-of (releases-from (length s) s (task-part s .end) (task-part s .table .present) NoneBefore 0) ≡ q → k ≡ part-of (task-part s) q → Wrote (file s lent) (RefusedInput r) lent
-      late some e NoRefusal g f = absurd (n (sym h ∙ ap (λ (x : TaskPart). x .refusal) f ∙ e))
-      late some e (Alone m) g f = behind some e (Alone m) (λ z. alone {r = Alone m} refl z) g (sym (ap (λ (x : TaskPart). x .refusal) f) ∙ h)
-      late some e (AtEntry m at) g f = behind some e (AtEntry m at) (λ z. at-entry {r = AtEntry m at} refl z) g (sym (ap (λ (x : TaskPart). x .refusal) f) ∙ h)
+      late : (length s ≡ 0 → ⊥) → head-of s .refusal ≡ NoRefusal
+          → (q : Refusal) → refusal-of (releases-from (length s) s (head-of s .end) (head-of s .table .present) NoneBefore 0) ≡ q → k ≡ head-unless (head-of s) q → Wrote (file s lent) (RefusedInput r) lent
+      late some e NoRefusal g f = absurd (n (sym h ∙ ap (λ (x : Head). x .refusal) f ∙ e))
+      late some e (Alone m) g f = behind some e (Alone m) (λ z. alone {r = Alone m} refl z) g (sym (ap (λ (x : Head). x .refusal) f) ∙ h)
+      late some e (AtEntry m at) g f = behind some e (AtEntry m at) (λ z. at-entry {r = AtEntry m at} refl z) g (sym (ap (λ (x : Head). x .refusal) f) ∙ h)

@@ -11,6 +11,7 @@ use lib.Dec.{eqb, ltb}
 use lib.ListN.{length}
 use Rattle.sets.specs.Sets.{member, insert, bit, size}
 use Rattle.sets.proofs.Laws.{by-test, clash, left, right, one-of, count-sum, count-one, none, inserted, insert-out, member-task}
+use Rattle.entries.specs.Limits as limits
 use Rattle.record.specs.Types.{Release, Before}
 use Rattle.run.specs.Files.{rises}
 use Rattle.run.specs.Run.{released-from, released-at, released-after}
@@ -136,7 +137,7 @@ module _ (present : ℕ) (tasks : present < 2 ^ 32) (t : ℕ) where
   split rs h n = split-from 0 rs h n (none-under t rs)
 
   -- a set that is not empty comes early
-  pub early : (rs : List Release) → Sorted present rs → eqb (released-at t rs) 0 ≡ false → t ≤ 1000000000
+  pub early : (rs : List Release) → Sorted present rs → eqb (released-at t rs) 0 ≡ false → t ≤ limits.last-release
   unfolding Sorted
   early [] h e = unfold released-from in absurd (true≢false e)
   early (r ∷ rs) h e =

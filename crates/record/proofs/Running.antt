@@ -9,6 +9,7 @@ use native.Mathlib.Omega.{arith}
 use lib.ListN.{length, take, drop, length-append}
 use Rattle.sets.proofs.Laws.{by-test, clash}
 use Rattle.entries.specs.Entries.{laid, each}
+use Rattle.entries.specs.Limits as limits
 use Rattle.rules.specs.Instant.{due, sooner, at-g, occurred}
 use Rattle.rules.specs.Calls.{opened, refusal, instant, served, after-call}
 use Rattle.rules.specs.Steps.{Stands}
@@ -16,10 +17,10 @@ use Rattle.rules.specs.declared.Call.{Call}
 use Rattle.rules.specs.declared.Call.the-variants.{Instant}
 use Rattle.dispatcher.specs.declared.Dispatcher.{Dispatcher}
 use Rattle.dispatcher.specs.Dispatcher.{state-of}
-use Rattle.record.specs.Types.{Release, TaskPart, State, Never, Tick, Piece}
+use Rattle.record.specs.Types.{Release, Head, State, Never, Tick, Piece}
 use Rattle.run.specs.Listed.{releases-at}
 use Rattle.run.specs.Run.{Moment, next-time, record-entries, record-bytes, run, first-time, released-at, released-after}
-use Rattle.run.specs.Pieces.{Leads, most, Makes}
+use Rattle.run.specs.Pieces.{Leads, Makes}
 use Rattle.run.proofs.Listing.{in-part, behind-part}
 use Rattle.run.proofs.Slices.{laid-none, laid-both}
 use Rattle.run.proofs.Reaching.{along, bytes-both, grows, same-slice, reads-on}
@@ -69,12 +70,12 @@ module _ (d : State) (rs : List Release) (v : Fed d rs) (t : ℕ) (next : next-t
   goes : (refusal d t (released-at t rs) ≡ 0) × Fed (at-g d t (released-at t rs)) (released-after t rs)
   goes = go (v .calls) (v .feeds) (v .all-served) (v .early)
 
-  go-early : (cs : List Call) → Feeds d rs cs → AllEarly cs → t ≤ 3000000000
+  go-early : (cs : List Call) → Feeds d rs cs → AllEarly cs → t ≤ limits.last-instant
   unfolding Feeds AllEarly
   go-early [] f l = absurd (not-over d rs t (f .0) (f .1) next)
   go-early (x ∷ cs) f l = omega (arith, subst (λ (w : Call). AllEarly (w ∷ cs)) (f .2) l .0, same (f .0) t (sym (f .1) ∙ next))
 
-  comes-early : t ≤ 3000000000
+  comes-early : t ≤ limits.last-instant
   comes-early = go-early (v .calls) (v .feeds) (v .early)
 
 -- ---- what is left behind moments that were made
@@ -149,7 +150,7 @@ pub record Progress (s whole before : List ℕ) (start : ℕ) (keep : Bool) (c :
   pub kept : keep ≡ true → out ≡ laid start done before
   pub unchanged : keep ≡ false → out ≡ before
   pub same : length out ≡ length before
-  pub few : size + most * left ≤ most * 131104
+  pub few : size + limits.instant-most * left ≤ limits.instant-most * limits.budget-most
   pub served : Served s c
 
 pub begins : (s out : List ℕ) (keep : Bool) (x : Piece) → RestRoom s x out keep → Progress s (rest-bytes s x) out (x .size) keep (cursor-of x) (x .size) (x .left) out
@@ -216,10 +217,10 @@ module _ {s whole before : List ℕ} {start : ℕ} {keep : Bool} (d : Dispatcher
 
 -- ---- a whole run: in the slice itself as far as there is room, then through a scratch
 
-pub is-start : (k : TaskPart) (d : Dispatcher) → state-of d ≡ opened (k .table) (k .marked) → start k ≡ record { state = state-of d; at = k .end }
+pub is-start : (k : Head) (d : Dispatcher) → state-of d ≡ opened (k .table) (k .marked) → start k ≡ record { state = state-of d; at = k .end }
 is-start k d e = ap (λ (z : State). record { state = z; at = k .end }) (sym e)
 
-module _ {s : List ℕ} {budget : ℕ} {out : List ℕ} {keep : Bool} (k : TaskPart) (d : Dispatcher) (e : state-of d ≡ opened (k .table) (k .marked)) (r : Room s (start k) budget out keep) where
+module _ {s : List ℕ} {budget : ℕ} {out : List ℕ} {keep : Bool} (k : Head) (d : Dispatcher) (e : state-of d ≡ opened (k .table) (k .marked)) (r : Room s (start k) budget out keep) where
   abbrev here : Cursor
   here = record { state = state-of d; at = k .end }
 

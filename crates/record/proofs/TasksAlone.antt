@@ -1,24 +1,23 @@
 -- A file's dispatcher opens from the task entries alone: the bytes in front of an accepted file's releases open it. So what holds of every dispatcher
 -- that opening returns holds of it.
 use mathlib.Core.Path.{_≡_, refl, sym, ap, _∙_, subst}
-use mathlib.Core.Bool.{false, cond}
+use mathlib.Core.Bool.{false}
 use mathlib.Core.Logic.{_⊎_, inl, inr, ⊎-elim}
 use mathlib.Core.List.{List}
 use Prim.Native.Nat.{ℕ, zero, suc, _+_, _-_, _≤_, _<_}
 use native.Mathlib.Omega.{arith}
-use borrow.Author.Tests.{eq-eqb, ne-eqb}
-use lib.Dec.{eqb}
 use lib.ListN.{length, take}
 use lib.Seq.{length-take-le}
 use Rattle.sets.specs.Sets.{member}
 use Rattle.sets.proofs.Laws.{by-test, none}
-use Rattle.entries.specs.Entries.{entry-at}
+use Rattle.entries.specs.Entries.{size, entry-at}
 use Rattle.entries.proofs.Front.{entry-in-front}
-use Rattle.table.specs.TaskPart.{no-table, behind-tasks, task-refusal, with-task, with-marked, refused-at, read-to, tasks-from, task-part}
+use Rattle.table.specs.Head.{no-table, behind-head, task-refusal, with-task, with-marked, refused-at, read-to, head-from, head-of}
 use Rattle.table.proofs.Laws.{behind-end, task-whole, at-end, malformed, released, refuses, takes}
 use Rattle.table.proofs.Front.{behind-in-front}
-use Rattle.rules.specs.Calls.{opened, not-opened, opened-behind, opening}
-use Rattle.guarantees.specs.Types.{Table, NoRefusal, Alone, AtEntry, Opening, TaskPart, Call}
+use Rattle.table.proofs.Alone.{Whole, whole-head}
+use Rattle.rules.specs.Calls.{opened, opening}
+use Rattle.guarantees.specs.Types.{Table, Refusal, NoRefusal, AtEntry, Opening, Head, Call}
 use Rattle.guarantees.specs.Claim.{Claim, Demand3}
 use Rattle.guarantees.proofs.Proper
 use Rattle.guarantees.proofs.Proper.{Fair}
@@ -28,17 +27,17 @@ use Rattle.run.specs.Files.{Releases, refusal-of, release-refusal, releases-fro
 use Rattle.run.proofs.Checking
 use Rattle.record.proofs.Accepted.{Accepted}
 
-pub unlike : (r : TaskPart) (n at : ℕ) → refused-at n at ≡ r → r .refusal ≡ NoRefusal → ⊥
-unlike r n at e h = let x : AtEntry n at ≡ NoRefusal = ap (λ (k : TaskPart). k .refusal) e ∙ h in let z : _≡_ {A = ℕ} 0 1 = cc in omega arith
+pub unlike : (r : Head) (n at : ℕ) → refused-at n at ≡ r → r .refusal ≡ NoRefusal → ⊥
+unlike r n at e h = let x : AtEntry n at ≡ NoRefusal = ap (λ (k : Head). k .refusal) e ∙ h in let z : _≡_ {A = ℕ} 0 1 = cc in omega arith
 
 -- ---- the entries one after another
 
 -- what is read from a place on, to an end, is read from the bytes up to that end
-pub record Prefix (s : List ℕ) (at : ℕ) (t : Table) (m : ℕ) (r : TaskPart) : Type 0 where
+pub record Prefix (s : List ℕ) (at : ℕ) (t : Table) (m : ℕ) (r : Head) : Type 0 where
   pub onward : at ≤ r .end
   pub inside : r .end ≤ length s
   pub some-entry : (read-to t m at ≡ r) ⊎ (at < r .end)
-  pub same : (k : ℕ) → r .end - at ≤ k → tasks-from k (take (r .end) s) at t m ≡ r
+  pub same : (k : ℕ) → r .end - at ≤ k → head-from k (take (r .end) s) at t m ≡ r
 
 prefix-none : (s : List ℕ) (at : ℕ) (t : Table) (m : ℕ) → at ≤ length s → Prefix s at t m (read-to t m at)
 prefix-none s at t m l = record {
@@ -48,8 +47,8 @@ prefix-none s at t m l = record {
   same = λ k h. at-end (take at s) at t m k (behind-end (take at s) at (omega (arith, length-take-le at s l)));
 }
 
-prefix-more : (s : List ℕ) (at : ℕ) (t : Table) (m : ℕ) (p : TaskParameters) (r : TaskPart) → behind-tasks s at ≡ false → entry-at s at ≡ TaskEntry p
-    → task-refusal t p ≡ 0 → Prefix s (at + 16) (with-task t p) (with-marked m p) r → Prefix s at t m r
+prefix-more : (s : List ℕ) (at : ℕ) (t : Table) (m : ℕ) (p : TaskParameters) (r : Head) → behind-head s at ≡ false → entry-at s at ≡ TaskEntry p
+    → task-refusal t p ≡ 0 → Prefix s (at + size 1) (with-task t p) (with-marked m p) r → Prefix s at t m r
 prefix-more s at t m p r b e x h = record {
   onward = omega (arith, h .onward);
   inside = h .inside;
@@ -57,27 +56,27 @@ prefix-more s at t m p r b e x h = record {
   same = λ k l. go k l;
 }
   where
-    go : (k : ℕ) → r .end - at ≤ k → tasks-from k (take (r .end) s) at t m ≡ r
+    go : (k : ℕ) → r .end - at ≤ k → head-from k (take (r .end) s) at t m ≡ r
     go zero l = absurd (omega (arith, h .onward))
     go (suc k) l =
         takes (take (r .end) s) at t m k (behind-in-front s (r .end) (h .inside) at (omega (arith, h .onward)) ∙ b) p
         (entry-in-front s (r .end) (h .inside) at (h .onward) ∙ e) x
         ∙ h .same k (omega arith)
 
-prefix : (k : ℕ) (s : List ℕ) (at : ℕ) (t : Table) (m : ℕ) (r : TaskPart) → at ≤ length s → tasks-from k s at t m ≡ r → r .refusal ≡ NoRefusal → Prefix s at t m r
-prefix zero s at t m r l e h = unfold tasks-from in subst (Prefix s at t m) e (prefix-none s at t m l)
+prefix : (k : ℕ) (s : List ℕ) (at : ℕ) (t : Table) (m : ℕ) (r : Head) → at ≤ length s → head-from k s at t m ≡ r → r .refusal ≡ NoRefusal → Prefix s at t m r
+prefix zero s at t m r l e h = unfold head-from in subst (Prefix s at t m) e (prefix-none s at t m l)
 prefix (suc k) s at t m r l e h =
-    by-test (behind-tasks s at)
+    by-test (behind-head s at)
     (λ b. subst (Prefix s at t m) (sym (at-end s at t m (suc k) b) ∙ e) (prefix-none s at t m l))
-    (λ b. go b (entry-at s at) refl (λ p x y. prefix k s (at + 16) (with-task t p) (with-marked m p) r (omega (arith, task-whole s at p x)) (sym (takes s at t m k b p x y) ∙ e) h))
+    (λ b. go b (entry-at s at) refl (λ p x y. prefix k s (at + size 1) (with-task t p) (with-marked m p) r (omega (arith, task-whole s at p x)) (sym (takes s at t m k b p x y) ∙ e) h))
   where
-    go-task : behind-tasks s at ≡ false → (p : TaskParameters) (n : ℕ) → entry-at s at ≡ TaskEntry p → task-refusal t p ≡ n
-        → ((p : TaskParameters) → entry-at s at ≡ TaskEntry p → task-refusal t p ≡ 0 → Prefix s (at + 16) (with-task t p) (with-marked m p) r) → Prefix s at t m r
+    go-task : behind-head s at ≡ false → (p : TaskParameters) (n : ℕ) → entry-at s at ≡ TaskEntry p → task-refusal t p ≡ n
+        → ((p : TaskParameters) → entry-at s at ≡ TaskEntry p → task-refusal t p ≡ 0 → Prefix s (at + size 1) (with-task t p) (with-marked m p) r) → Prefix s at t m r
     go-task b p zero x y f = prefix-more s at t m p r b x y (f p x y)
     go-task b p (suc n) x y f = absurd (unlike r (suc n) at (sym (refuses s at t m k b p (suc n) x y (omega arith)) ∙ e) h)
 
-    go : behind-tasks s at ≡ false → (i : Entry) → entry-at s at ≡ i
-        → ((p : TaskParameters) → entry-at s at ≡ TaskEntry p → task-refusal t p ≡ 0 → Prefix s (at + 16) (with-task t p) (with-marked m p) r) → Prefix s at t m r
+    go : behind-head s at ≡ false → (i : Entry) → entry-at s at ≡ i
+        → ((p : TaskParameters) → entry-at s at ≡ TaskEntry p → task-refusal t p ≡ 0 → Prefix s (at + size 1) (with-task t p) (with-marked m p) r) → Prefix s at t m r
     go b (Malformed n) x f = absurd (unlike r n at (sym (malformed s at t m k b n x) ∙ e) h)
     go b (ReleaseEntry q) x f = subst (Prefix s at t m) (sym (released s at t m k b q x) ∙ e) (prefix-none s at t m l)
     go b (TaskEntry p) x f = go-task b p (task-refusal t p) x refl f
@@ -100,47 +99,47 @@ no-release k s at last count rs l e = go (entry-at s at) refl
     go (ReleaseEntry r) x = not-read 8 (Checking.refuses s at 0 last count k l r 8 x (unknown-first 0 last count r (none (r .task))) (omega arith))
 
 module _ (s : List ℕ) (rs : List Release) (a : Accepted s rs) where
-  all : Prefix s 0 no-table 0 (task-part s)
-  all = unfold task-part in prefix (length s) s 0 no-table 0 (task-part s) (omega arith) refl (a .tasks)
+  all : Prefix s 0 no-table 0 (head-of s)
+  all = unfold head-of in prefix (length s) s 0 no-table 0 (head-of s) (omega arith) refl (a .tasks)
 
-  some-task : task-part s .end ≡ 0 → ⊥
+  some-task : head-of s .end ≡ 0 → ⊥
   some-task e =
       ⊎-elim
-      (λ x. go (length s) refl (subst (λ (k : TaskPart). releases-from (length s) s (k .end) (k .table .present) NoneBefore 0 ≡ Releases rs) (sym x) (a .read)))
+      (λ x. go (length s) refl (subst (λ (k : Head). releases-from (length s) s (k .end) (k .table .present) NoneBefore 0 ≡ Releases rs) (sym x) (a .read)))
       (λ x. omega arith) (all .some-entry)
     where
       go : (n : ℕ) → length s ≡ n → releases-from n s 0 0 NoneBefore 0 ≡ Releases rs → ⊥
       go zero l h = a .some-byte l
       go (suc n) l h = no-release n s 0 NoneBefore 0 rs (omega arith) h
 
-  opens-behind : (k : TaskPart) (n : ℕ) → (n ≡ 0 → ⊥) → k .refusal ≡ NoRefusal → k .end ≡ n
-      → cond (eqb n 0) (not-opened (Alone 12)) (opened-behind k n (k .refusal)) ≡ record { state = opened (k .table) (k .marked); refusal = NoRefusal }
-  opens-behind k n h e x = rw (ne-eqb n 0 h, e, eq-eqb (k .end) n x)
+  before-length : length (take (head-of s .end) s) ≡ head-of s .end
+  before-length = length-take-le (head-of s .end) s (all .inside)
 
-  before-length : length (take (task-part s .end) s) ≡ task-part s .end
-  before-length = length-take-le (task-part s .end) s (all .inside)
+  before-same : head-of (take (head-of s .end) s) ≡ head-of s
+  unfolding head-of
+  before-same = all .same (length (take (head-of s .end) s)) (omega (arith, before-length))
 
-  before-same : task-part (take (task-part s .end) s) ≡ task-part s
-  unfolding task-part
-  before-same = all .same (length (take (task-part s .end) s)) (omega (arith, before-length))
-
-  pub opens : opening (take (task-part s .end) s) ≡ record { state = opened (task-part s .table) (task-part s .marked); refusal = NoRefusal }
+  pub opens : opening (take (head-of s .end) s) ≡ record { state = opened (head-of s .table) (head-of s .marked); refusal = NoRefusal }
   unfolding opening
   opens =
-      let b : List ℕ = take (task-part s .end) s in
-      opens-behind (task-part b) (length b) (λ e. some-task (sym before-length ∙ e)) (ap (λ (k : TaskPart). k .refusal) before-same ∙ a .tasks)
-      (ap (λ (k : TaskPart). k .end) before-same ∙ sym before-length)
-      ∙ ap (λ (k : TaskPart). record { state = opened (k .table) (k .marked); refusal = NoRefusal }) before-same
+      let b : List ℕ = take (head-of s .end) s in
+      let whole : Whole b = record {
+        some = λ e. some-task (sym before-length ∙ e);
+        none-refused = ap (λ (k : Head). k .refusal) before-same ∙ a .tasks;
+        whole = ap (λ (k : Head). k .end) before-same ∙ sym before-length;
+      } in
+      ap (λ (k : Head). record { state = opened (k .table) (k .marked); refusal = k .refusal }) (whole-head b whole ∙ before-same)
+      ∙ ap (λ (r : Refusal). record { state = opened (head-of s .table) (head-of s .marked); refusal = r }) (a .tasks)
 
   -- so its table is one that opening serves
-  pub fair : Fair (task-part s .table) (task-part s .marked)
+  pub fair : Fair (head-of s .table) (head-of s .marked)
   unfolding opened
   fair =
       subst (λ (o : Opening). Fair (o .state .table) (o .state .marked)) opens
-      (Proper.opens (take (task-part s .end) s) (ap (λ (o : Opening). o .refusal) opens) .proper .fair)
+      (Proper.opens (take (head-of s .end) s) (ap (λ (o : Opening). o .refusal) opens) .proper .fair)
 
   -- and the claim for lists holds of its dispatcher
-  pub claim : (calls : List Call) → Claim (opened (task-part s .table) (task-part s .marked)) calls
+  pub claim : (calls : List Call) → Claim (opened (head-of s .table) (head-of s .marked)) calls
   unfolding Demand3
   claim calls =
-      subst (λ (o : Opening). Claim (o .state) calls) opens (demand-3 (take (task-part s .end) s) (ap (λ (o : Opening). o .refusal) opens) calls)
+      subst (λ (o : Opening). Claim (o .state) calls) opens (demand-3 (take (head-of s .end) s) (ap (λ (o : Opening). o .refusal) opens) calls)

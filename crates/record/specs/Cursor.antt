@@ -1,16 +1,16 @@
 -- How far a file's run has come, and what is known of the run of a file that was checked.
 use mathlib.Core.Path.{_≡_}
 use lib.ListN.{length}
-use Rattle.entries.specs.Entries.{laid}
+use Rattle.entries.specs.Entries.{size, laid}
+use Rattle.entries.specs.Limits as limits
 use Prim.Native.Nat.{_-_, _*_, _/_, _≤_}
-use Rattle.table.specs.TaskPart.{task-part}
+use Rattle.table.specs.Head.{head-of}
 use Rattle.rules.specs.Calls.{opened}
 use Rattle.rules.specs.declared.Call.{Call}
 use Rattle.rules.specs.declared.Call.the-variants.{Instant, Mark}
-use Rattle.record.specs.Types.{Bool, true, false, List, [], _∷_, ℕ, _+_, TaskPart, NoRefusal, State, Piece}
+use Rattle.record.specs.Types.{Bool, true, false, List, [], _∷_, ℕ, _+_, Head, NoRefusal, State, Piece}
 use Rattle.run.specs.Listed.{releases-at}
-use Rattle.run.specs.Run.{record-bytes, run, budget}
-use Rattle.run.specs.Pieces.{most}
+use Rattle.run.specs.Run.{record-bytes, run}
 use Rattle.dispatcher.specs.Dispatcher.{state-of}
 use Rattle.record.specs.FileClaim.{Feeds, AllServed}
 
@@ -24,14 +24,14 @@ pub record Cursor : Type 0 where
 abbrev pub run-bytes : List ℕ → Cursor → ℕ → List ℕ
 run-bytes s c budget = record-bytes (run budget (c .state) (releases-at s (c .at)))
 
--- where a file's run begins, its task entries read
-abbrev pub start : TaskPart → Cursor
+-- where a file's run begins, its head read
+abbrev pub start : Head → Cursor
 start k = record { state = opened (k .table) (k .marked); at = k .end }
 
--- no instant is past 3,000,000,000: none is at the last tick that a clock has
+-- no instant is late: none is at the last tick that a clock has
 unfoldable pub AllEarly : List Call → Type 0
 AllEarly [] = Unit {0}
-AllEarly (Instant t set ∷ cs) = (t ≤ 3000000000) × AllEarly cs
+AllEarly (Instant t set ∷ cs) = (t ≤ limits.last-instant) × AllEarly cs
 AllEarly (Mark n m ∷ cs) = AllEarly cs
 
 -- no instant of a run is refused, and none is late
@@ -45,7 +45,7 @@ pub record Served (s : List ℕ) (c : Cursor) : Type 0 where
 -- there is room for the record, where it is kept
 pub record Room (s : List ℕ) (c : Cursor) (budget : ℕ) (out : List ℕ) (keep : Bool) : Type 0 where
   pub kept : keep ≡ true → length (run-bytes s c budget) ≤ length out
-  pub few : budget ≤ 131104
+  pub few : budget ≤ limits.budget-most
   pub served : Served s c
 
 -- the record's length; the slice holds the record, or is as it was where only the length counts
@@ -64,7 +64,7 @@ rest-bytes s x = run-bytes s (cursor-of x) (x .left)
 
 pub record RestRoom (s : List ℕ) (x : Piece) (out : List ℕ) (keep : Bool) : Type 0 where
   pub kept : keep ≡ true → x .size + length (rest-bytes s x) ≤ length out
-  pub few : x .size + most * x .left ≤ most * 131104
+  pub few : x .size + limits.instant-most * x .left ≤ limits.instant-most * limits.budget-most
   pub served : Served s (cursor-of x)
 
 pub record RestRan (s : List ℕ) (x : Piece) (before : List ℕ) (keep : Bool) (size : ℕ) (after : List ℕ) : Type 0 where
@@ -82,19 +82,22 @@ pub record KeptAt (piece before : List ℕ) (place : ℕ) (keep : Bool) (after :
 
 -- ---- a file
 
--- as many instants as no run of the releases from a cursor on needs
-abbrev pub budget-at : List ℕ → Cursor → ℕ
-budget-at s c = budget ((length s - c .at) / 10)
+-- how many releases there are from a cursor on
+abbrev pub releases-left : List ℕ → Cursor → ℕ
+releases-left s c = (length s - c .at) / size 2
 
--- a file that was checked runs from a cursor on: its releases are not more than 4,096, and its record is not longer than 99 bytes for
--- each of them
+-- as many instants as no run of them needs
+abbrev pub budget-at : List ℕ → Cursor → ℕ
+budget-at s c = limits.budget (releases-left s c)
+
+-- a file that was checked runs from a cursor on: its releases are no more than a file may have, and its record is no longer than they allow
 pub record Runs (s : List ℕ) (c : Cursor) : Type 0 where
-  pub few : (length s - c .at) / 10 ≤ 4096
-  pub short : length (run-bytes s c (budget-at s c)) ≤ 99 * ((length s - c .at) / 10)
+  pub few : releases-left s c ≤ limits.releases
+  pub short : length (run-bytes s c (budget-at s c)) ≤ limits.record-each * releases-left s c
   pub served : Served s c
 
--- an input's task entries were read and none was refused
-pub record ReadWhole (s : List ℕ) (k : TaskPart) : Type 0 where
+-- an input's head was read and not refused
+pub record ReadWhole (s : List ℕ) (k : Head) : Type 0 where
   pub some : length s ≡ 0 → ⊥
-  pub tasks : k ≡ task-part s
+  pub tasks : k ≡ head-of s
   pub none-refused : k .refusal ≡ NoRefusal

@@ -3,10 +3,11 @@
 use mathlib.Core.Path.{_≡_}
 use Prim.Native.Nat.{_<_}
 use lib.ListN.{length, take}
-use Rattle.record.specs.Types.{List, [], _∷_, _++_, ℕ, _+_, Release, TaskPart, NoRefusal, State, Done, NoJob, Job, Never, Tick, Occurred, Answer, Refused, Served, Step, Outcome}
+use Rattle.record.specs.Types.{List, [], _∷_, _++_, ℕ, _+_, Release, Head, NoRefusal, State, Done, NoJob, Job, Never, Tick, Occurred, Answer, Refused, Served, Step, Outcome}
 use lib.Dec.{eqb}
 use Rattle.sets.specs.Sets.{bit}
-use Rattle.table.specs.TaskPart.{task-part}
+use Rattle.entries.specs.Limits as limits
+use Rattle.table.specs.Head.{head-of}
 use Rattle.rules.specs.Instant.{due, sooner}
 use Rattle.rules.specs.Calls.{opened, opening, refusal, instant, after-call}
 use Rattle.rules.specs.declared.Call.{Call}
@@ -18,7 +19,7 @@ use Rattle.guarantees.specs.Intervals.{no-course, ended}
 use Rattle.guarantees.specs.Entries.{skips, done, completions, closed}
 use Rattle.guarantees.specs.Claim.{Claim, AllCompleted}
 use Rattle.run.specs.Files.{Releases, releases-of}
-use Rattle.run.specs.Run.{Moment, first-time, released-at, released-after, budget, moments-of}
+use Rattle.run.specs.Run.{Moment, first-time, released-at, released-after, moments-of}
 use Rattle.record.specs.Writing.{Wrote, file, outcome-number, outcome-value}
 
 -- ---- The calls that feed a file to the dispatcher by instants
@@ -77,7 +78,7 @@ pub record FedClaim (d : State) (rs : List Release) (ms : List Moment) (calls : 
   -- "gives its record": what they answer is what the record is made of
   pub gives-record : answers d calls ≡ ms
   -- no run is cut off: it has fewer instants than its budget
-  pub within-budget : length calls < budget (length rs)
+  pub within-budget : length calls < limits.budget (length rs)
   -- demand 3 of this list of calls, "lists of calls and files alike", and that what each entry of a job says is true (`entries`)
   pub claim : Claim d calls
   -- "The record has kind 16 at step a": one entry for each job that completes, in their order,
@@ -98,19 +99,19 @@ pub record FedClaim (d : State) (rs : List Release) (ms : List Moment) (calls : 
 -- of a file's bytes and its releases
 pub record FileClaim (s : List ℕ) (rs : List Release) (d : State) : Type 0 where
   -- "It opens from the task entries alone."
-  pub opens : opening (take (task-part s .end) s) ≡ record { state = d; refusal = NoRefusal }
+  pub opens : opening (take (head-of s .end) s) ≡ record { state = d; refusal = NoRefusal }
   pub come-to-an-end : (calls : List Call) × Feeds d rs calls
   pub of-the-feed : (calls : List Call) → Feeds d rs calls → FedClaim d rs (moments-of s rs) calls
 
 -- for every input that is accepted
 unfoldable pub Demand3Files : Type 0
-Demand3Files = (s : List ℕ) (rs : List Release) → releases-of s ≡ Releases rs → let k : TaskPart = task-part s in FileClaim s rs (opened (k .table) (k .marked))
+Demand3Files = (s : List ℕ) (rs : List Release) → releases-of s ≡ Releases rs → let k : Head = head-of s in FileClaim s rs (opened (k .table) (k .marked))
 
 -- ---- The claim on a promise
 
 -- the claim for the run of an input, where it is accepted
 abbrev pub AcceptedWithClaim : List ℕ → Type 0
-AcceptedWithClaim s = (rs : List Release) → releases-of s ≡ Releases rs → FileClaim s rs (opened (task-part s .table) (task-part s .marked))
+AcceptedWithClaim s = (rs : List Release) → releases-of s ≡ Releases rs → FileClaim s rs (opened (head-of s .table) (head-of s .marked))
 
 -- what comes of an input and a lent slice, and the claim for the run of the input where it is accepted
 pub record WroteWithClaim (s before : List ℕ) (outcome : Outcome) (after : List ℕ) : Type 0 where

@@ -1,9 +1,10 @@
 // A file's record, written into a lent slice.
 use crate::Outcome;
 use entries::RELEASE_SIZE;
+use entries::limits;
 use run::Piece;
+use table::Head;
 use table::Refusal;
-use table::TaskPart;
 ghost use mathlib.Core.Path.{_≡_};
 ghost use Rattle.record.specs.Writing.{Wrote, written, file};
 ghost use Rattle.record.specs.FileClaim.{WroteWithClaim};
@@ -47,13 +48,13 @@ fn go_on(s: &[u8], from: Piece, out: &mut [u8], keep: bool) -> usize
 }
 
 // The instants of a run, at most `budget` of them: with `keep` in the slice itself, as far as there is room for whole instants.
-fn run_over(s: &[u8], part: TaskPart, budget: usize, out: &mut [u8], keep: bool) -> usize
-    requires { ⌜ Room (now s) (start part) budget (now out) keep ⌝ }
-    ensures { λ r. ⌜ Ran (now (s .entry)) (start part) budget (now (out .entry)) keep r (now (out .exit)) ⌝ }
+fn run_over(s: &[u8], head: Head, budget: usize, out: &mut [u8], keep: bool) -> usize
+    requires { ⌜ Room (now s) (start head) budget (now out) keep ⌝ }
+    ensures { λ r. ⌜ Ran (now (s .entry)) (start head) budget (now (out .entry)) keep r (now (out .exit)) ⌝ }
 {
-    let table = part.table;
-    let read = part.end;
-    let state = dispatcher::opened(table, part.marked);
+    let table = head.table;
+    let read = head.end;
+    let state = dispatcher::opened(table, head.marked);
     if keep {
         let x = run::next_piece(&s[read..], state, budget, out);
         return go_on(
@@ -76,21 +77,21 @@ fn run_over(s: &[u8], part: TaskPart, budget: usize, out: &mut [u8], keep: bool)
     go_on(s, from, out, keep)
 }
 
-// The record of a run, in a slice that is long enough, or the length needed. A record of n releases is at most 99 * n bytes long:
-// where there is room for that, the run is made once.
-fn write_run(s: &[u8], part: TaskPart, out: &mut [u8]) -> Outcome
-    requires { ⌜ Runs (now s) (start part) ⌝ }
-    ensures { λ r. ⌜ Wrote (written (run-bytes (now (s .entry)) (start part) (budget-at (now (s .entry)) (start part))) (now (out .entry))) r (now (out .exit)) ⌝ }
+// The record of a run, in a slice that is long enough, or the length needed. Where there is room for the longest record of so many releases,
+// the run is made once.
+fn write_run(s: &[u8], head: Head, out: &mut [u8]) -> Outcome
+    requires { ⌜ Runs (now s) (start head) ⌝ }
+    ensures { λ r. ⌜ Wrote (written (run-bytes (now (s .entry)) (start head) (budget-at (now (s .entry)) (start head))) (now (out .entry))) r (now (out .exit)) ⌝ }
 {
-    let n = (s.len() - part.end) / RELEASE_SIZE;
-    let budget = 32 * n + 32;
-    if 99 * n <= out.len() {
-        let size = run_over(s, part, budget, out, true);
+    let n = (s.len() - head.end) / RELEASE_SIZE;
+    let budget = limits::INSTANTS_EACH * n + limits::INSTANTS_EACH;
+    if limits::RECORD_EACH * n <= out.len() {
+        let size = run_over(s, head, budget, out, true);
         return Outcome::Recorded(size);
     }
-    let needed = run_over(s, part, budget, out, false);
+    let needed = run_over(s, head, budget, out, false);
     if needed <= out.len() {
-        let size = run_over(s, part, budget, out, true);
+        let size = run_over(s, head, budget, out, true);
         return Outcome::Recorded(size);
     }
     Outcome::TooShort(needed)
@@ -99,10 +100,10 @@ fn write_run(s: &[u8], part: TaskPart, out: &mut [u8]) -> Outcome
 fn write_file(s: &[u8], out: &mut [u8]) -> Outcome
     ensures { λ r. ⌜ Wrote (file (now (s .entry)) (now (out .entry))) r (now (out .exit)) ⌝ }
 {
-    let part = run::check_file(s);
-    let refusal = part.refusal;
+    let head = run::check_file(s);
+    let refusal = head.refusal;
     match refusal {
-        Refusal::NoRefusal => write_run(s, part, out),
+        Refusal::NoRefusal => write_run(s, head, out),
         Refusal::Alone(_) => Outcome::RefusedInput(refusal),
         Refusal::AtEntry(_, _) => Outcome::RefusedInput(refusal),
     }

@@ -1,10 +1,11 @@
--- The dispatcher by instants, over its state: opening from the task entries, an instant and a mark call, each with its refusals in their
+-- The dispatcher by instants, over its state: opening from the head, an instant and a mark call, each with its refusals in their
 -- order. A refused call hands the state back as it was.
-use Rattle.rules.specs.Types.{Bool, false, cond, not, _&&_, List, ℕ, Table, Clock, Unset, At, NoneNext, NoneOutgoing, Between, State, Call, Instant, Mark, Due, Never, Tick, Answer, Refused, Served, MarkAnswer, MarkRefused, MarkServed, Refusal, NoRefusal, Alone, AtEntry, TaskPart}
+use Rattle.rules.specs.Types.{Bool, false, cond, not, _&&_, List, ℕ, Table, Clock, Unset, At, NoneNext, NoneOutgoing, Between, State, Call, Instant, Mark, Due, Never, Tick, Answer, Refused, Served, MarkAnswer, MarkRefused, MarkServed, Refusal, Head}
 use lib.Dec.{ltb, leb, eqb}
-use lib.ListN.{length, replicate}
+use lib.ListN.{replicate}
 use Rattle.sets.specs.Sets.{member, union, difference, insert, remove}
-use Rattle.table.specs.TaskPart.{task-part, no-table}
+use Rattle.entries.specs.Limits as limits
+use Rattle.table.specs.Head.{head-alone}
 use Rattle.rules.specs.Instant.{at-g, occurred, due}
 
 -- ---- What a call hands back: the next state, and what it says
@@ -21,7 +22,7 @@ pub record Opening : Type 0 where
   pub state : State
   pub refusal : Refusal
 
--- ---- Opening: 12, 2, 1, 4, 5, 6, 7. A release entry is refused by 2.
+-- ---- Opening, from a head alone: its refusals are those of the head
 
 -- no task has a job, no release waits, and the first interval gives the processor half 0
 unfoldable pub opened : Table → ℕ → State
@@ -30,23 +31,14 @@ opened table marked = record {
   marked = marked;
   clock = Unset;
   half = 2;
-  jobs = record { pending = 0; ready = 0; release = replicate 32 0; blocked = replicate 32 0 };
-  waiting = record { tasks = 0; times = replicate 32 0 };
+  jobs = record { pending = 0; ready = 0; release = replicate limits.tasks 0; blocked = replicate limits.tasks 0 };
+  waiting = record { tasks = 0; times = replicate limits.tasks 0 };
   phase = Between NoneNext NoneOutgoing;
 }
 
--- what stands for the state where no dispatcher opens: one without a task
-abbrev pub not-opened : Refusal → Opening
-not-opened r = record { state = opened no-table 0; refusal = r }
-
--- past the task entries there is nothing, or an entry that is no task's
-abbrev pub opened-behind : TaskPart → ℕ → Refusal → Opening
-opened-behind k size NoRefusal = cond (eqb (k .end) size) (record { state = opened (k .table) (k .marked); refusal = NoRefusal }) (not-opened (AtEntry 2 (k .end)))
-opened-behind k size (Alone n) = not-opened (Alone n)
-opened-behind k size (AtEntry n at) = not-opened (AtEntry n at)
-
+-- a head that is refused has no task: so has what stands for the state where no dispatcher opens
 unfoldable pub opening : List ℕ → Opening
-opening s = cond (eqb (length s) 0) (not-opened (Alone 12)) (let k : TaskPart = task-part s in opened-behind k (length s) (k .refusal))
+opening s = let k : Head = head-alone s in record { state = opened (k .table) (k .marked); refusal = k .refusal }
 
 -- ---- An instant: 16, 10, 14, 15; 0 is none.
 
@@ -65,7 +57,7 @@ before-now (Tick u) t = ltb u t
 unfoldable pub refusal : State → ℕ → ℕ → ℕ
 refusal d t set =
     cond (unknown d set) 16
-    (cond (not (eqb set 0) && ltb 1000000000 t) 10
+    (cond (not (eqb set 0) && ltb limits.last-release t) 10
     (cond (not-after (d .clock) t) 14
     (cond (before-now (due (d .phase)) t) 15 0)))
 

@@ -1,16 +1,16 @@
 -- How many of the opening bytes are enough.
 use mathlib.Core.Path.{_≡_}
 use mathlib.Core.List.{List}
-use Prim.Native.Nat.{ℕ, _*_}
+use Prim.Native.Nat.{ℕ}
 use lib.ListN.{take}
-use Rattle.entries.specs.Entries.{size}
+use Rattle.entries.specs.Limits.{head-most}
 use Rattle.rules.specs.Calls.{opening}
 
--- 33 task entries
+-- as many as are enough to read a head
 abbrev pub opening-most : ℕ
-opening-most = 33 * size 1
+opening-most = head-most
 
--- Opening from no more than these gives what opening from all of them gives: there are 32 task numbers, so that of 33 task entries one is
--- refused.
+-- Opening from no more than these gives what opening from all of them gives: they are more than any head that is accepted has, by one whole
+-- entry, and that one is refused.
 unfoldable pub OpensFromFront : Type 0
 OpensFromFront = (s : List ℕ) → opening (take opening-most s) ≡ opening s

@@ -4,6 +4,7 @@ use Rattle.rules.specs.Types.{Bool, false, cond, _&&_, List, ℕ, zero, 
 use lib.Dec.{ltb}
 use lib.ListN.{getD}
 use Rattle.sets.specs.Sets.{member, collect}
+use Rattle.entries.specs.Limits as limits
 
 abbrev pub priority : State → ℕ → ℕ
 priority d n = getD (d .table .priority) n 0
@@ -22,7 +23,7 @@ highest-below (suc k) priority s =
 
 unfoldable pub highest : List ℕ → ℕ → MaybeTask
 unfolding highest-below
-highest priority s = highest-below 32 priority s
+highest priority s = highest-below limits.tasks priority s
 
 -- the highest-priority task of a set
 abbrev pub highest-of : State → ℕ → MaybeTask

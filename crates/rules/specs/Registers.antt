@@ -1,10 +1,11 @@
 -- The numbers of a dispatcher by name (specs/Named), and what stands beside them, read back as the state that the rules speak of.
 use Rattle.rules.specs.Types.{Bool, cond, _||_, List, ℕ, _-_, Table, Clock, MaybeTask, NoTask, Task, Processor, Idle, CopyingIn, Executing, Finished, CopyOut, NoCopyOut, CopyingOut, CopiedOut, CopyIn, Unchosen, NoneChosen, Copying, Loaded, Cancelled, Interval, Next, NoneNext, LoadedNext, PromotedNext, Outgoing, NoneOutgoing, AwaitsCopyOut, Phase, Between, Within, State, WaitingReleases, Registers}
 use lib.Dec.{eqb, ltb}
+use Rattle.entries.specs.Limits as limits
 
--- 32 and more stand for no task
+-- what is no task number stands for no task
 abbrev pub as-task : ℕ → MaybeTask
-as-task n = cond (ltb n 32) (Task n) NoTask
+as-task n = cond (ltb n limits.tasks) (Task n) NoTask
 
 -- ---- In an open interval
 

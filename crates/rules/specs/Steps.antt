@@ -1,6 +1,6 @@
 -- What each step over lent arrays promises: the rules' step of the state that was read before, whatever stands in the arrays that it is
 -- not lent.
-use Rattle.rules.specs.Types.{Bool, true, false, cond, List, ℕ, _-_, _^_, _<_, _≤_, _≡_, _⊎_, MaybeTask, Table, Cancelled, Interval, Within, Next, Outgoing, State, Stage, Closed, Job, Due, Never, Tick, JobEntry, IntervalEntry, View}
+use Rattle.rules.specs.Types.{Bool, true, false, cond, List, ℕ, _-_, _^_, _<_, _≤_, _≡_, _⊎_, MaybeTask, NoTask, Table, Cancelled, Interval, Within, Next, Outgoing, State, Stage, Closed, Job, Due, Never, Tick, JobEntry, IntervalEntry, View}
 use mathlib.Core.Logic.{_↔_}
 use lib.Dec.{eqb}
 use lib.ListN.{getD, set}
@@ -273,7 +273,7 @@ SomeDue codes x = (times sets : List ℕ) → IsDue x (due (phase-in (registers-
 abbrev pub OnProcessor : ℕ → Bool → Type 0
 OnProcessor kind x =
     (n start until : ℕ)
-    → (task-byte (on-processor (as-processor kind n start until)) ≡ cond x n 255)
+    → (task-byte (on-processor (as-processor kind n start until)) ≡ cond x n (task-byte NoTask))
     × (processor-until (as-processor kind n start until) ≡ cond x until 0)
 
 abbrev pub ViewedAt : List ℕ → List ℕ → List ℕ → View → Type 0

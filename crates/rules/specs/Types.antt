@@ -25,7 +25,7 @@ pub use Rattle.rules.specs.declared.MarkAnswer.{MarkAnswer}
 pub use Rattle.rules.specs.declared.MarkAnswer.the-variants.{MarkRefused, MarkServed}
 pub use Rattle.table.specs.declared.Refusal.{Refusal}
 pub use Rattle.table.specs.declared.Refusal.the-variants.{NoRefusal, Alone, AtEntry}
-pub use Rattle.table.specs.declared.TaskPart.{TaskPart}
+pub use Rattle.table.specs.declared.Head.{Head}
 pub use mathlib.Core.Path.{_≡_, refl, sym, ap, _∙_, subst}
 pub use mathlib.Core.Bool.{Bool, true, false, cond, not, _&&_, _||_}
 pub use mathlib.Core.List.{List, [], _∷_, _++_}

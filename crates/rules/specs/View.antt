@@ -70,7 +70,7 @@ copyout-until NoCopyOut = 0
 copyout-until (CopyingOut n start until) = until
 copyout-until (CopiedOut n) = 0
 
--- ---- All of it: of the open interval its begin and work, 0 where none is open; 255 is nobody
+-- ---- All of it: of the open interval its begin and work, 0 where none is open; what stands for no task is nobody
 
 abbrev pub viewed-in : State → Phase → View
 viewed-in d (Between next outgoing) = record {
@@ -83,9 +83,9 @@ viewed-in d (Between next outgoing) = record {
   marked = d .marked;
   opened = 0;
   work = 0;
-  processor = 255;
-  copyin = 255;
-  copyout = 255;
+  processor = task-byte NoTask;
+  copyin = task-byte NoTask;
+  copyout = task-byte NoTask;
   half = values d .half;
 }
 viewed-in d (Within i) = record {

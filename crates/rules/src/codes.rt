@@ -44,5 +44,5 @@ pub const COPY_IN_AND_EXECUTE: u8 = 2;
 // The fate that an entry has where no copy-in was done or gave way. Else it is the copy-in's number less two: 1 done, 2 cancelled, 3 thrown out.
 pub const FATE_NONE: u8 = 0;
 
-// No task: there are 32.
-pub const NO_TASK: u8 = 32;
+// No task: the first number that is none.
+pub const NO_TASK: u8 = entries::limits::TASKS as u8;

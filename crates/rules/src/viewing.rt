@@ -2,8 +2,11 @@
 use crate::View;
 use crate::at;
 use crate::codes;
+use entries::NO_TASK;
 ghost use mathlib.Core.Path.{_≡_};
 ghost use mathlib.Core.Bool.{cond};
+ghost use Rattle.entries.specs.Entries.{task-byte};
+ghost use Rattle.rules.specs.Types.{NoTask};
 ghost use Rattle.rules.specs.View.{shown-half};
 ghost use Rattle.rules.specs.Steps.{OnProcessor, NoneOpen, OneOpen, ViewedAt};
 
@@ -19,12 +22,12 @@ fn is_working(kind: u8) -> bool
 
 // A unit's task and the end of its phase, where one is under way.
 fn task_where(under_way: bool, n: u8) -> u8
-    ensures { λ x. ⌜ x ≡ cond «under_way» n 255 ⌝ }
+    ensures { λ x. ⌜ x ≡ cond «under_way» n (task-byte NoTask) ⌝ }
 {
     if under_way {
         return n;
     }
-    255
+    NO_TASK
 }
 
 fn end_where(under_way: bool, until: u64) -> u64
@@ -59,9 +62,9 @@ fn none_open(sets: &[u32; 6], codes: &[u8; 9]) -> View
         marked: sets[at::MARKED],
         opened: 0,
         work: codes::NO_WORK,
-        processor: 255,
-        copyin: 255,
-        copyout: 255,
+        processor: NO_TASK,
+        copyin: NO_TASK,
+        copyout: NO_TASK,
         half: half_shown(codes[at::HALF]),
     }
 }

@@ -10,9 +10,9 @@ use Rattle.sets.specs.Sets.{member}
 use Rattle.sets.proofs.Laws.{by-test}
 use Rattle.words.specs.Words.{numberAt}
 use Rattle.entries.specs.Entries.{entry-at, task-at}
-use Rattle.run.specs.Types.{TaskParameters, Release, Malformed, TaskEntry, ReleaseEntry, Last, NoneBefore, Before, TaskPart, Refusal, NoRefusal, Alone, AtEntry}
-use Rattle.run.specs.Files.{Checked, Rejected, Releases, rises, refusal-of, with-release, release-refusal, releases-from, releases-behind, releases-of, part-of, file-part}
-use Rattle.table.specs.TaskPart.{task-part}
+use Rattle.run.specs.Types.{TaskParameters, Release, Malformed, TaskEntry, ReleaseEntry, Last, NoneBefore, Before, Head, Refusal, NoRefusal, Alone, AtEntry}
+use Rattle.run.specs.Files.{Checked, Rejected, Releases, rises, refusal-of, with-release, release-refusal, releases-from, releases-behind, releases-of, head-unless, file-head}
+use Rattle.table.specs.Head.{head-of}
 
 -- a release entry is whole
 pub release-whole : (s : List ℕ) (at : ℕ) (r : Release) → entry-at s at ≡ ReleaseEntry r → 10 ≤ length s - at
@@ -103,26 +103,26 @@ module _ (s : List ℕ) (at present : ℕ) (last : Last) (count : ℕ) (whole : 
 -- ---- a whole input
 
 module _ (s : List ℕ) where
-  pub file-empty : (k : TaskPart) → length s ≡ 0 → part-of k (Alone 12) ≡ file-part s
-  unfolding file-part releases-of
+  pub file-empty : (k : Head) → length s ≡ 0 → head-unless k (Alone 12) ≡ file-head s
+  unfolding file-head releases-of
   file-empty k e = rw (eq-eqb (length s) 0 e)
 
-  module _ (k : TaskPart) (some : length s ≡ 0 → ⊥) (is : k ≡ task-part s) where
-    pub file-behind : k .refusal ≡ NoRefusal → part-of k (refusal-of (releases-from (length s) s (k .end) (k .table .present) NoneBefore 0)) ≡ file-part s
-    unfolding file-part releases-of
+  module _ (k : Head) (some : length s ≡ 0 → ⊥) (is : k ≡ head-of s) where
+    pub file-behind : k .refusal ≡ NoRefusal → head-unless k (refusal-of (releases-from (length s) s (k .end) (k .table .present) NoneBefore 0)) ≡ file-head s
+    unfolding file-head releases-of
     file-behind e =
-        sym (ap (λ (r : Refusal). part-of k (refusal-of (releases-behind s k r))) e)
-        ∙ ap (λ (x : TaskPart). part-of x (refusal-of (releases-behind s x (x .refusal)))) is
+        sym (ap (λ (r : Refusal). head-unless k (refusal-of (releases-behind s k r))) e)
+        ∙ ap (λ (x : Head). head-unless x (refusal-of (releases-behind s x (x .refusal)))) is
         ∙ rw (ne-eqb (length s) 0 some)
 
-    pub file-refused : (r : Refusal) → k .refusal ≡ r → (r ≡ NoRefusal → ⊥) → part-of k r ≡ file-part s
-    unfolding file-part releases-of
+    pub file-refused : (r : Refusal) → k .refusal ≡ r → (r ≡ NoRefusal → ⊥) → head-unless k r ≡ file-head s
+    unfolding file-head releases-of
     file-refused r e h =
         rw (ne-eqb (length s) 0 some)
-        (go r h ∙ ap (λ (x : Refusal). part-of k (refusal-of (releases-behind s k x))) (sym e)
-        ∙ ap (λ (x : TaskPart). part-of x (refusal-of (releases-behind s x (x .refusal)))) is)
+        (go r h ∙ ap (λ (x : Refusal). head-unless k (refusal-of (releases-behind s k x))) (sym e)
+        ∙ ap (λ (x : Head). head-unless x (refusal-of (releases-behind s x (x .refusal)))) is)
       where
-        go : (r : Refusal) → (r ≡ NoRefusal → ⊥) → part-of k r ≡ part-of k (refusal-of (releases-behind s k r))
+        go : (r : Refusal) → (r ≡ NoRefusal → ⊥) → head-unless k r ≡ head-unless k (refusal-of (releases-behind s k r))
         go NoRefusal h = absurd (h refl)
         go (Alone n) h = refl
         go (AtEntry n at) h = refl

@@ -8,21 +8,22 @@ use lib.Dec.{leb, eqb}
 use lib.ListN.{length, take}
 use lib.Seq.{length-take-le}
 use Rattle.sets.proofs.Laws.{by-test}
-use Rattle.entries.specs.Entries.{entry-at}
+use Rattle.entries.specs.Entries.{size, entry-at}
+use Rattle.entries.specs.Limits as limits
 use Rattle.entries.proofs.Front.{entry-in-front}
-use Rattle.table.specs.TaskPart.{task-part}
-use Rattle.table.proofs.Front.{part-short, part-in-front, by-length}
-use Rattle.run.specs.Types.{Release, Entry, Malformed, TaskEntry, ReleaseEntry, Last, NoneBefore, Before, TaskPart, Refusal, NoRefusal, Alone, AtEntry}
-use Rattle.run.specs.Files.{refusal-of, release-refusal, releases-from, releases-behind, releases-of, part-of, file-part}
+use Rattle.table.specs.Head.{head-of}
+use Rattle.table.proofs.Front.{head-short, head-in-front, by-length}
+use Rattle.run.specs.Types.{Release, Entry, Malformed, TaskEntry, ReleaseEntry, Last, NoneBefore, Before, Head, Refusal, NoRefusal, Alone, AtEntry}
+use Rattle.run.specs.Files.{refusal-of, release-refusal, releases-from, releases-behind, releases-of, head-unless, file-head}
 use Rattle.run.specs.Cut.{file-most, ReadFromFront}
 use Rattle.run.proofs.Checking.{malformed, task-late, refuses, takes, passed-on, few, file-behind, file-refused, alone, at-entry}
 
--- so many releases were read, each of 10 bytes, behind 32 task entries at most
+-- so many releases were read, behind the longest head at most
 pub record Counted (at count : ℕ) : Type 0 where
-  pub behind : at ≤ 32 * 16 + 10 * count
-  pub most : count ≤ 4096
+  pub behind : at ≤ limits.longest-head + size 2 * count
+  pub most : count ≤ limits.releases
 
-counted-more : (at present : ℕ) (last : Last) (count : ℕ) (r : Release) → release-refusal present last count r ≡ 0 → Counted at count → Counted (at + 10) (count + 1)
+counted-more : (at present : ℕ) (last : Last) (count : ℕ) (r : Release) → release-refusal present last count r ≡ 0 → Counted at count → Counted (at + size 2) (count + 1)
 counted-more at present last count r e c = record { behind = omega (arith, c .behind); most = omega (arith, few present last count r e) }
 
 -- ---- the releases, read in the front and in the whole
@@ -77,7 +78,7 @@ module _ (present : ℕ) where
 
   -- where none is refused the input is no longer
   releases-short : (s : List ℕ) (k at : ℕ) (last : Last) (count : ℕ) → length s - at ≤ k → Counted at count → refusal-from s k at last count ≡ NoRefusal
-      → length s ≤ 32 * 16 + 4096 * 10
+      → length s ≤ limits.longest-file
   releases-short s zero at last count h c e = omega (arith, c .behind, c .most)
   releases-short s (suc k) at last count h c e =
       by-test (leb (length s) at)
@@ -88,7 +89,7 @@ module _ (present : ℕ) where
       (λ r x f. releases-short s k (at + 10) (Before r) (count + 1) (omega arith) (counted-more at present last count r f c) (sym (goes-on s k at last count r more x f) ∙ e)))
     where
       Short : Type 0
-      Short = length s ≤ 32 * 16 + 4096 * 10
+      Short = length s ≤ limits.longest-file
 
       More : Type 0
       More = (r : Release) → entry-at s at ≡ ReleaseEntry r → release-refusal present last count r ≡ 0 → Short
@@ -107,46 +108,46 @@ module _ (present : ℕ) where
 
 -- ---- the whole input
 
-first-counted : (s : List ℕ) → Counted (task-part s .end) 0
-first-counted s = record { behind = omega (arith, part-short s); most = omega arith }
+first-counted : (s : List ℕ) → Counted (head-of s .end) 0
+first-counted s = record { behind = omega (arith, head-short s); most = omega arith }
 
-part-same : (s : List ℕ) → file-part (take file-most s) ≡ file-part s
-unfolding file-part releases-of
-part-same s = by-length file-part file-most s inside
+head-same : (s : List ℕ) → file-head (take file-most s) ≡ file-head s
+unfolding file-head releases-of
+head-same s = by-length file-head file-most s inside
   where
     t : List ℕ
     t = take file-most s
 
-    behind : (k : TaskPart) (r : Refusal) → file-most ≤ length s → Counted (k .end) 0 → refusal-of (releases-behind t k r) ≡ refusal-of (releases-behind s k r)
+    behind : (k : Head) (r : Refusal) → file-most ≤ length s → Counted (k .end) 0 → refusal-of (releases-behind t k r) ≡ refusal-of (releases-behind s k r)
     behind k NoRefusal l c =
         releases-in-front (k .table .present) s file-most l (omega arith) (length t) (length s) (k .end) NoneBefore 0 (omega (arith, length-take-le file-most s l)) (omega arith) c
     behind k (Alone n) l c = refl
     behind k (AtEntry n at) l c = refl
 
-    inside : file-most ≤ length s → file-part t ≡ file-part s
+    inside : file-most ≤ length s → file-head t ≡ file-head s
     inside l =
         rw (
           ne-eqb (length t) 0 (λ e. omega (arith, length-take-le file-most s l)),
           ne-eqb (length s) 0 (λ e. omega arith),
-          part-in-front s file-most l (omega arith),
+          head-in-front s file-most l (omega arith),
         )
-        (ap (part-of (task-part s)) (behind (task-part s) (task-part s .refusal) l (first-counted s)))
+        (ap (head-unless (head-of s)) (behind (head-of s) (head-of s .refusal) l (first-counted s)))
 
-accepted-short : (s : List ℕ) → file-part s .refusal ≡ NoRefusal → length s ≤ 32 * 16 + 4096 * 10
+accepted-short : (s : List ℕ) → file-head s .refusal ≡ NoRefusal → length s ≤ limits.longest-file
 accepted-short s e =
-    by-test (eqb (length s) 0) (λ z. omega (arith, eqb-true (length s) 0 z)) (λ z. tasks (eqb-false (length s) 0 z) (task-part s .refusal) refl)
+    by-test (eqb (length s) 0) (λ z. omega (arith, eqb-true (length s) 0 z)) (λ z. tasks (eqb-false (length s) 0 z) (head-of s .refusal) refl)
   where
-    k : TaskPart
-    k = task-part s
+    k : Head
+    k = head-of s
 
     Short : Type 0
-    Short = length s ≤ 32 * 16 + 4096 * 10
+    Short = length s ≤ limits.longest-file
 
     -- an input that is refused is not accepted
-    refused : (r : Refusal) → part-of k r ≡ file-part s → (r ≡ NoRefusal → Short) → Short
+    refused : (r : Refusal) → head-unless k r ≡ file-head s → (r ≡ NoRefusal → Short) → Short
     refused NoRefusal x h = h refl
-    refused (Alone n) x h = absurd (alone refl (ap (λ (y : TaskPart). y .refusal) x ∙ e))
-    refused (AtEntry n at) x h = absurd (at-entry refl (ap (λ (y : TaskPart). y .refusal) x ∙ e))
+    refused (Alone n) x h = absurd (alone refl (ap (λ (y : Head). y .refusal) x ∙ e))
+    refused (AtEntry n at) x h = absurd (at-entry refl (ap (λ (y : Head). y .refusal) x ∙ e))
 
     tasks : (length s ≡ 0 → ⊥) → (r : Refusal) → k .refusal ≡ r → Short
     tasks some NoRefusal x =
@@ -156,4 +157,4 @@ accepted-short s e =
     tasks some (AtEntry n at) x = refused (AtEntry n at) (file-refused s k some refl (AtEntry n at) x (at-entry x)) (λ f. absurd (at-entry x f))
 
 pub read-from-front : ReadFromFront
-read-from-front = record { same-part = part-same; none-cut = accepted-short }
+read-from-front = record { same-head = head-same; none-cut = accepted-short }

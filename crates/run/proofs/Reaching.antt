@@ -11,6 +11,7 @@ use lib.Seq.{take-at}
 use Rattle.sets.proofs.Laws.{by-test}
 use Rattle.words.proofs.Laws.{rest-whole}
 use Rattle.entries.specs.Entries.{laid, entry-bytes, each}
+use Rattle.entries.specs.Limits.{instant-most}
 use Rattle.entries.proofs.Each.{each-both}
 use Rattle.rules.specs.Instant.{at-g}
 use Rattle.rules.specs.Entries.{entries}
@@ -22,7 +23,7 @@ use Rattle.run.specs.Listed.{releases-at}
 use Rattle.run.specs.Run.{Moment, released-at, released-after, next-time, moment, run, record-entries, record-bytes}
 use Rattle.run.specs.Putting.{put-all}
 use Rattle.run.specs.Advance.{Advances, Made, Steps}
-use Rattle.run.specs.Pieces.{Leads, most, Makes}
+use Rattle.run.specs.Pieces.{Leads, Makes}
 use Rattle.run.proofs.Listing.{in-part, behind-part}
 use Rattle.run.proofs.Slices.{laid-none, laid-both, laid-length, put-all-laid, rest-laid, rest-length, put-all-length}
 use Rattle.run.proofs.InOrder.{moment-most}
@@ -49,7 +50,7 @@ unfolding record-bytes record-entries
 bytes-one m = ap (each entry-bytes) (append-nil (entries (m .time) (m .occurred)))
 
 -- what so many moments leave at most
-pub bytes-most : (ms : List Moment) → length (record-bytes ms) ≤ most * length ms
+pub bytes-most : (ms : List Moment) → length (record-bytes ms) ≤ instant-most * length ms
 unfolding record-bytes record-entries each
 bytes-most [] = omega arith
 bytes-most (m ∷ ms) =
@@ -155,19 +156,19 @@ module _ {rest : List ℕ} {d : State} {budget : ℕ} {before : List ℕ} {k : K
       size-is : x .size ≡ length (moment-bytes (moment (read k b) (x .time) (released-at (x .time) (releases-at rest at))))
       size-is = steps .puts .place-is ∙ omega arith
 
-      small : x .size ≤ most
+      small : x .size ≤ instant-most
       small = omega (arith, size-is, moment-most (x .time) (next .occurred))
 
-      pub puts : most ≤ length out - size → size + x .size ≤ length out
+      pub puts : instant-most ≤ length out - size → size + x .size ≤ length out
       puts room = omega (arith, small, g .fits, g .same)
 
       -- what the instant leaves is laid behind what was laid before
-      pub moves : {out' : List ℕ} → (left ≡ 0 → ⊥) → most ≤ length out - size
+      pub moves : {out' : List ℕ} → (left ≡ 0 → ⊥) → instant-most ≤ length out - size
           → out' ≡ take size out ++ (rest-after ++ drop (length out - size) (drop size out))
           → Reached rest d budget before k' b' (at + x .read) (size + x .size) (left - 1) out'
       moves {out'} some room e =
           let es : List RecordEntry = entries (x .time) (next .occurred) in
-          let few : length (each entry-bytes es) ≤ most = moment-most (x .time) (next .occurred) in
+          let few : length (each entry-bytes es) ≤ instant-most = moment-most (x .time) (next .occurred) in
           let done : List ℕ = record-bytes (g .moments) in
           let bytes : List ℕ = moment-bytes next in
           let all : record-bytes (g .moments ++ (next ∷ [])) ≡ done ++ bytes = bytes-both (g .moments) (next ∷ []) ∙ ap (λ (z : List ℕ). done ++ z) (bytes-one next) in
@@ -225,7 +226,7 @@ module _ {rest : List ℕ} (d : Dispatcher) {budget : ℕ} {before : List ℕ} {
   }
 
   -- or before it
-  pub stops : x .ended ≡ false → x .left ≡ left → (x .left ≡ 0) ⊎ (length before < x .size + most) → Makes rest d budget before x out'
+  pub stops : x .ended ≡ false → x .left ≡ left → (x .left ≡ 0) ⊎ (length before < x .size + instant-most) → Makes rest d budget before x out'
   stops e same why = record {
     moments = g .moments;
     leads = in-state (state-of d) (releases-at rest 0) (g .moments) (releases-at rest (x .read)) (state-is (x .state) ek eb) (g .leads);
@@ -245,7 +246,7 @@ module _ {rest : List ℕ} (d : Dispatcher) {budget : ℕ} {before : List ℕ} {
 
 module _ {rest : List ℕ} {d : Dispatcher} {budget : ℕ} {out : List ℕ} {x : Piece} {out' : List ℕ} (m : Makes rest d budget out x out') where
   -- a piece moves on, where there is room for an instant
-  pub moves-on : (budget ≡ 0 → ⊥) → most ≤ length out → x .left < budget
+  pub moves-on : (budget ≡ 0 → ⊥) → instant-most ≤ length out → x .left < budget
   moves-on some room = by-test (x .ended) (λ h. omega (arith, m .ended-is h .0, some-is)) (λ h. ⊎-elim
       (λ e. omega (arith, e, some-is))
       (λ l. omega (arith, m .left-is h, l, m .size-is, bytes-most (m .moments)))
@@ -255,7 +256,7 @@ module _ {rest : List ℕ} {d : Dispatcher} {budget : ℕ} {out : List ℕ} {x :
       some-is = omega arith
 
   -- what it leaves can be counted
-  pub grows : x .size + most * x .left ≤ most * budget
+  pub grows : x .size + instant-most * x .left ≤ instant-most * budget
   grows = omega (arith, m .few, m .size-is, bytes-most (m .moments))
 
   -- the slice keeps its length, and has the piece's bytes in its front

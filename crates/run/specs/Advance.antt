@@ -6,6 +6,7 @@ use Rattle.rules.specs.Instant.{due, sooner, step-a, step-e, step-f, at-g, occu
 use Rattle.rules.specs.Registers.{phase-in}
 use Rattle.rules.specs.Steps.{Stands, CopiesOut}
 use Rattle.rules.specs.Kept.{Kept, kept, Whole, by-task, Beside, beside, registers-in, read}
+use Rattle.entries.specs.Entries.{size}
 use Rattle.rules.specs.Entries.{done-entries, entries}
 use Rattle.run.specs.Types.{List, [], _∷_, ℕ, _-_, _*_, _^_, _≤_, RecordEntry, IntervalEnded, State, Stage, Closed, NoInterval, Span, Batch, Advanced}
 use Rattle.run.specs.Listed.{releases-at}
@@ -18,7 +19,7 @@ use Rattle.run.specs.Putting.{Puts}
 pub record Gathered (rest : List ℕ) (t : ℕ) (b : Batch) : Type 0 where
   pub set-is : b .set ≡ released-at t (releases-at rest 0)
   pub after : releases-at rest (b .read) ≡ released-after t (releases-at rest 0)
-  pub read-is : b .read ≡ 10 * (length (releases-at rest 0) - length (released-after t (releases-at rest 0)))
+  pub read-is : b .read ≡ size 2 * (length (releases-at rest 0) - length (released-after t (releases-at rest 0)))
   pub within : b .read ≤ length rest
 
 -- when the next instant is: the sooner of the next release and the next due time; the last tick stands for none

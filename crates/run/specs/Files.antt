@@ -1,11 +1,12 @@
--- An input's entries, checked entry by entry: task entries, then release entries rising strictly by time and then task number; at
--- most 4,096 releases.
-use Rattle.run.specs.Types.{Bool, true, false, cond, not, _&&_, _||_, List, [], _∷_, ℕ, zero, suc, _+_, Release, Malformed, TaskEntry, ReleaseEntry, Last, NoneBefore, Before, TaskPart, Refusal, NoRefusal, Alone, AtEntry}
+-- An input's entries, checked entry by entry: its head, then release entries rising strictly by time and then task number, no more of them
+-- than `limits.releases`.
+use Rattle.run.specs.Types.{Bool, true, false, cond, not, _&&_, _||_, List, [], _∷_, ℕ, zero, suc, _+_, Release, Malformed, TaskEntry, ReleaseEntry, Last, NoneBefore, Before, Head, Refusal, NoRefusal, Alone, AtEntry}
 use lib.Dec.{ltb, leb, eqb}
 use lib.ListN.{length}
 use Rattle.sets.specs.Sets.{member}
-use Rattle.entries.specs.Entries.{entry-at}
-use Rattle.table.specs.TaskPart.{no-table, task-part}
+use Rattle.entries.specs.Entries.{size, entry-at}
+use Rattle.entries.specs.Limits as limits
+use Rattle.table.specs.Head.{refused, head-of}
 
 unfoldable pub rises : Last → Release → Bool
 rises NoneBefore r = true
@@ -15,9 +16,9 @@ rises (Before l) r = ltb (l .time) (r .time) || (eqb (l .time) (r .time) && ltb 
 unfoldable pub release-refusal : ℕ → Last → ℕ → Release → ℕ
 release-refusal present last count r =
     cond (not (member (r .task) present)) 8
-    (cond (ltb 1000000000 (r .time)) 10
+    (cond (ltb limits.last-release (r .time)) 10
     (cond (not (rises last r)) 9
-    (cond (leb 4096 count) 11 0)))
+    (cond (leb limits.releases count) 11 0)))
 
 -- the releases, or the first refusal
 pub data Checked : Type 0 where
@@ -42,27 +43,27 @@ releases-from (suc k) s at present last count =
         | Malformed n ↦ Rejected (AtEntry n at)
         | TaskEntry p ↦ Rejected (AtEntry 3 at)
         | ReleaseEntry r ↦ elim (release-refusal present last count r) [
-          | zero ↦ with-release r (releases-from k s (at + 10) present (Before r) (count + 1))
+          | zero ↦ with-release r (releases-from k s (at + size 2) present (Before r) (count + 1))
           | suc n ↦ Rejected (AtEntry (suc n) at)
         ]
       ]
     ]
 
-abbrev pub releases-behind : List ℕ → TaskPart → Refusal → Checked
+abbrev pub releases-behind : List ℕ → Head → Refusal → Checked
 releases-behind s k NoRefusal = releases-from (length s) s (k .end) (k .table .present) NoneBefore 0
 releases-behind s k (Alone n) = Rejected (Alone n)
 releases-behind s k (AtEntry n at) = Rejected (AtEntry n at)
 
 -- 12 where the input is empty
 unfoldable pub releases-of : List ℕ → Checked
-releases-of s = cond (eqb (length s) 0) (Rejected (Alone 12)) (let k : TaskPart = task-part s in releases-behind s k (k .refusal))
+releases-of s = cond (eqb (length s) 0) (Rejected (Alone 12)) (let k : Head = head-of s in releases-behind s k (k .refusal))
 
--- ---- The task part of an input that is accepted; of one that is refused the first refusal, and no task
+-- ---- The head of an input that is accepted; of one that is refused the first refusal, and no task
 
-abbrev pub part-of : TaskPart → Refusal → TaskPart
-part-of k NoRefusal = k
-part-of k (Alone n) = record { table = no-table; marked = 0; end = 0; refusal = Alone n }
-part-of k (AtEntry n at) = record { table = no-table; marked = 0; end = 0; refusal = AtEntry n at }
+abbrev pub head-unless : Head → Refusal → Head
+head-unless k NoRefusal = k
+head-unless k (Alone n) = refused (Alone n)
+head-unless k (AtEntry n at) = refused (AtEntry n at)
 
-unfoldable pub file-part : List ℕ → TaskPart
-file-part s = part-of (task-part s) (refusal-of (releases-of s))
+unfoldable pub file-head : List ℕ → Head
+file-head s = head-unless (head-of s) (refusal-of (releases-of s))

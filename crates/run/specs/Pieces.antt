@@ -4,6 +4,7 @@ use mathlib.Core.Logic.{_⊎_}
 use Prim.Native.Nat.{_<_}
 use lib.ListN.{length}
 use Rattle.entries.specs.Entries.{laid}
+use Rattle.entries.specs.Limits.{instant-most}
 use Rattle.rules.specs.Steps.{Stands}
 use Rattle.dispatcher.specs.Dispatcher.{state-of}
 use Rattle.run.specs.Types.{true, false, List, [], _∷_, _++_, ℕ, _+_, _-_, _^_, _≤_, Release, State, Tick, Dispatcher, Piece}
@@ -17,10 +18,6 @@ Leads d rs [] d' rs' = (d ≡ d') × (rs ≡ rs')
 Leads d rs (m ∷ ms) d' rs' =
     (next-time d rs ≡ Tick (m .time)) × (m ≡ moment d (m .time) (released-at (m .time) rs))
     × Leads (m .state) (released-after (m .time) rs) ms d' rs'
-
--- the most bytes that one instant leaves: a job done, an interval ended, 32 releases skipped
-abbrev pub most : ℕ
-most = 371
 
 -- What a piece of a run is: the moments that were made lead from the dispatcher handed in, with the releases from the slice's start on, to
 -- the one handed back, with the releases behind what was read; their entries are laid over the front of the slice that is lent.
@@ -37,6 +34,6 @@ pub record Makes (rest : List ℕ) (d : Dispatcher) (budget : ℕ) (out : List �
   -- the run has come to its end: no instant is left before the last tick
   pub ended-is : x .ended ≡ true → (x .left ≡ 0) × Stands (2 ^ 64 - 1) (next-time (state-of (x .state)) (releases-at rest (x .read)))
   -- or the budget is spent, or there may be no room for another instant
-  pub stopped : x .ended ≡ false → (x .left ≡ 0) ⊎ (length out < x .size + most)
+  pub stopped : x .ended ≡ false → (x .left ≡ 0) ⊎ (length out < x .size + instant-most)
   pub left-is : x .ended ≡ false → x .left + length moments ≡ budget
   pub few : x .left + length moments ≤ budget

@@ -1,12 +1,13 @@
 -- The run of a file: its releases and all due times, instant by instant, with no mark call, until nothing is pending; and its record, in
 -- the order in which things occur. No instant of a file's run is refused, so that nothing is said of refusals here: the moments are what the
 -- calls answer that feed the file to a dispatcher (record/specs/FileClaim `gives-record`).
-use Rattle.run.specs.Types.{true, false, List, [], _∷_, _++_, ℕ, zero, suc, _+_, _*_, Release, TaskPart, State, RecordEntry, Due, Never, Tick, Occurred}
+use Rattle.run.specs.Types.{true, false, List, [], _∷_, _++_, ℕ, zero, suc, Release, Head, State, RecordEntry, Due, Never, Tick, Occurred}
 use lib.Dec.{eqb}
 use lib.ListN.{length}
 use Rattle.sets.specs.Sets.{insert}
 use Rattle.entries.specs.Entries.{entry-bytes, each}
-use Rattle.table.specs.TaskPart.{task-part}
+use Rattle.entries.specs.Limits.{budget}
+use Rattle.table.specs.Head.{head-of}
 use Rattle.rules.specs.Instant.{due, sooner, at-g, occurred}
 use Rattle.rules.specs.Entries.{entries}
 use Rattle.rules.specs.Calls.{opened}
@@ -52,13 +53,9 @@ run (suc k) d rs =
       | Tick t ↦ let m : Moment = moment d t (released-at t rs) in m ∷ run k (m .state) (released-after t rs)
     ]
 
--- as many instants as no run of n releases needs
-abbrev pub budget : ℕ → ℕ
-budget n = 32 * n + 32
-
 -- the run of an input with its releases
 unfoldable pub moments-of : List ℕ → List Release → List Moment
-moments-of s rs = let k : TaskPart = task-part s in run (budget (length rs)) (opened (k .table) (k .marked)) rs
+moments-of s rs = let k : Head = head-of s in run (budget (length rs)) (opened (k .table) (k .marked)) rs
 
 -- ---- The record
 

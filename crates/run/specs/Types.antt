@@ -1,5 +1,5 @@
 -- The names that the definitions share. Those that lower crates declare are passed on to the crates above.
-pub use Rattle.rules.specs.Types.{Closed, NoInterval, Span, Table, TaskPart, Refusal, NoRefusal, Alone, AtEntry, JobEntry, IntervalEntry, RecordEntry, JobDone, IntervalEnded, ReleaseSkipped, State, WaitingReleases, Stage, Interval, Phase, Between, Within}
+pub use Rattle.rules.specs.Types.{Closed, NoInterval, Span, Table, Head, Refusal, NoRefusal, Alone, AtEntry, JobEntry, IntervalEntry, RecordEntry, JobDone, IntervalEnded, ReleaseSkipped, State, WaitingReleases, Stage, Interval, Phase, Between, Within}
 pub use Rattle.rules.specs.declared.Done.{Done}
 pub use Rattle.rules.specs.declared.Done.the-variants.{NoJob, Job}
 pub use Rattle.rules.specs.declared.Closing.{Closing}
@@ -23,3 +23,7 @@ pub use Rattle.dispatcher.specs.declared.Dispatcher.{Dispatcher}
 pub use mathlib.Core.Bool.{Bool, true, false, cond, not, _&&_, _||_}
 pub use mathlib.Core.List.{List, [], _∷_, _++_}
 pub use Prim.Native.Nat.{ℕ, zero, suc, _+_, _-_, _*_, _^_, _≤_}
+
+-- the head under its former name, for the programs
+abbrev pub TaskPart : Type 0
+TaskPart = Head

@@ -1,13 +1,13 @@
-// An input, checked entry by entry: its task part, then of the entries behind it 2, 1, then 3 of a task and 8, 10, 9, 11 of a release.
+// An input, checked entry by entry: its head, then of the entries behind it 2, 1, then 3 of a task and 8, 10, 9, 11 of a release.
 use crate::Last;
 use entries::Entry;
 use entries::RELEASE_SIZE;
 use entries::Release;
+use entries::limits;
+use table::Head;
 use table::Refusal;
-use table::TaskPart;
 ghost use mathlib.Core.Path.{_≡_};
 ghost use Rattle.run.specs.Files as files;
-ghost use Rattle.table.specs.TaskPart as part;
 ghost use lib.ListN.{length};
 
 // Rising strictly by time and then task number.
@@ -35,13 +35,13 @@ fn release_refusal(present: u32, last: Last, count: usize, r: Release) -> u8
     if !sets::contains(present, r.task) {
         return 8;
     }
-    if 1000000000 < r.time {
+    if limits::LAST_RELEASE < r.time {
         return 10;
     }
     if !rises(last, r) {
         return 9;
     }
-    if 4096 <= count {
+    if limits::RELEASES <= count {
         return 11;
     }
     0
@@ -79,43 +79,31 @@ fn check_releases(s: &[u8], start: usize, present: u32) -> Refusal
     }
 }
 
-// Where an input is refused nothing is told of its tasks.
-fn refused(refusal: Refusal) -> TaskPart
-    ensures { λ r. ⌜ r ≡ record { table = part.no-table; marked = 0; end = 0; refusal = refusal } ⌝ }
+// The releases behind a head that is not refused: the head, or their first refusal.
+pub fn check_behind(s: &[u8], head: Head) -> Head
+    ensures { λ r. ⌜ r ≡ files.head-unless head (files.refusal-of (files.releases-from (length (now (s .entry))) (now (s .entry)) (head .end) (head .table .present) Last.NoneBefore 0)) ⌝ }
 {
-    TaskPart {
-        table: table::no_table(),
-        marked: 0,
-        end: 0,
-        refusal,
-    }
-}
-
-// The releases behind a task part that is not refused: the part, or their first refusal.
-pub fn check_behind(s: &[u8], part: TaskPart) -> TaskPart
-    ensures { λ r. ⌜ r ≡ files.part-of part (files.refusal-of (files.releases-from (length (now (s .entry))) (now (s .entry)) (part .end) (part .table .present) Last.NoneBefore 0)) ⌝ }
-{
-    let table = part.table;
-    let refusal = check_releases(s, part.end, table.present);
+    let table = head.table;
+    let refusal = check_releases(s, head.end, table.present);
     match refusal {
-        Refusal::NoRefusal => part,
-        Refusal::Alone(_) => refused(refusal),
-        Refusal::AtEntry(_, _) => refused(refusal),
+        Refusal::NoRefusal => head,
+        Refusal::Alone(_) => table::refused(refusal),
+        Refusal::AtEntry(_, _) => table::refused(refusal),
     }
 }
 
-// The task part of an input that is accepted, or the first refusal of its entries.
-pub fn check_file(s: &[u8]) -> TaskPart
-    ensures { λ r. ⌜ r ≡ files.file-part (now (s .entry)) ⌝ }
+// The head of an input that is accepted, or the first refusal of its entries.
+pub fn check_file(s: &[u8]) -> Head
+    ensures { λ r. ⌜ r ≡ files.file-head (now (s .entry)) ⌝ }
 {
     if s.len() == 0 {
-        return refused(Refusal::Alone(12));
+        return table::refused(Refusal::Alone(12));
     }
-    let part = table::read(s);
-    let refusal = part.refusal;
+    let head = table::head_of(s);
+    let refusal = head.refusal;
     match refusal {
-        Refusal::NoRefusal => check_behind(s, part),
-        Refusal::Alone(_) => refused(refusal),
-        Refusal::AtEntry(_, _) => refused(refusal),
+        Refusal::NoRefusal => check_behind(s, head),
+        Refusal::Alone(_) => table::refused(refusal),
+        Refusal::AtEntry(_, _) => table::refused(refusal),
     }
 }

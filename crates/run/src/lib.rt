@@ -17,9 +17,6 @@ pub enum Last {
     Before(Release),
 }
 
-// The most bytes that one instant leaves in a record: a job done, an interval ended, 32 releases skipped.
-pub const MOST: usize = entries::JOB_SIZE + entries::INTERVAL_SIZE + 32 * entries::SKIPPED_SIZE;
-
 // A run advanced by one instant: the instant's time, how many bytes of the releases were read, and how many bytes the instant leaves in
 // the record. The last tick stands for no instant: the run has come to its end.
 pub struct Advanced {

@@ -1,8 +1,8 @@
 // The one loop over a run's instants.
-use crate::MOST;
 use crate::Piece;
 use crate::instant::advance;
 use dispatcher::Dispatcher;
+use entries::limits::INSTANT_MOST;
 ghost use Rattle.run.specs.Pieces.{Makes};
 
 // A piece of a run: from the dispatcher `d`, with the releases in `rest`, as many instants as `budget` allows and as there is room for. It
@@ -21,7 +21,7 @@ pub fn next_piece(rest: &[u8], d: Dispatcher, budget: usize, out: &mut [u8]) -> 
     let mut left = budget;
     let mut ended = false;
     while left != 0 {
-        if out.len() - size < MOST {
+        if out.len() - size < INSTANT_MOST {
             break;
         }
         let x = advance(

@@ -19,7 +19,7 @@ fn first_tick(rest: &[u8]) -> u64
     if rest.len() < RELEASE_SIZE {
         return u64::MAX;
     }
-    words::get_u64(rest, 2)
+    entries::release_time(rest)
 }
 
 // The releases at a time.
@@ -31,7 +31,7 @@ pub fn gather(rest: &[u8], t: u64) -> Batch
     let mut at: usize = 0;
     while first_tick(&rest[at..]) == t {
         let next = &rest[at..];
-        set = sets::insert(set, words::get_u8(next, 1));
+        set = sets::insert(set, entries::release_task(next));
         at += RELEASE_SIZE;
     }
     Batch { set, read: at }

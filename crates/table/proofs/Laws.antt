@@ -1,4 +1,4 @@
--- `tasks-from` by cases, one law for each way that a turn of the reading goes, and the search for a priority given before. Assumes nothing.
+-- `head-from` by cases, one law for each way that a turn of the reading goes, and the search for a priority given before. Assumes nothing.
 use mathlib.Core.Path.{_≡_, refl, sym, ap, _∙_}
 use mathlib.Core.Bool.{Bool, true, false, _&&_, _||_}
 use mathlib.Core.Logic.{_⊎_, inl, inr, ⊎-elim}
@@ -6,30 +6,31 @@ use mathlib.Core.List.{List}
 use Prim.Native.Nat.{ℕ, zero, suc, _+_, _-_, _^_, _≤_, _<_}
 use native.Mathlib.Nat.{not-suc-le-zero}
 use native.Mathlib.Omega.{arith}
-use borrow.Author.Tests.{eqb-true, eq-eqb, ne-eqb, leb-true, le-leb, lt-leb, ltb-false}
-use lib.Dec.{eqb, leb, ltb}
+use borrow.Author.Tests.{eqb-true, eq-eqb, ne-eqb, leb-true, le-leb, leb-false, lt-leb}
+use lib.Dec.{eqb, leb}
 use lib.ListN.{length, getD}
 use Rattle.sets.specs.Sets.{member, remove}
 use Rattle.sets.proofs.Laws.{by-test, clash, none, both, either-left, either-right, remove-in, remove-out, remove-small}
 use Rattle.words.specs.Words.{numberAt}
-use Rattle.entries.specs.Entries.{entry-at, release-at}
-use Rattle.table.specs.Types.{TaskParameters, Release, Entry, Malformed, TaskEntry, ReleaseEntry, Table, TaskPart}
-use Rattle.table.specs.TaskPart.{no-table, behind-tasks, given, number-refused, mark-or-length-refusal, task-refusal, with-task, with-marked, refused-at, read-to, tasks-from, task-part}
+use Rattle.entries.specs.Entries.{is-release, entry-at, release-at}
+use Rattle.entries.specs.Limits as limits
+use Rattle.table.specs.Types.{TaskParameters, Release, Entry, Malformed, TaskEntry, ReleaseEntry, Table, Head}
+use Rattle.table.specs.Head.{no-table, behind-head, given, number-refused, mark-or-length-refusal, task-refusal, with-task, with-marked, refused-at, read-to, head-from, head-of}
 
 -- ---- a turn of the reading
 
 module _ (s : List ℕ) (at : ℕ) where
-  pub behind-end : length s ≤ at → behind-tasks s at ≡ true
-  unfolding behind-tasks
+  pub behind-end : length s ≤ at → behind-head s at ≡ true
+  unfolding behind-head
   behind-end h = rw (le-leb (length s) at h)
 
-  pub behind-release : numberAt 1 s at ≡ 2 → behind-tasks s at ≡ true
-  unfolding behind-tasks
-  behind-release h = either-right (leb (length s) at) (eqb (numberAt 1 s at) 2) (eq-eqb (numberAt 1 s at) 2 h)
+  pub behind-release : is-release s at ≡ true → behind-head s at ≡ true
+  unfolding behind-head
+  behind-release h = either-right (leb (length s) at) (is-release s at) h
 
-  pub before-release : at < length s → (numberAt 1 s at ≡ 2 → ⊥) → behind-tasks s at ≡ false
-  unfolding behind-tasks
-  before-release l h = rw (lt-leb (length s) at l, ne-eqb (numberAt 1 s at) 2 h)
+  pub before-release : at < length s → is-release s at ≡ false → behind-head s at ≡ false
+  unfolding behind-head
+  before-release l h = rw (lt-leb (length s) at l, h)
 
   -- a task entry is whole
   pub task-whole : (p : TaskParameters) → entry-at s at ≡ TaskEntry p → 16 ≤ length s - at
@@ -48,48 +49,48 @@ module _ (s : List ℕ) (at : ℕ) where
       release r h = let z : _≡_ {A = ℕ} 0 1 = cc in omega arith
 
 module _ (s : List ℕ) (at : ℕ) (t : Table) (m : ℕ) where
-  pub at-end : (k : ℕ) → behind-tasks s at ≡ true → tasks-from k s at t m ≡ read-to t m at
-  unfolding tasks-from
+  pub at-end : (k : ℕ) → behind-head s at ≡ true → head-from k s at t m ≡ read-to t m at
+  unfolding head-from
   at-end zero h = refl
-  at-end (suc k) h = rw (h, tasks-from)
+  at-end (suc k) h = rw (h, head-from)
 
-  module _ (k : ℕ) (more : behind-tasks s at ≡ false) where
-    pub malformed : (n : ℕ) → entry-at s at ≡ Malformed n → tasks-from (suc k) s at t m ≡ refused-at n at
-    unfolding tasks-from
-    malformed n e = rw (more, tasks-from, e)
+  module _ (k : ℕ) (more : behind-head s at ≡ false) where
+    pub malformed : (n : ℕ) → entry-at s at ≡ Malformed n → head-from (suc k) s at t m ≡ refused-at n at
+    unfolding head-from
+    malformed n e = rw (more, head-from, e)
 
-    pub released : (r : Release) → entry-at s at ≡ ReleaseEntry r → tasks-from (suc k) s at t m ≡ read-to t m at
-    unfolding tasks-from
-    released r e = rw (more, tasks-from, e)
+    pub released : (r : Release) → entry-at s at ≡ ReleaseEntry r → head-from (suc k) s at t m ≡ read-to t m at
+    unfolding head-from
+    released r e = rw (more, head-from, e)
 
-    pub refuses : (p : TaskParameters) (n : ℕ) → entry-at s at ≡ TaskEntry p → task-refusal t p ≡ n → (n ≡ 0 → ⊥) → tasks-from (suc k) s at t m ≡ refused-at n at
-    unfolding tasks-from
+    pub refuses : (p : TaskParameters) (n : ℕ) → entry-at s at ≡ TaskEntry p → task-refusal t p ≡ n → (n ≡ 0 → ⊥) → head-from (suc k) s at t m ≡ refused-at n at
+    unfolding head-from
     refuses p zero e r h = absurd (h refl)
-    refuses p (suc n) e r h = rw (more, tasks-from, e, r)
+    refuses p (suc n) e r h = rw (more, head-from, e, r)
 
     pub takes : (p : TaskParameters) → entry-at s at ≡ TaskEntry p → task-refusal t p ≡ 0
-        → tasks-from (suc k) s at t m ≡ tasks-from k s (at + 16) (with-task t p) (with-marked m p)
-    unfolding tasks-from
-    takes p e r = rw (more, tasks-from, e, r)
+        → head-from (suc k) s at t m ≡ head-from k s (at + 16) (with-task t p) (with-marked m p)
+    unfolding head-from
+    takes p e r = rw (more, head-from, e, r)
 
 -- what is left to read, read from here, gives what the whole gives
 pub record Rest (s : List ℕ) (at : ℕ) (t : Table) (m : ℕ) : Type 0 where
   pub fuel : ℕ
   pub enough : length s - at ≤ fuel
-  pub same : tasks-from fuel s at t m ≡ task-part s
+  pub same : head-from fuel s at t m ≡ head-of s
 
 module _ (s : List ℕ) (at : ℕ) (t : Table) (m : ℕ) (rest : Rest s at t m) (l : at < length s) where
-  pub turn : (x : TaskPart) → ((k : ℕ) → tasks-from (suc k) s at t m ≡ x) → x ≡ task-part s
+  pub turn : (x : Head) → ((k : ℕ) → head-from (suc k) s at t m ≡ x) → x ≡ head-of s
   turn x h = go (rest .fuel) (rest .enough) (rest .same)
     where
-      go : (k : ℕ) → length s - at ≤ k → tasks-from k s at t m ≡ task-part s → x ≡ task-part s
+      go : (k : ℕ) → length s - at ≤ k → head-from k s at t m ≡ head-of s → x ≡ head-of s
       go zero e q = absurd (omega arith)
       go (suc k) e q = sym (h k) ∙ q
 
-  pub turn-on : (t′ : Table) (m′ : ℕ) → ((k : ℕ) → tasks-from (suc k) s at t m ≡ tasks-from k s (at + 16) t′ m′) → Rest s (at + 16) t′ m′
+  pub turn-on : (t′ : Table) (m′ : ℕ) → ((k : ℕ) → head-from (suc k) s at t m ≡ head-from k s (at + 16) t′ m′) → Rest s (at + 16) t′ m′
   turn-on t′ m′ h = go (rest .fuel) (rest .enough) (rest .same)
     where
-      go : (k : ℕ) → length s - at ≤ k → tasks-from k s at t m ≡ task-part s → Rest s (at + 16) t′ m′
+      go : (k : ℕ) → length s - at ≤ k → head-from k s at t m ≡ head-of s → Rest s (at + 16) t′ m′
       go zero e q = absurd (omega arith)
       go (suc k) e q = record { fuel = k; enough = omega arith; same = sym (h k) ∙ q }
 
@@ -161,7 +162,7 @@ module _ (t : Table) (p : TaskParameters) where
 
 pub number-small : (present n : ℕ) → number-refused present n ≡ false → n < 32
 unfolding number-refused
-number-small present n h = omega (arith, ltb-false 31 n (first (ltb 31 n) (member n present) h))
+number-small present n h = omega (arith, leb-false limits.tasks n (first (leb limits.tasks n) (member n present) h))
   where
     first : (a b : Bool) → (a || b) ≡ false → a ≡ false
     first true b h = h
@@ -173,7 +174,7 @@ unfolding number-refused
 number-new t p e =
     by-test (number-refused (t .present) (p .number))
     (λ r. absurd (other 3 (sym (number-first t p r) ∙ e)))
-    (λ r. (number-small (t .present) (p .number) r, neither-right (ltb 31 (p .number)) (member (p .number) (t .present)) r))
+    (λ r. (number-small (t .present) (p .number) r, neither-right (leb limits.tasks (p .number)) (member (p .number) (t .present)) r))
   where
     other : (n : ℕ) → suc n ≡ 0 → ⊥
     other n h = omega arith
@@ -182,38 +183,38 @@ number-new t p e =
     neither-right true b h = clash true refl h
     neither-right false b h = h
 
--- ---- where the task part ends
+-- ---- where the head ends
 
 -- what holds of a place and the table read up to it, and goes on from a task entry that is taken to the next, holds where reading ends
 module _ (s : List ℕ) (Holds : ℕ → Table → Type 0)
     (on : (at : ℕ) (t : Table) (p : TaskParameters) → entry-at s at ≡ TaskEntry p → task-refusal t p ≡ 0 → Holds at t → Holds (at + 16) (with-task t p))
   where
-    abbrev Ends : TaskPart → Type 0
+    abbrev Ends : Head → Type 0
     Ends x = (x .end ≡ 0) ⊎ Holds (x .end) (x .table)
 
-    pub ends : (k at : ℕ) (t : Table) (m : ℕ) → Holds at t → Ends (tasks-from k s at t m)
-    unfolding tasks-from
+    pub ends : (k at : ℕ) (t : Table) (m : ℕ) → Holds at t → Ends (head-from k s at t m)
+    unfolding head-from
     ends zero at t m h = inr h
-    ends (suc k) at t m h = go-behind (behind-tasks s at) refl (λ p e r. ends k (at + 16) (with-task t p) (with-marked m p) (on at t p e r h))
+    ends (suc k) at t m h = go-behind (behind-head s at) refl (λ p e r. ends k (at + 16) (with-task t p) (with-marked m p) (on at t p e r h))
       where
         More : Type 0
-        More = (p : TaskParameters) → entry-at s at ≡ TaskEntry p → task-refusal t p ≡ 0 → Ends (tasks-from k s (at + 16) (with-task t p) (with-marked m p))
+        More = (p : TaskParameters) → entry-at s at ≡ TaskEntry p → task-refusal t p ≡ 0 → Ends (head-from k s (at + 16) (with-task t p) (with-marked m p))
 
-        go-refusal : (p : TaskParameters) (n : ℕ) → behind-tasks s at ≡ false → entry-at s at ≡ TaskEntry p → task-refusal t p ≡ n → More → Ends (tasks-from (suc k) s at t m)
-        go-refusal p zero b e r rec = rw (b, tasks-from, e, r) (rec p e r)
-        go-refusal p (suc n) b e r rec = rw (b, tasks-from, e, r) (inl refl)
+        go-refusal : (p : TaskParameters) (n : ℕ) → behind-head s at ≡ false → entry-at s at ≡ TaskEntry p → task-refusal t p ≡ n → More → Ends (head-from (suc k) s at t m)
+        go-refusal p zero b e r rec = rw (b, head-from, e, r) (rec p e r)
+        go-refusal p (suc n) b e r rec = rw (b, head-from, e, r) (inl refl)
 
-        go-entry : (x : Entry) → behind-tasks s at ≡ false → entry-at s at ≡ x → More → Ends (tasks-from (suc k) s at t m)
-        go-entry (Malformed n) b e rec = rw (b, tasks-from, e) (inl refl)
-        go-entry (ReleaseEntry r) b e rec = rw (b, tasks-from, e) (inr h)
+        go-entry : (x : Entry) → behind-head s at ≡ false → entry-at s at ≡ x → More → Ends (head-from (suc k) s at t m)
+        go-entry (Malformed n) b e rec = rw (b, head-from, e) (inl refl)
+        go-entry (ReleaseEntry r) b e rec = rw (b, head-from, e) (inr h)
         go-entry (TaskEntry p) b e rec = go-refusal p (task-refusal t p) b e refl rec
 
-        go-behind : (b : Bool) → behind-tasks s at ≡ b → More → Ends (tasks-from (suc k) s at t m)
-        go-behind true e rec = rw (e, tasks-from) (inr h)
+        go-behind : (b : Bool) → behind-head s at ≡ b → More → Ends (head-from (suc k) s at t m)
+        go-behind true e rec = rw (e, head-from) (inr h)
         go-behind false e rec = go-entry (entry-at s at) e refl rec
 
-pub part-within : (s : List ℕ) → task-part s .end ≤ length s
-unfolding task-part
-part-within s =
+pub head-within : (s : List ℕ) → head-of s .end ≤ length s
+unfolding head-of
+head-within s =
     ⊎-elim (λ e. omega arith) (λ h. h)
     (ends s (λ at t. at ≤ length s) (λ at t p e r h. omega (arith, task-whole s at p e)) (length s) 0 no-table 0 (omega arith))

@@ -1,3 +1,4 @@
 pub mod Laws
 pub mod Columns
 pub mod Front
+pub mod Alone

@@ -1,4 +1,4 @@
 pub mod Types
 pub mod Table
-pub mod TaskPart
+pub mod Head
 pub mod Refusals

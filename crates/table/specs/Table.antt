@@ -1,7 +1,8 @@
--- The columns of the table: what it has for each task in 32 bits, a column of 32 behind the other.
+-- The columns of the table: what it has for each task in 32 bits, a column behind the other.
 use mathlib.Core.List.{List}
-use Prim.Native.Nat.{ℕ, _+_}
+use Prim.Native.Nat.{ℕ, _+_, _*_}
 use lib.ListN.{getD, set}
+use Rattle.entries.specs.Limits as limits
 use Rattle.table.specs.Types.{TaskParameters}
 
 -- L, the length of a task's copy-in
@@ -10,13 +11,13 @@ copyin-length columns n = getD columns n 0
 
 -- C, the length of its execution
 abbrev pub execution-length : List ℕ → ℕ → ℕ
-execution-length columns n = getD columns (32 + n) 0
+execution-length columns n = getD columns (limits.tasks + n) 0
 
 -- U, the length of its copy-out
 abbrev pub copyout-length : List ℕ → ℕ → ℕ
-copyout-length columns n = getD columns (64 + n) 0
+copyout-length columns n = getD columns (2 * limits.tasks + n) 0
 
 -- the columns with one task more
 unfoldable pub with-lengths : List ℕ → TaskParameters → List ℕ
 with-lengths columns p =
-    set (set (set columns (p .number) (p .copyin)) (32 + p .number) (p .execution)) (64 + p .number) (p .copyout)
+    set (set (set columns (p .number) (p .copyin)) (limits.tasks + p .number) (p .execution)) (2 * limits.tasks + p .number) (p .copyout)

@@ -6,4 +6,4 @@ pub use Rattle.entries.specs.declared.Entry.the-variants.{Malformed, TaskEntry,
 pub use Rattle.table.specs.declared.Table.{Table}
 pub use Rattle.table.specs.declared.Refusal.{Refusal}
 pub use Rattle.table.specs.declared.Refusal.the-variants.{NoRefusal, Alone, AtEntry}
-pub use Rattle.table.specs.declared.TaskPart.{TaskPart}
+pub use Rattle.table.specs.declared.Head.{Head}

@@ -1,26 +1,28 @@
-// The table of tasks, read from task entries.
+// The head of an input, the part before its releases: the table of tasks that its entries make, or the first refusal.
 use entries::Entry;
+use entries::TASK_SIZE;
 use entries::TaskParameters;
+use entries::limits;
 ghost use mathlib.Core.Path.{_≡_};
 ghost use lib.ListN.{getD};
 ghost use Prim.Native.Nat.{_+_, _<_};
 ghost use Rattle.table.specs.Table as table;
 ghost use Rattle.table.specs.Refusals.{refusal-number, refusal-place};
-ghost use Rattle.table.specs.TaskPart as part;
+ghost use Rattle.table.specs.Head as heads;
 
 // Where the columns of the lengths of execution (C) and copy-out (U) begin; that of copy-in (L) is the first.
-const EXECUTION: usize = 32;
+const EXECUTION: usize = limits::TASKS;
 
-const COPYOUT: usize = 64;
+const COPYOUT: usize = 2 * limits::TASKS;
 
 // What the table has for each task in 32 bits, a column behind the other. They are one array, so that whoever lends them lends one thing,
 // and a further column changes no list of parameters.
-pub type Columns = [u32; 96];
+pub type Columns = [u32; 3 * limits::TASKS];
 
 // The tasks by number: which there are, each one's priority, and the columns.
 pub struct Table {
     pub present: u32,
-    pub priority: [u8; 32],
+    pub priority: [u8; limits::TASKS],
     pub columns: Columns,
 }
 
@@ -31,13 +33,16 @@ pub enum Refusal {
     AtEntry(u8, usize),
 }
 
-// The task entries at the start of an input: the table, the set of marked tasks and the place behind them, or the first refusal.
-pub struct TaskPart {
+// The head of an input: the table, the set of marked tasks and the place behind it, or the first refusal.
+pub struct Head {
     pub table: Table,
     pub marked: u32,
     pub end: usize,
     pub refusal: Refusal,
 }
+
+// The same under its former name, for the programs.
+pub type TaskPart = Head;
 
 // 0 where there is none.
 pub fn number_of(refusal: Refusal) -> u8
@@ -63,12 +68,12 @@ pub fn place_of(refusal: Refusal) -> usize
 
 // The table with no task.
 pub fn no_table() -> Table
-    ensures { λ r. ⌜ r ≡ part.no-table ⌝ }
+    ensures { λ r. ⌜ r ≡ heads.no-table ⌝ }
 {
     Table {
         present: 0,
-        priority: [0; 32],
-        columns: [0; 96],
+        priority: [0; limits::TASKS],
+        columns: [0; 3 * limits::TASKS],
     }
 }
 
@@ -102,19 +107,19 @@ pub fn copyout_length(columns: &[u32], n: u8) -> u32
     entry_of(columns, COPYOUT, n)
 }
 
-// Outside 1 to 1,000,000.
+// No length of a phase.
 fn outside(x: u32) -> bool
-    ensures { λ r. ⌜ r ≡ part.outside x ⌝ }
+    ensures { λ r. ⌜ r ≡ heads.outside x ⌝ }
 {
     if x == 0 {
         return true;
     }
-    1000000 < x
+    limits::LONGEST_PHASE < x
 }
 
 // 6, then 7; 0 is none.
 fn mark_or_length_refusal(p: TaskParameters) -> u8
-    ensures { λ r. ⌜ r ≡ part.mark-or-length-refusal p ⌝ }
+    ensures { λ r. ⌜ r ≡ heads.mark-or-length-refusal p ⌝ }
 {
     if 1 < p.mark {
         return 6;
@@ -131,18 +136,18 @@ fn mark_or_length_refusal(p: TaskParameters) -> u8
     0
 }
 
-// 4: the number is over 31 or was given before.
+// 4: it is no task number, or was given before.
 fn number_refused(present: u32, n: u8) -> bool
-    ensures { λ r. ⌜ r ≡ part.number-refused present n ⌝ }
+    ensures { λ r. ⌜ r ≡ heads.number-refused present n ⌝ }
 {
-    if 31 < n {
+    if limits::TASKS <= n as usize {
         return true;
     }
     sets::contains(present, n)
 }
 
 fn with_marked(marked: u32, p: TaskParameters) -> u32
-    ensures { λ r. ⌜ r ≡ part.with-marked marked p ⌝ }
+    ensures { λ r. ⌜ r ≡ heads.with-marked marked p ⌝ }
 {
     if p.mark == 1 {
         return sets::insert(marked, p.number);
@@ -150,21 +155,28 @@ fn with_marked(marked: u32, p: TaskParameters) -> u32
     marked
 }
 
-fn refused_at(n: u8, at: usize) -> TaskPart
-    ensures { λ r. ⌜ r ≡ part.refused-at n at ⌝ }
+// A head that is refused tells nothing but why.
+pub fn refused(refusal: Refusal) -> Head
+    ensures { λ r. ⌜ r ≡ heads.refused refusal ⌝ }
 {
-    TaskPart {
+    Head {
         table: no_table(),
         marked: 0,
         end: 0,
-        refusal: Refusal::AtEntry(n, at),
+        refusal,
     }
 }
 
-fn read_to(table: Table, marked: u32, at: usize) -> TaskPart
-    ensures { λ r. ⌜ r ≡ part.read-to table marked at ⌝ }
+fn refused_at(n: u8, at: usize) -> Head
+    ensures { λ r. ⌜ r ≡ heads.refused-at n at ⌝ }
 {
-    TaskPart {
+    refused(Refusal::AtEntry(n, at))
+}
+
+fn read_to(table: Table, marked: u32, at: usize) -> Head
+    ensures { λ r. ⌜ r ≡ heads.read-to table marked at ⌝ }
+{
+    Head {
         table,
         marked,
         end: at,
@@ -172,9 +184,9 @@ fn read_to(table: Table, marked: u32, at: usize) -> TaskPart
     }
 }
 
-// The task entries at the start of an input, up to its end or the first release: the table, or the first refusal.
-pub fn read(s: &[u8]) -> TaskPart
-    ensures { λ r. ⌜ r ≡ part.task-part (now (s .entry)) ⌝ }
+// The head of an input, up to its end or the first release entry, which is left to whoever reads on. A further kind of entry is an arm more.
+pub fn head_of(s: &[u8]) -> Head
+    ensures { λ r. ⌜ r ≡ heads.head-of (now (s .entry)) ⌝ }
 {
     let mut t = no_table();
     let mut marked: u32 = 0;
@@ -183,7 +195,7 @@ pub fn read(s: &[u8]) -> TaskPart
         if s.len() <= at {
             break 'entries read_to(t, marked, at);
         }
-        if words::get_u8(s, at) == 2 {
+        if entries::is_release(s, at) {
             break 'entries read_to(t, marked, at);
         }
         let entry = entries::entry_at(s, at);
@@ -218,8 +230,29 @@ pub fn read(s: &[u8]) -> TaskPart
                 t.columns[EXECUTION + i] = p.execution;
                 t.columns[COPYOUT + i] = p.copyout;
                 marked = with_marked(marked, p);
-                at += 16;
+                at += TASK_SIZE;
             }
         }
+    }
+}
+
+// A head with nothing behind it, as at opening: 12 where there is no byte, and 2 for what stands behind it.
+pub fn head_alone(s: &[u8]) -> Head
+    ensures { λ r. ⌜ r ≡ heads.head-alone (now (s .entry)) ⌝ }
+{
+    if s.len() == 0 {
+        return refused(Refusal::Alone(12));
+    }
+    let head = head_of(s);
+    let refusal = head.refusal;
+    match refusal {
+        Refusal::NoRefusal => {
+            if head.end == s.len() {
+                return head;
+            }
+            refused_at(2, head.end)
+        }
+        Refusal::Alone(_) => head,
+        Refusal::AtEntry(_, _) => head,
     }
 }

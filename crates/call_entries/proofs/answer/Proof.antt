@@ -1,6 +1,9 @@
 -- `call_entries::answer` meets its contract: by the entry. Assumes nothing.
-use mathlib.Core.Path.{refl, ap}
+use mathlib.Core.Path.{refl, ap, ap₂, _∙_}
+use Rattle.lines.specs.Lines.{instant-lines, mark-lines}
+use Rattle.lines.specs.Text.{text-of}
 use Rattle.lines.specs.declared.Text.{Text}
+use Rattle.rules.specs.Calls.{Step, MarkStep, after-call}
 use Rattle.dispatcher.specs.Dispatcher.{state-of}
 use Rattle.call_entries.specs.Types.{State}
 use Rattle.call_entries.specs.Calls.{Reply}
@@ -11,49 +14,45 @@ use Rattle.call_entries.proofs.answer.Tie as tie
 abbrev reply : State → Text → Reply
 reply d t = record { state = d; text = t }
 
-enum-known-entry : tie.Need-enum-known-entry
-enum-known-entry c = search needs
-
-call-answered-requires : tie.Need-call-answered-requires
-call-answered-requires c κs = search needs
-
-enum-told : tie.Need-enum-told
-enum-told c = search needs
-
-cut-short-line-requires : tie.Need-cut-short-line-requires
-cut-short-line-requires c κs = search needs
-
-enum-told-2 : tie.Need-enum-told-2
-enum-told-2 c = search needs
-
-cut-short-line-requires-2 : tie.Need-cut-short-line-requires-2
-cut-short-line-requires-2 c κs = search needs
-
 returns : tie.Need-returns
-returns c = rw (c .before .before .entry .given .1) (c .call-answered .ensures)
-
-returns-2 : tie.Need-returns-2
-returns-2 c =
+returns c =
     let d = c .before .before .before .args .d in
     rw (c .before .enum-told .given .1)
     (record { reply-is = ap (reply (state-of d)) (c .cut-short-line .ensures .whole); fits = c .cut-short-line .ensures .fits; untouched = λ u. refl })
 
-returns-3 : tie.Need-returns-3
-returns-3 c =
+returns-2 : tie.Need-returns-2
+returns-2 c =
     let d = c .before .before .before .args .d in
     rw (c .before .enum-told2 .given .1)
     (record { reply-is = ap (reply (state-of d)) (c .cut-short-line2 .ensures .whole); fits = c .cut-short-line2 .ensures .fits; untouched = λ u. refl })
+
+returns-3 : tie.Need-returns-3
+unfolding after-call
+returns-3 c =
+    let step = c .before .before .instant in
+    rw (c .before .before .before .before .entry .given .1)
+    (record {
+      reply-is = ap₂ reply (ap (λ (s : Step). s .state) (step .ensures .step)) (c .instant-lines .ensures .whole ∙ ap (λ (s : Step). text-of (instant-lines (s .answer))) (step .ensures .step));
+      fits = c .instant-lines .ensures .fits;
+      untouched = step .ensures .untouched;
+    })
+
+returns-4 : tie.Need-returns-4
+unfolding after-call
+returns-4 c =
+    let step = c .before .before .mark in
+    rw (c .before .before .before .before .entry2 .given .1)
+    (record {
+      reply-is = ap₂ reply (ap (λ (s : MarkStep). s .state) (step .ensures .step)) (c .mark-lines .ensures .whole ∙ ap (λ (s : MarkStep). text-of (mark-lines (s .answer))) (step .ensures .step));
+      fits = c .mark-lines .ensures .fits;
+      untouched = step .ensures .untouched;
+    })
 
 pub answer-spec : {M : Type 1} → statement M
 answer-spec =
     tie.close
     (tie.spec
-    enum-known-entry
-    call-answered-requires
-    enum-told
-    cut-short-line-requires
-    enum-told-2
-    cut-short-line-requires-2
-    returns
-    returns-2
-    returns-3)
+    (λ c. search needs) (λ c κs. search needs) (λ c. search needs) (λ c κs. search needs)
+    (λ c. search needs) (λ c κs. search needs) (λ c κs. search needs)
+    (λ c. search needs) (λ c κs. search needs) (λ c κs. search needs)
+    returns returns-2 returns-3 returns-4)

@@ -4,15 +4,15 @@ use borrow.Author.Needs.{needs}
 use Rattle.entries.proofs.front_release.Statement.{statement}
 use Rattle.entries.proofs.front_release.Tie as tie
 
-get-u8-requires : tie.Need-get-u8-requires
-get-u8-requires c κs = search needs
+release-task-requires : tie.Need-release-task-requires
+release-task-requires c κs = search needs
 
-get-u64-requires : tie.Need-get-u64-requires
-get-u64-requires c κs = search needs
+release-time-requires : tie.Need-release-time-requires
+release-time-requires c κs = search needs
 
 returns : tie.Need-returns
 unfolding release-at
 returns c = cc
 
 pub front-release-spec : {M : Type 1} → statement M
-front-release-spec = tie.close (tie.spec get-u8-requires get-u64-requires returns)
+front-release-spec = tie.close (tie.spec release-task-requires release-time-requires returns)

@@ -1,7 +1,7 @@
 -- `recorder::answer` is safe and ends: the releases stand within the input. Assumes nothing.
 use mathlib.Core.Path.{ap}
 use native.Mathlib.Omega.{arith}
-use Rattle.run.specs.Types.{TaskPart}
+use Rattle.run.specs.Types.{Head}
 use Rattle.run.proofs.Advancing.{releases-within}
 use borrow.Author.Needs.{needs}
 use Rattle.recorder.proofs.answer.Statement.{statement}

@@ -1,6 +1,6 @@
 -- `table::mark_or_length_refusal` meets its contract: by the tests on the way to each answer. Assumes nothing.
 use borrow.Author.Tests.{lt-ltb, le-ltb}
-use Rattle.table.specs.TaskPart.{mark-or-length-refusal}
+use Rattle.table.specs.Head.{mark-or-length-refusal}
 use borrow.Author.Needs.{needs}
 use Rattle.table.proofs.mark_or_length_refusal.Statement.{statement}
 use Rattle.table.proofs.mark_or_length_refusal.Tie as tie

@@ -1,6 +1,6 @@
 -- `table::outside` meets its contract: by its test. Assumes nothing.
 use borrow.Author.Tests.{eq-eqb, ne-eqb}
-use Rattle.table.specs.TaskPart.{outside}
+use Rattle.table.specs.Head.{outside}
 use Rattle.table.proofs.outside.Statement.{statement}
 use Rattle.table.proofs.outside.Tie as tie
 

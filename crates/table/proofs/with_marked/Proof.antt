@@ -1,6 +1,6 @@
 -- `table::with_marked` meets its contract: by its test. Assumes nothing.
 use borrow.Author.Tests.{eq-eqb, ne-eqb}
-use Rattle.table.specs.TaskPart.{with-marked}
+use Rattle.table.specs.Head.{with-marked}
 use borrow.Author.Needs.{needs}
 use Rattle.table.proofs.with_marked.Statement.{statement}
 use Rattle.table.proofs.with_marked.Tie as tie

@@ -4,8 +4,8 @@ use mathlib.Core.List.{List}
 use Prim.Native.Nat.{ℕ}
 use native.Mathlib.Omega.{arith}
 use lib.Seq.{length-take-le}
-use Rattle.reading.specs.Parts.{ReadPart, releases-in}
-use Rattle.reading.proofs.Inputs.{read-part}
+use Rattle.reading.specs.Parts.{ReadHead, releases-in}
+use Rattle.reading.proofs.Inputs.{read-head}
 use Rattle.reading.proofs.Laying.{input-length}
 use Rattle.reading.proofs.Outcomes.{listed-part, not-listed-part}
 use borrow.Author.Needs.{needs}
@@ -33,7 +33,7 @@ yields-requires : tie.Need-yields-requires
 yields-requires c κs =
     let r = c .before .before .before .rebuild .ensures in
     let a = c .before .before .before .before .before .before .before .before .before .before in
-    subst (λ (s : List ℕ). ReadPart s (a .args .part)) (sym (r .holds)) (read-part (a .args .tasks .now) (releases-in (a .args .keys .now)) (a .args .part) (a .pre .0))
+    subst (λ (s : List ℕ). ReadHead s (a .args .head)) (sym (r .holds)) (read-head (a .args .tasks .now) (releases-in (a .args .keys .now)) (a .args .head) (a .pre .0))
 
 sub-write-list : tie.Need-sub-write-list
 sub-write-list c =

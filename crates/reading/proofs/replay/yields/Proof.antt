@@ -5,11 +5,11 @@ use Prim.Native.Nat.{ℕ}
 use mathlib.Core.Bool.{false≢true}
 use native.Mathlib.Omega.{arith}
 use lib.ListN.{length}
-use Rattle.guarantees.specs.Types.{TaskPart}
+use Rattle.guarantees.specs.Types.{Head}
 use Rattle.record.specs.Types.{NoneBefore}
-use Rattle.run.specs.Files.{refusal-of, releases-from, part-of, file-part}
+use Rattle.run.specs.Files.{refusal-of, releases-from, head-unless, file-head}
 use Rattle.run.proofs.Checking.{file-behind}
-use Rattle.reading.specs.Parts.{ReadPart}
+use Rattle.reading.specs.Parts.{ReadHead}
 use Rattle.run.proofs.Advancing.{releases-within}
 use Rattle.record.proofs.Outcomes.{accepted-whole, runs, alone, at-entry}
 use Rattle.reading.proofs.Holding.{yields-accepted, yields-refused}
@@ -17,10 +17,10 @@ use borrow.Author.Needs.{needs}
 use Rattle.reading.proofs.replay.yields.Statement.{statement}
 use Rattle.reading.proofs.replay.yields.Tie as tie
 
--- the part of an input that is accepted so far
-whole : {x : TaskPart} (s : List ℕ) (part : TaskPart) → ReadPart s part
-    → x ≡ part-of part (refusal-of (releases-from (length s) s (part .end) (part .table .present) NoneBefore 0)) → x ≡ file-part s
-whole s part h e = e ∙ file-behind s part (h .some) (h .is) (h .accepted)
+-- the head of an input that is accepted so far
+whole : {x : Head} (s : List ℕ) (k : Head) → ReadHead s k
+    → x ≡ head-unless k (refusal-of (releases-from (length s) s (k .end) (k .table .present) NoneBefore 0)) → x ≡ file-head s
+whole s k h e = e ∙ file-behind s k (h .some) (h .is) (h .accepted)
 
 check-behind-requires : tie.Need-check-behind-requires
 check-behind-requires c κs = search needs
@@ -29,30 +29,30 @@ enum-told : tie.Need-enum-told
 enum-told c = search needs
 
 sub-n : tie.Need-sub-n
-sub-n c = rw (whole (c .before .before .before .before .before .before .args .s .now) (c .before .before .before .before .before .before .args .part) (c .before .before .before .before .before .before .pre) (c .before .before .before .check-behind .ensures)) (releases-within (c .before .before .before .before .before .before .args .s .now))
+sub-n c = rw (whole (c .before .before .before .before .before .before .args .s .now) (c .before .before .before .before .before .before .args .head) (c .before .before .before .before .before .before .pre) (c .before .before .before .check-behind .ensures)) (releases-within (c .before .before .before .before .before .before .args .s .now))
 
-mul-replays : tie.Need-mul-replays
-mul-replays c =
+mul-budget : tie.Need-mul-budget
+mul-budget c =
     let check = c .before .before .before .check-behind in
     let s = c .before .before .before .before .before .before .args .s .now in
-    let read = accepted-whole s (check .result) (whole (c .before .before .before .before .before .before .args .s .now) (c .before .before .before .before .before .before .args .part) (c .before .before .before .before .before .before .pre) (check .ensures)) (c .before .enum-told .given .1) in
-    let runs = runs s (check .result) (read .part) (read .releases) in
+    let read = accepted-whole s (check .result) (whole (c .before .before .before .before .before .before .args .s .now) (c .before .before .before .before .before .before .args .head) (c .before .before .before .before .before .before .pre) (check .ensures)) (c .before .enum-told .given .1) in
+    let runs = runs s (check .result) (read .whole) (read .releases) in
     omega (arith, runs .few)
 
-add-replays : tie.Need-add-replays
-add-replays c =
+add-budget : tie.Need-add-budget
+add-budget c =
     let check = c .before .before .before .check-behind in
     let s = c .before .before .before .before .before .before .args .s .now in
-    let read = accepted-whole s (check .result) (whole (c .before .before .before .before .before .before .args .s .now) (c .before .before .before .before .before .before .args .part) (c .before .before .before .before .before .before .pre) (check .ensures)) (c .before .enum-told .given .1) in
-    let runs = runs s (check .result) (read .part) (read .releases) in
+    let read = accepted-whole s (check .result) (whole (c .before .before .before .before .before .before .args .s .now) (c .before .before .before .before .before .before .args .head) (c .before .before .before .before .before .before .pre) (check .ensures)) (c .before .enum-told .given .1) in
+    let runs = runs s (check .result) (read .whole) (read .releases) in
     omega (arith, runs .few)
 
 replays-requires : tie.Need-replays-requires
 replays-requires c κs =
     let check = c .before .before .before .check-behind in
     let s = c .before .before .before .before .before .before .args .s .now in
-    let read = accepted-whole s (check .result) (whole (c .before .before .before .before .before .before .args .s .now) (c .before .before .before .before .before .before .args .part) (c .before .before .before .before .before .before .pre) (check .ensures)) (c .before .enum-told .given .1) in
-    let runs = runs s (check .result) (read .part) (read .releases) in
+    let read = accepted-whole s (check .result) (whole (c .before .before .before .before .before .before .args .s .now) (c .before .before .before .before .before .before .args .head) (c .before .before .before .before .before .before .pre) (check .ensures)) (c .before .enum-told .given .1) in
+    let runs = runs s (check .result) (read .whole) (read .releases) in
     record { kept = λ e. absurd (false≢true e); few = omega (arith, runs .few); served = runs .served }
 
 enum-told-2 : tie.Need-enum-told-2
@@ -64,17 +64,17 @@ enum-told-3 c = search needs
 returns : tie.Need-returns
 returns c =
     let check = c .before .before .before .before .check-behind in
-    c .replays .ensures ∙ yields-accepted (c .before .before .before .before .before .before .before .args .s .now) (check .result) (whole (c .before .before .before .before .before .before .before .args .s .now) (c .before .before .before .before .before .before .before .args .part) (c .before .before .before .before .before .before .before .pre) (check .ensures)) (c .before .before .before .before .before .before .before .args .stored .now) (c .before .before .enum-told .given .1)
+    c .replays .ensures ∙ yields-accepted (c .before .before .before .before .before .before .before .args .s .now) (check .result) (whole (c .before .before .before .before .before .before .before .args .s .now) (c .before .before .before .before .before .before .before .args .head) (c .before .before .before .before .before .before .before .pre) (check .ensures)) (c .before .before .before .before .before .before .before .args .stored .now) (c .before .before .enum-told .given .1)
 
 returns-2 : tie.Need-returns-2
 returns-2 c =
     let check = c .before .before .check-behind in
-    yields-refused (c .before .before .before .before .before .args .s .now) (check .result) (whole (c .before .before .before .before .before .args .s .now) (c .before .before .before .before .before .args .part) (c .before .before .before .before .before .pre) (check .ensures)) (c .before .before .before .before .before .args .stored .now) (alone (c .enum-told2 .given .1))
+    yields-refused (c .before .before .before .before .before .args .s .now) (check .result) (whole (c .before .before .before .before .before .args .s .now) (c .before .before .before .before .before .args .head) (c .before .before .before .before .before .pre) (check .ensures)) (c .before .before .before .before .before .args .stored .now) (alone (c .enum-told2 .given .1))
 
 returns-3 : tie.Need-returns-3
 returns-3 c =
     let check = c .before .before .check-behind in
-    yields-refused (c .before .before .before .before .before .args .s .now) (check .result) (whole (c .before .before .before .before .before .args .s .now) (c .before .before .before .before .before .args .part) (c .before .before .before .before .before .pre) (check .ensures)) (c .before .before .before .before .before .args .stored .now) (at-entry (c .enum-told3 .given .1))
+    yields-refused (c .before .before .before .before .before .args .s .now) (check .result) (whole (c .before .before .before .before .before .args .s .now) (c .before .before .before .before .before .args .head) (c .before .before .before .before .before .pre) (check .ensures)) (c .before .before .before .before .before .args .stored .now) (at-entry (c .enum-told3 .given .1))
 
 pub yields-spec : {M : Type 1} → statement M
 yields-spec =
@@ -83,8 +83,8 @@ yields-spec =
     check-behind-requires
     enum-told
     sub-n
-    mul-replays
-    add-replays
+    mul-budget
+    add-budget
     replays-requires
     enum-told-2
     enum-told-3

@@ -20,7 +20,7 @@ write-run-requires c κs =
     let check = c .before .before .before .check-file in
     let s = c .before .before .before .before .before .before .args .s .now in
     let read = accepted-whole s (check .result) (check .ensures) (c .before .enum-told .given .1) in
-    runs s (check .result) (read .part) (read .releases)
+    runs s (check .result) (read .whole) (read .releases)
 
 enum-told-2 : tie.Need-enum-told-2
 enum-told-2 c = search needs
@@ -36,7 +36,7 @@ returns c =
     let check = c .before .before .before .before .before .before .check-file in
     let a = c .before .before .before .before .before .before .before .before .before .args in
     let read = accepted-whole (a .s .now) (check .result) (check .ensures) (c .before .before .before .before .enum-told .given .1) in
-    rw (whole-file (a .s .now) (check .result) (read .part) (read .releases) (a .out .now)) (c .before .before .write-run .ensures)
+    rw (whole-file (a .s .now) (check .result) (read .whole) (read .releases) (a .out .now)) (c .before .before .write-run .ensures)
 
 returns-2 : tie.Need-returns-2
 returns-2 c =

@@ -3,7 +3,6 @@ use mathlib.Core.Path.{sym, ap, _∙_, subst}
 use native.Mathlib.Omega.{arith}
 use Rattle.rules.specs.Steps.{Stands}
 use Rattle.rules.proofs.Ticks.{stands, never-stands}
-use Rattle.entries.specs.Entries.{release-at}
 use Rattle.run.specs.Types.{Tick}
 use Rattle.run.specs.Run.{first-time}
 use Rattle.run.proofs.Listing.{here, none}
@@ -14,16 +13,15 @@ use Rattle.run.proofs.releases.first_tick.Tie as tie
 returns : tie.Need-returns
 returns c = never-stands _ (ap first-time (none (c .before .before .args .rest .now) 0 (omega (arith, c .if1 .taken))))
 
-get-u64-requires : tie.Need-get-u64-requires
-get-u64-requires c κs = search needs
+release-time-requires : tie.Need-release-time-requires
+release-time-requires c κs = search needs
 
 returns-2 : tie.Need-returns-2
-unfolding release-at
 returns-2 c =
     let s = c .before .before .before .args .rest .now in
-    subst (Stands (c .get-u64 .result))
-    (ap Tick (c .get-u64 .ensures) ∙ ap first-time (sym (here s 0 (omega (arith, c .before .if1 .left)))))
-    (stands (c .get-u64 .result) (omega arith))
+    subst (Stands (c .release-time .result))
+    (ap Tick (c .release-time .ensures) ∙ ap first-time (sym (here s 0 (omega (arith, c .before .if1 .left)))))
+    (stands (c .release-time .result) (omega arith))
 
 pub first-tick-spec : {M : Type 1} → statement M
-first-tick-spec = tie.close (tie.spec returns get-u64-requires returns-2)
+first-tick-spec = tie.close (tie.spec returns release-time-requires returns-2)

@@ -6,9 +6,9 @@ use native.Mathlib.Omega.{arith}
 use borrow.Author.Needs.{needs}
 use lib.ListN.{length}
 use Rattle.sets.specs.Sets.{insert}
-use Rattle.words.proofs.Laws.{read-in-rest}
 use Rattle.rules.specs.Steps.{Stands}
-use Rattle.entries.specs.Entries.{release-at}
+use Rattle.entries.specs.Entries.{size, release-at}
+use Rattle.entries.proofs.Places.{release-is}
 use Rattle.run.specs.Types.{Release}
 use Rattle.run.specs.Listed.{releases-at}
 use Rattle.run.specs.Run.{first-time, released-from, released-at, released-after}
@@ -23,7 +23,7 @@ first-in s at {x} e h = subst (λ (rs : List Release). Stands x (first-time rs))
 -- whole entries were read
 pub record Read (s : List ℕ) (t at : ℕ) : Type 0 where
   pub entries : ℕ
-  pub at-is : at ≡ 10 * entries
+  pub at-is : at ≡ size 2 * entries
   pub within : at ≤ length s
   pub after : released-after t (releases-at s at) ≡ released-after t (releases-at s 0)
 
@@ -57,8 +57,8 @@ part-next-start c = omega (arith, c .before .before .before .loop .inv .1 .withi
 part-next-end : tie.Need-part-next-end Inv-loop μ-loop
 part-next-end c = search needs
 
-get-u8-requires : tie.Need-get-u8-requires Inv-loop μ-loop
-get-u8-requires c κs = search needs
+release-task-requires : tie.Need-release-task-requires Inv-loop μ-loop
+release-task-requires c κs = search needs
 
 insert-requires : tie.Need-insert-requires Inv-loop μ-loop
 insert-requires c κs = search needs
@@ -74,14 +74,13 @@ loop-less c =
     omega (arith, stands-here s (v .at) (f .args .t) (first-in s (v .at) (in-part s (v .at)) (c .before .before .before .before .first-tick .ensures)) (c .before .before .before .if1 .taken) (f .pre) .0)
 
 loop-again : tie.Need-loop-again Inv-loop μ-loop
-unfolding release-at
 loop-again c =
     let f = c .before .before .before .before .before .before .before .before in let s = f .args .rest .now in let t = f .args .t in
     let v = c .before .before .before .before .before .before .loop in
     let h = stands-here s (v .at) t (first-in s (v .at) (in-part s (v .at)) (c .before .before .before .before .first-tick .ensures)) (c .before .before .before .if1 .taken) (f .pre) in
     let e = here s (v .at) (h .0) in
-    let next = c .insert .ensures ∙ ap (λ (n : ℕ). insert n (v .set)) (c .before .get-u8 .ensures ∙ read-in-rest 1 (v .at) 1 s) in (
-      ap (λ (x : ℕ). released-from t x (releases-at s (v .at + 10))) next ∙ sym (ap (released-from t (v .set)) e ∙ taken t (v .set) (release-at s (v .at)) _ (h .1)) ∙ v .inv .0,
+    let next = c .insert .ensures ∙ ap (λ (n : ℕ). insert n (v .set)) (c .before .release-task .ensures ∙ ap (λ (r : Release). r .task) (release-is s (v .at))) in (
+      ap (λ (x : ℕ). released-from t x (releases-at s (v .at + size 2))) next ∙ sym (ap (released-from t (v .set)) e ∙ taken t (v .set) (release-at s (v .at)) _ (h .1)) ∙ v .inv .0,
       record {
         entries = v .inv .1 .entries + 1;
         at-is = omega (arith, v .inv .1 .at-is);
@@ -116,7 +115,7 @@ gather-spec =
     sub-next
     part-next-start
     part-next-end
-    get-u8-requires
+    release-task-requires
     insert-requires
     add-at
     loop-less

@@ -1,9 +1,9 @@
--- `call_entries::mark_at` meets its contract: by the length that is left. Assumes nothing.
+-- `entries::mark_at` meets its contract: by the length that is left. Assumes nothing.
 use borrow.Author.Tests.{lt-leb, le-leb}
-use Rattle.call_entries.specs.Calls.{mark-at}
+use Rattle.entries.specs.Calls.{mark-at}
 use borrow.Author.Needs.{needs}
-use Rattle.call_entries.proofs.mark_at.Statement.{statement}
-use Rattle.call_entries.proofs.mark_at.Tie as tie
+use Rattle.entries.proofs.calls.mark_at.Statement.{statement}
+use Rattle.entries.proofs.calls.mark_at.Tie as tie
 
 sub-if1 : tie.Need-sub-if1
 sub-if1 c = search needs

@@ -1,4 +1,4 @@
--- `table::read` meets its contract: what is left to read, read from here, gives what the whole gives; the search for a priority
+-- `table::head_of` meets its contract: what is left to read, read from here, gives what the whole gives; the search for a priority
 -- given before keeps that the tasks passed do not have it. Assumes nothing.
 use Prim.Native.Nat.{_≤_, _<_, _-_, _^_}
 use mathlib.Core.Path.{_≡_, sym, ap, _∙_}
@@ -7,12 +7,12 @@ use lib.ListN.{length, length-set}
 use borrow.Author.Needs.{needs}
 use Rattle.sets.specs.Sets.{lowest, size}
 use Rattle.sets.proofs.Laws.{size-remove, insert-small, lowest-task, lowest-member}
-use Rattle.table.specs.Types.{Table, TaskPart}
+use Rattle.table.specs.Types.{Table, Head}
 use Rattle.table.specs.Table.{with-lengths}
-use Rattle.table.specs.TaskPart.{task-part, tasks-from, with-task, refused-at}
+use Rattle.table.specs.Head.{head-of, head-from, with-task, refused-at}
 use Rattle.table.proofs.Laws.{Rest, Searched, turn, turn-on, behind-end, behind-release, before-release, task-whole, at-end, malformed, released, refuses, takes, searched-none, searched-more, searched-all, searched-found, number-first, priority-next, others-last, number-small}
-use Rattle.table.proofs.read.Statement.{statement}
-use Rattle.table.proofs.read.Tie as tie
+use Rattle.table.proofs.head_of.Statement.{statement}
+use Rattle.table.proofs.head_of.Tie as tie
 
 abbrev Inv-loop : tie.InvT-loop
 Inv-loop s t marked at p left₀ left = Searched t (p .priority) left
@@ -31,21 +31,21 @@ no-table-requires : tie.Need-no-table-requires Inv-loop μ-loop Inv-entries μ-e
 no-table-requires c κs = search needs
 
 entries-holds : tie.Need-entries-holds Inv-loop μ-loop Inv-entries μ-entries
-unfolding task-part
+unfolding head-of
 entries-holds c =
     let e = c .no-table .ensures in (
       search needs,
       ap (λ (x : Table). length (x .priority)) e,
       rw e (omega arith),
-      record { fuel = length (c .before .before .args .s .now); enough = omega arith; same = ap (λ (x : Table). tasks-from (length (c .before .before .args .s .now)) (c .before .before .args .s .now) 0 x 0) e },
+      record { fuel = length (c .before .before .args .s .now); enough = omega arith; same = ap (λ (x : Table). head-from (length (c .before .before .args .s .now)) (c .before .before .args .s .now) 0 x 0) e },
       ap (λ (x : Table). length (x .columns)) e,
     )
 
 read-to-requires : tie.Need-read-to-requires Inv-loop μ-loop Inv-entries μ-entries
 read-to-requires c κs = search needs
 
-get-u8-requires : tie.Need-get-u8-requires Inv-loop μ-loop Inv-entries μ-entries
-get-u8-requires c κs = search needs
+is-release-requires : tie.Need-is-release-requires Inv-loop μ-loop Inv-entries μ-entries
+is-release-requires c κs = search needs
 
 read-to-requires-2 : tie.Need-read-to-requires-2 Inv-loop μ-loop Inv-entries μ-entries
 read-to-requires-2 c κs = search needs
@@ -163,7 +163,7 @@ entries-again c =
       rw e (insert-small _ _),
       rw (e, c .with-marked .ensures)
           (turn-on s (v .at) (v .t) (v .marked) (v .inv .3) (c .before .before .before .before .before .before .before .before .before .before .before .before .before .before .if1 .left) _ _
-          (λ k. takes s (v .at) (v .t) (v .marked) k (before-release s (v .at) (c .before .before .before .before .before .before .before .before .before .before .before .before .before .before .if1 .left) (λ x. c .before .before .before .before .before .before .before .before .before .before .before .before .if2 .left (c .before .before .before .before .before .before .before .before .before .before .before .before .before .get-u8 .ensures ∙ x))) _ (sym (c .before .before .before .before .before .before .before .before .before .before .before .entry-at .ensures) ∙ c .before .before .before .before .before .before .before .before .before .entry2 .given .1) ((others-last (v .t) _ (sym (c .before .before .before .before .before .before .before .number-refused .ensures) ∙ c .before .before .before .before .before .before .if3 .left) (searched-all (v .t) _ (w .left) (c .before .before .before .before .loop-test .left) (w .inv))) ∙ sym (c .before .before .before .mark-or-length-refusal .ensures) ∙ c .before .before .if5 .left))),
+          (λ k. takes s (v .at) (v .t) (v .marked) k (before-release s (v .at) (c .before .before .before .before .before .before .before .before .before .before .before .before .before .before .if1 .left) (sym (c .before .before .before .before .before .before .before .before .before .before .before .before .before .is-release .ensures) ∙ c .before .before .before .before .before .before .before .before .before .before .before .before .if2 .left)) _ (sym (c .before .before .before .before .before .before .before .before .before .before .before .entry-at .ensures) ∙ c .before .before .before .before .before .before .before .before .before .entry2 .given .1) ((others-last (v .t) _ (sym (c .before .before .before .before .before .before .before .number-refused .ensures) ∙ c .before .before .before .before .before .before .if3 .left) (searched-all (v .t) _ (w .left) (c .before .before .before .before .loop-test .left) (w .inv))) ∙ sym (c .before .before .before .mark-or-length-refusal .ensures) ∙ c .before .before .if5 .left))),
       simp length-set (v .inv .4),
     )
 
@@ -171,22 +171,22 @@ returns : tie.Need-returns Inv-loop μ-loop Inv-entries μ-entries
 returns c = let v = c .before .before .entries in let s = c .before .before .before .before .before .args .s .now in c .read-to .ensures ∙ sym (at-end s (v .at) (v .t) (v .marked) (v .inv .3 .fuel) (behind-end s (v .at) (c .before .if1 .taken))) ∙ v .inv .3 .same
 
 returns-2 : tie.Need-returns-2 Inv-loop μ-loop Inv-entries μ-entries
-returns-2 c = let v = c .before .before .before .before .entries in let s = c .before .before .before .before .before .before .before .args .s .now in c .read-to2 .ensures ∙ sym (at-end s (v .at) (v .t) (v .marked) (v .inv .3 .fuel) (behind-release s (v .at) (sym (c .before .before .get-u8 .ensures) ∙ c .before .if2 .taken))) ∙ v .inv .3 .same
+returns-2 c = let v = c .before .before .before .before .entries in let s = c .before .before .before .before .before .before .before .args .s .now in c .read-to2 .ensures ∙ sym (at-end s (v .at) (v .t) (v .marked) (v .inv .3 .fuel) (behind-release s (v .at) (sym (c .before .before .is-release .ensures) ∙ c .before .if2 .taken))) ∙ v .inv .3 .same
 
 returns-3 : tie.Need-returns-3 Inv-loop μ-loop Inv-entries μ-entries
 returns-3 c =
     let v = c .before .before .before .before .before .before .before .before .entries in let s = c .before .before .before .before .before .before .before .before .before .before .before .args .s .now in
-    c .refused-at .ensures ∙ turn s (v .at) (v .t) (v .marked) (v .inv .3) (c .before .before .before .before .before .before .before .if1 .left) _ (λ k. malformed s (v .at) (v .t) (v .marked) k (before-release s (v .at) (c .before .before .before .before .before .before .before .if1 .left) (λ x. c .before .before .before .before .before .if2 .left (c .before .before .before .before .before .before .get-u8 .ensures ∙ x))) _ (sym (c .before .before .before .before .entry-at .ensures) ∙ c .before .before .entry .given .1))
+    c .refused-at .ensures ∙ turn s (v .at) (v .t) (v .marked) (v .inv .3) (c .before .before .before .before .before .before .before .if1 .left) _ (λ k. malformed s (v .at) (v .t) (v .marked) k (before-release s (v .at) (c .before .before .before .before .before .before .before .if1 .left) (sym (c .before .before .before .before .before .before .is-release .ensures) ∙ c .before .before .before .before .before .if2 .left)) _ (sym (c .before .before .before .before .entry-at .ensures) ∙ c .before .before .entry .given .1))
 
 returns-4 : tie.Need-returns-4 Inv-loop μ-loop Inv-entries μ-entries
 returns-4 c =
     let v = c .before .before .before .before .before .before .before .entries in let s = c .before .before .before .before .before .before .before .before .before .before .args .s .now in
-    c .read-to3 .ensures ∙ turn s (v .at) (v .t) (v .marked) (v .inv .3) (c .before .before .before .before .before .before .if1 .left) _ (λ k. released s (v .at) (v .t) (v .marked) k (before-release s (v .at) (c .before .before .before .before .before .before .if1 .left) (λ x. c .before .before .before .before .if2 .left (c .before .before .before .before .before .get-u8 .ensures ∙ x))) _ (sym (c .before .before .before .entry-at .ensures) ∙ c .before .enum-told .given .1))
+    c .read-to3 .ensures ∙ turn s (v .at) (v .t) (v .marked) (v .inv .3) (c .before .before .before .before .before .before .if1 .left) _ (λ k. released s (v .at) (v .t) (v .marked) k (before-release s (v .at) (c .before .before .before .before .before .before .if1 .left) (sym (c .before .before .before .before .before .is-release .ensures) ∙ c .before .before .before .before .if2 .left)) _ (sym (c .before .before .before .entry-at .ensures) ∙ c .before .enum-told .given .1))
 
 returns-5 : tie.Need-returns-5 Inv-loop μ-loop Inv-entries μ-entries
 returns-5 c =
     let v = c .before .before .before .before .before .before .before .before .before .before .entries in let s = c .before .before .before .before .before .before .before .before .before .before .before .before .before .args .s .now in
-    c .refused-at2 .ensures ∙ turn s (v .at) (v .t) (v .marked) (v .inv .3) (c .before .before .before .before .before .before .before .before .before .if1 .left) _ (λ k. refuses s (v .at) (v .t) (v .marked) k (before-release s (v .at) (c .before .before .before .before .before .before .before .before .before .if1 .left) (λ x. c .before .before .before .before .before .before .before .if2 .left (c .before .before .before .before .before .before .before .before .get-u8 .ensures ∙ x))) _ 4 (sym (c .before .before .before .before .before .before .entry-at .ensures) ∙ c .before .before .before .before .entry2 .given .1) (number-first (v .t) _ (sym (c .before .before .number-refused .ensures) ∙ c .before .if3 .taken)) (λ h. omega arith))
+    c .refused-at2 .ensures ∙ turn s (v .at) (v .t) (v .marked) (v .inv .3) (c .before .before .before .before .before .before .before .before .before .if1 .left) _ (λ k. refuses s (v .at) (v .t) (v .marked) k (before-release s (v .at) (c .before .before .before .before .before .before .before .before .before .if1 .left) (sym (c .before .before .before .before .before .before .before .before .is-release .ensures) ∙ c .before .before .before .before .before .before .before .if2 .left)) _ 4 (sym (c .before .before .before .before .before .before .entry-at .ensures) ∙ c .before .before .before .before .entry2 .given .1) (number-first (v .t) _ (sym (c .before .before .number-refused .ensures) ∙ c .before .if3 .taken)) (λ h. omega arith))
 
 returns-6 : tie.Need-returns-6 Inv-loop μ-loop Inv-entries μ-entries
 returns-6 c =
@@ -194,16 +194,16 @@ returns-6 c =
     let w = c .before .before .before .before .before .before .loop in
     let low : lowest (w .left) < 32 = lowest-task (w .left) (w .inv .few) (c .before .before .before .before .before .loop-test .taken) in
     let e = c .before .before .before .before .lowest .ensures in
-    c .refused-at3 .ensures ∙ turn s (v .at) (v .t) (v .marked) (v .inv .3) (c .before .before .before .before .before .before .before .before .before .before .before .before .before .before .before .if1 .left) _ (λ k. refuses s (v .at) (v .t) (v .marked) k (before-release s (v .at) (c .before .before .before .before .before .before .before .before .before .before .before .before .before .before .before .if1 .left) (λ x. c .before .before .before .before .before .before .before .before .before .before .before .before .before .if2 .left (c .before .before .before .before .before .before .before .before .before .before .before .before .before .before .get-u8 .ensures ∙ x))) _ 5 (sym (c .before .before .before .before .before .before .before .before .before .before .before .before .entry-at .ensures) ∙ c .before .before .before .before .before .before .before .before .before .before .entry2 .given .1) (priority-next (v .t) _ (sym (c .before .before .before .before .before .before .before .before .number-refused .ensures) ∙ c .before .before .before .before .before .before .before .if3 .left) (searched-found (v .t) _ (w .left) (lowest (w .left)) low (lowest-member (w .left) low) (rw e at (c .before .if4 .taken)) (w .inv))) (λ h. omega arith))
+    c .refused-at3 .ensures ∙ turn s (v .at) (v .t) (v .marked) (v .inv .3) (c .before .before .before .before .before .before .before .before .before .before .before .before .before .before .before .if1 .left) _ (λ k. refuses s (v .at) (v .t) (v .marked) k (before-release s (v .at) (c .before .before .before .before .before .before .before .before .before .before .before .before .before .before .before .if1 .left) (sym (c .before .before .before .before .before .before .before .before .before .before .before .before .before .before .is-release .ensures) ∙ c .before .before .before .before .before .before .before .before .before .before .before .before .before .if2 .left)) _ 5 (sym (c .before .before .before .before .before .before .before .before .before .before .before .before .entry-at .ensures) ∙ c .before .before .before .before .before .before .before .before .before .before .entry2 .given .1) (priority-next (v .t) _ (sym (c .before .before .before .before .before .before .before .before .number-refused .ensures) ∙ c .before .before .before .before .before .before .before .if3 .left) (searched-found (v .t) _ (w .left) (lowest (w .left)) low (lowest-member (w .left) low) (rw e at (c .before .if4 .taken)) (w .inv))) (λ h. omega arith))
 
 returns-7 : tie.Need-returns-7 Inv-loop μ-loop Inv-entries μ-entries
 returns-7 c =
     let v = c .before .before .before .before .before .before .before .before .before .before .before .before .before .before .entries in let s = c .before .before .before .before .before .before .before .before .before .before .before .before .before .before .before .before .before .args .s .now in
     let w = c .before .before .before .before .loop in
-    c .refused-at4 .ensures ∙ turn s (v .at) (v .t) (v .marked) (v .inv .3) (c .before .before .before .before .before .before .before .before .before .before .before .before .before .if1 .left) _ (λ k. refuses s (v .at) (v .t) (v .marked) k (before-release s (v .at) (c .before .before .before .before .before .before .before .before .before .before .before .before .before .if1 .left) (λ x. c .before .before .before .before .before .before .before .before .before .before .before .if2 .left (c .before .before .before .before .before .before .before .before .before .before .before .before .get-u8 .ensures ∙ x))) _ _ (sym (c .before .before .before .before .before .before .before .before .before .before .entry-at .ensures) ∙ c .before .before .before .before .before .before .before .before .entry2 .given .1) ((others-last (v .t) _ (sym (c .before .before .before .before .before .before .number-refused .ensures) ∙ c .before .before .before .before .before .if3 .left) (searched-all (v .t) _ (w .left) (c .before .before .before .loop-test .left) (w .inv))) ∙ sym (c .before .before .mark-or-length-refusal .ensures)) (c .before .if5 .taken))
+    c .refused-at4 .ensures ∙ turn s (v .at) (v .t) (v .marked) (v .inv .3) (c .before .before .before .before .before .before .before .before .before .before .before .before .before .if1 .left) _ (λ k. refuses s (v .at) (v .t) (v .marked) k (before-release s (v .at) (c .before .before .before .before .before .before .before .before .before .before .before .before .before .if1 .left) (sym (c .before .before .before .before .before .before .before .before .before .before .before .before .is-release .ensures) ∙ c .before .before .before .before .before .before .before .before .before .before .before .if2 .left)) _ _ (sym (c .before .before .before .before .before .before .before .before .before .before .entry-at .ensures) ∙ c .before .before .before .before .before .before .before .before .entry2 .given .1) ((others-last (v .t) _ (sym (c .before .before .before .before .before .before .number-refused .ensures) ∙ c .before .before .before .before .before .if3 .left) (searched-all (v .t) _ (w .left) (c .before .before .before .loop-test .left) (w .inv))) ∙ sym (c .before .before .mark-or-length-refusal .ensures)) (c .before .if5 .taken))
 
-pub read-spec : {M : Type 1} → statement M
-read-spec =
+pub head-of-spec : {M : Type 1} → statement M
+head-of-spec =
     tie.close
     (tie.spec
     Inv-loop
@@ -213,7 +213,7 @@ read-spec =
     no-table-requires
     entries-holds
     read-to-requires
-    get-u8-requires
+    is-release-requires
     read-to-requires-2
     entry-at-requires
     enum-known-entry

@@ -1,10 +1,10 @@
--- `call_entries::call_at` meets its contract: by the kind. Assumes nothing.
+-- `entries::call_at` meets its contract: by the kind. Assumes nothing.
 use borrow.Author.Tests.{le-leb, lt-leb, eq-eqb, ne-eqb}
 use Rattle.words.proofs.Laws.{one-byte}
-use Rattle.call_entries.specs.Calls.{call-at}
+use Rattle.entries.specs.Calls.{call-at}
 use borrow.Author.Needs.{needs}
-use Rattle.call_entries.proofs.call_at.Statement.{statement}
-use Rattle.call_entries.proofs.call_at.Tie as tie
+use Rattle.entries.proofs.calls.call_at.Statement.{statement}
+use Rattle.entries.proofs.calls.call_at.Tie as tie
 
 returns : tie.Need-returns
 unfolding call-at

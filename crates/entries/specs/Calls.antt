@@ -1,0 +1,32 @@
+-- The call entries of a session, taken apart: one byte of kind, then a body whose length the kind fixes, as in an input.
+use mathlib.Core.Bool.{cond}
+use mathlib.Core.List.{List}
+use Prim.Native.Nat.{ℕ, _+_, _-_}
+use lib.Dec.{eqb, leb}
+use lib.ListN.{length}
+use Rattle.words.specs.Words.{numberAt}
+use Rattle.entries.specs.Entries.{size}
+use Rattle.entries.specs.Types.{CallEntry, CutShort, OtherKind, InstantCall, MarkCall}
+
+-- kind 64, an instant: time (8), set (4)
+unfoldable pub instant-at : List ℕ → ℕ → CallEntry
+instant-at s at = cond (leb (size 64) (length s - at)) (InstantCall (numberAt 8 s (at + 1)) (numberAt 4 s (at + 9))) CutShort
+
+-- kind 65, a mark call: task (1), mark (1)
+unfoldable pub mark-at : List ℕ → ℕ → CallEntry
+mark-at s at = cond (leb (size 65) (length s - at)) (MarkCall (numberAt 1 s (at + 1)) (numberAt 1 s (at + 2))) CutShort
+
+-- the call whose kind byte is at a place; where the bytes end there, it is cut short
+unfoldable pub call-at : List ℕ → ℕ → CallEntry
+call-at s at =
+    let kind : ℕ = numberAt 1 s at in
+    cond (leb (length s) at) CutShort
+    (cond (eqb kind 64) (instant-at s at)
+    (cond (eqb kind 65) (mark-at s at) OtherKind))
+
+-- how many bytes a whole call takes; 0 for what is none
+abbrev pub call-size : CallEntry → ℕ
+call-size CutShort = 0
+call-size OtherKind = 0
+call-size (InstantCall t set) = size 64
+call-size (MarkCall n m) = size 65

@@ -1,0 +1,95 @@
+-- The head of an input: the part before its releases, which a file, opening and the reader of records have alike. Its entries are checked one
+-- by one, 2, 1, then 4, 5, 6, 7 of a task. It ends at the input's end or at the first release entry, be that whole or cut short: what comes
+-- there is for whoever reads on.
+use mathlib.Core.Bool.{Bool, true, false, cond, _&&_, _||_}
+use mathlib.Core.List.{List}
+use Prim.Native.Nat.{ℕ, zero, suc, _+_, _*_}
+use lib.Dec.{eqb, ltb, leb}
+use lib.ListN.{length, getD, set, replicate}
+use Rattle.sets.specs.Sets.{member, insert}
+use Rattle.entries.specs.Entries.{size, is-release, entry-at}
+use Rattle.entries.specs.Limits as limits
+use Rattle.table.specs.Table.{with-lengths}
+use Rattle.table.specs.Types.{TaskParameters, Malformed, TaskEntry, ReleaseEntry, Table, Refusal, NoRefusal, Alone, AtEntry, Head}
+
+-- the table with no task
+abbrev pub no-table : Table
+no-table = record { present = 0; priority = replicate limits.tasks 0; columns = replicate (3 * limits.tasks) 0 }
+
+-- some task below k has the priority p
+unfoldable pub given : ℕ → Table → ℕ → Bool
+given zero t p = false
+given (suc k) t p = (member k (t .present) && eqb (getD (t .priority) k 0) p) || given k t p
+
+-- no length of a phase: outside 1 to the longest
+unfoldable pub outside : ℕ → Bool
+outside x = eqb x 0 || ltb limits.longest-phase x
+
+-- 4: no task number, or given before
+unfoldable pub number-refused : ℕ → ℕ → Bool
+number-refused present n = leb limits.tasks n || member n present
+
+-- 6, then 7; 0 is none
+unfoldable pub mark-or-length-refusal : TaskParameters → ℕ
+mark-or-length-refusal p =
+    cond (ltb 1 (p .mark)) 6
+    (cond (outside (p .copyin) || (outside (p .execution) || outside (p .copyout))) 7 0)
+
+-- 4 to 7, in this order; 0 is none
+unfoldable pub task-refusal : Table → TaskParameters → ℕ
+task-refusal t p = cond (number-refused (t .present) (p .number)) 4 (cond (given limits.tasks t (p .priority)) 5 (mark-or-length-refusal p))
+
+unfoldable pub with-task : Table → TaskParameters → Table
+unfolding with-lengths
+with-task t p = record {
+  present = insert (p .number) (t .present);
+  priority = set (t .priority) (p .number) (p .priority);
+  columns = with-lengths (t .columns) p;
+}
+
+unfoldable pub with-marked : ℕ → TaskParameters → ℕ
+with-marked marked p = cond (eqb (p .mark) 1) (insert (p .number) marked) marked
+
+-- a head that is refused tells nothing but why
+abbrev pub refused : Refusal → Head
+refused r = record { table = no-table; marked = 0; end = 0; refusal = r }
+
+abbrev pub refused-at : ℕ → ℕ → Head
+refused-at n at = refused (AtEntry n at)
+
+abbrev pub read-to : Table → ℕ → ℕ → Head
+read-to t marked at = record { table = t; marked = marked; end = at; refusal = NoRefusal }
+
+-- the end of the input, or a release
+unfoldable pub behind-head : List ℕ → ℕ → Bool
+behind-head s at = leb (length s) at || is-release s at
+
+-- the entries from a place on, at most k of them
+unfoldable pub head-from : ℕ → List ℕ → ℕ → Table → ℕ → Head
+head-from zero s at t marked = read-to t marked at
+head-from (suc k) s at t marked =
+    elim (behind-head s at) [
+      | true ↦ read-to t marked at
+      | false ↦ elim (entry-at s at) [
+        | Malformed n ↦ refused-at n at
+        | ReleaseEntry r ↦ read-to t marked at
+        | TaskEntry p ↦ elim (task-refusal t p) [
+          | zero ↦ head-from k s (at + size 1) (with-task t p) (with-marked marked p)
+          | suc n ↦ refused-at (suc n) at
+        ]
+      ]
+    ]
+
+-- an input of some length has no more entries than bytes
+unfoldable pub head-of : List ℕ → Head
+head-of s = head-from (length s) s 0 no-table 0
+
+-- ---- A head alone, as at opening: 12 where there is no byte, then the head's refusals, then 2 for what stands behind it, a release
+
+abbrev pub with-nothing-behind : Head → ℕ → Refusal → Head
+with-nothing-behind k size NoRefusal = cond (eqb (k .end) size) k (refused-at 2 (k .end))
+with-nothing-behind k size (Alone n) = k
+with-nothing-behind k size (AtEntry n at) = k
+
+unfoldable pub head-alone : List ℕ → Head
+head-alone s = cond (eqb (length s) 0) (refused (Alone 12)) (let k : Head = head-of s in with-nothing-behind k (length s) (k .refusal))
