@@ -6,7 +6,9 @@ import itertools
 import os
 import pathlib
 import random
+import resource
 import subprocess
+import tempfile
 import threading
 import time
 import unittest
@@ -34,11 +36,11 @@ def run(program, **streams):
     return process.stdout, process.stderr.decode()
 
 
-def long_run():
+def long_run(most=4000):
     """An input whose lines and record are longer than what a program keeps."""
     rng = random.Random(1)
     tasks = generate.some_tasks(rng, 8, generate.small_length)
-    releases = sorted({(rng.randrange(40_000), rng.choice(tasks)[1]) for _ in range(4000)})
+    releases = sorted({(rng.randrange(40_000), rng.choice(tasks)[1]) for _ in range(most + most // 16)})[:most]
     return b"".join(tasks + [release_entry(*release) for release in releases])
 
 
@@ -117,6 +119,60 @@ class Writes(unittest.TestCase):
                 self.assertEqual(said.decode(), f"{program}: standard output: Resource temporarily unavailable\n")
                 self.assertLess(len(arrived), len(whole))
                 self.assertEqual(arrived, whole[:len(arrived)])
+
+
+class Twice(unittest.TestCase):
+    """The reader goes through its record twice, a piece at a time: through a file where it stands, and through a temporary one if it comes by a pipe."""
+
+    STACK = 128 * 1024
+
+    def limit(self, which, size):
+        return lambda: resource.setrlimit(which, (size, size))
+
+    def read(self, data, stream):
+        """What the reader prints with little stack: by a pipe, or in a file behind bytes that were read already."""
+        limit = self.limit(resource.RLIMIT_STACK, self.STACK)
+        if stream == "pipe":
+            done = subprocess.run([str(ROOT / "target/bin/reader")], input=data, capture_output=True, check=False, timeout=20, preexec_fn=limit)
+        else:
+            with tempfile.TemporaryFile() as file:
+                file.write(b"before" + data)
+                file.flush()
+                os.lseek(file.fileno(), len(b"before"), os.SEEK_SET)
+                done = subprocess.run([str(ROOT / "target/bin/reader")], stdin=file, capture_output=True, check=False, timeout=20, preexec_fn=limit)
+        return done.returncode, done.stdout.decode(), done.stderr
+
+    def records(self):
+        """Of as many releases as there may be: as it was written, changed at the end, cut short, too long, and longer than any; and hostile ones."""
+        data = long_run(4096)
+        tasks, stored = data[:8 * len(TASKS) // 3], record(data)
+        interval = next(stored[at:at + 24] for at in range(len(stored)) if stored[at] == 17)
+        many = interval * 30_000
+        for bytes_of in (stored, stored[:-1] + bytes([stored[-1] ^ 1]), stored[:-1], stored + interval, stored + many, b"", many, many[:-1], many + b"\7"):
+            yield two_parts(tasks, bytes_of)
+        yield two_parts(tasks + tasks, stored)
+        yield two_parts(tasks, stored)[:40]
+
+    def test_little_stack(self):
+        for data in self.records():
+            expected = text(read_lines(data))
+            for stream in ("pipe", "file"):
+                with self.subTest(stream=stream, length=len(data), expected=expected[:20]):
+                    self.assertEqual(self.read(data, stream), (0, expected, b""))
+
+    def test_a_temporary_file_that_is_full(self):
+        done = subprocess.run([str(ROOT / "target/bin/reader")], input=STORED, capture_output=True, check=False, timeout=20,
+                              preexec_fn=self.limit(resource.RLIMIT_FSIZE, 0), restore_signals=False)
+        self.assertEqual((done.stdout, done.stderr.decode()), (b"", "reader: temporary file: File too large\n"))
+
+    def test_the_temporary_file_has_no_name(self):
+        with subprocess.Popen([str(ROOT / "target/bin/reader")], stdin=subprocess.PIPE, stdout=subprocess.PIPE) as process:
+            process.stdin.write(two_parts(TASKS, record(long_run(4096)))[:100_000])
+            process.stdin.flush()
+            time.sleep(0.3)
+            files = [os.readlink(name) for name in pathlib.Path(f"/proc/{process.pid}/fd").iterdir()]
+            self.assertTrue(any(name.endswith(" (deleted)") for name in files), files)
+            process.communicate()
 
 
 class Refusals(unittest.TestCase):

@@ -1,8 +1,6 @@
 // The call entries of a session, answered with their lines. How they are laid out, `entries` says.
 use dispatcher::Dispatcher;
-pub use entries::CallEntry;
-pub use entries::call_at;
-pub use entries::call_size;
+use entries::CallEntry;
 use lines::Text;
 ghost use Rattle.call_entries.specs.Calls.{answered, NotServed, AnswersWith};
 ghost use Rattle.dispatcher.specs.Dispatcher.{state-of};

@@ -2,11 +2,14 @@
 use mathlib.Core.Path.{_≡_, refl, sym, ap, ap₂, _∙_, subst}
 use mathlib.Core.List.{List, [], _∷_, _++_, append-assoc, append-nil}
 use Prim.Native.Nat.{ℕ, suc, _+_, _-_, _*_, _≤_, _<_}
+use mathlib.Core.Bool.{Bool, true, false, cond}
+use native.Mathlib.Nat.{zero-add}
 use native.Mathlib.Numerals.{add-one}
 use native.Mathlib.Omega.{arith}
-use borrow.Author.Tests.{le-leb}
-use lib.ListN.{length, take, drop, getD, length-append, length-drop}
-use lib.Seq.{length-take-le, take-suc, take-all, take-at, take-append-add}
+use borrow.Author.Tests.{le-leb, lt-leb, leb-true}
+use lib.Dec.{leb}
+use lib.ListN.{length, take, drop, getD, length-append, length-drop, drop-of-length-le}
+use lib.Seq.{length-take-le, take-suc, take-all, take-at, drop-at, drop-drop}
 use Rattle.words.specs.Words.{bytesOf}
 use Rattle.words.proofs.Laws.{rest-whole}
 use Rattle.entries.specs.Entries.{release-bytes, laid, Put}
@@ -14,7 +17,7 @@ use Rattle.run.proofs.Slices.{put-rest, put-length, laid-none, laid-both, rest-
 use Rattle.run.specs.Putting.{put-at}
 use Rattle.reading.specs.Types.{Release}
 use Rattle.reading.specs.Reading.{list-bytes, input-of}
-use Rattle.reading.specs.Parts.{release-in, releases-in, Rebuilt}
+use Rattle.reading.specs.Parts.{release-in, releases-in}
 
 pub release-size : (r : Release) → length (release-bytes r) ≡ 10
 unfolding release-bytes bytesOf
@@ -87,36 +90,68 @@ module _ {keys before : List ℕ} {i at : ℕ} {out : List ℕ} (h : Laying keys
 
 -- ---- behind the task entries
 
+-- there is no room
+pub no-room : (bytes before : List ℕ) → length before < length bytes → Put bytes before 0 before
+no-room bytes before l = record { length-is = rw (lt-leb (length bytes) (length before) l); holds = rw (lt-leb (length bytes) (length before) l) }
+
+pub put-within : {bytes before after : List ℕ} {size : ℕ} → Put bytes before size after → size ≤ length before
+put-within {bytes} {before} {after} {size} put = go (leb (length bytes) (length before)) refl (put .length-is)
+  where
+    go : (b : Bool) → leb (length bytes) (length before) ≡ b → size ≡ cond b (length bytes) 0 → size ≤ length before
+    go true e f = omega (arith, f, leb-true (length bytes) (length before) e)
+    go false e f = omega (arith, f)
+
 module _ (tasks keys before : List ℕ) (room : length tasks + 10 * length keys ≤ length before) where
   abbrev list : List ℕ
   list = list-bytes (releases-in keys)
 
-  pub rebuilt : (mid t : List ℕ) → mid ≡ take (length tasks) tasks ++ drop (length tasks) before
+  abbrev input : List ℕ
+  input = input-of tasks (releases-in keys)
+
+  enough : leb (length (input-of tasks (releases-in keys))) (length before) ≡ true
+  enough = le-leb (length input) (length before) (omega (arith, input-length tasks keys))
+
+  rebuilt : (mid t : List ℕ) → mid ≡ take (length tasks) tasks ++ drop (length tasks) before
       → t ≡ laid 0 (list-bytes (releases-in keys)) (take (length mid - length tasks) (drop (length tasks) mid))
-      → Rebuilt tasks keys before (length tasks + 10 * length keys) (take (length tasks) mid ++ (t ++ drop (length mid - length tasks) (drop (length tasks) mid)))
+      → Put (input-of tasks (releases-in keys)) before (length tasks + 10 * length keys) (take (length tasks) mid ++ (t ++ drop (length mid - length tasks) (drop (length tasks) mid)))
   rebuilt mid t m e =
       let n : ℕ = length tasks in
-      let size : length list ≡ 10 * length keys = list-length (releases-in keys) ∙ ap (λ (x : ℕ). 10 * x) (releases-length keys) in
       let front : mid ≡ tasks ++ drop n before = m ∙ ap (λ (x : List ℕ). x ++ drop n before) (take-all n tasks (omega arith)) in
-      let long : length mid ≡ length before = ap length front ∙ omega (arith, length-append tasks (drop n before), length-drop n before) in
-      let rest : List ℕ = take (length mid - n) (drop n mid) in
-      let room-left : length list ≤ length rest = omega (arith, ap length (rest-whole n mid), length-drop n mid) in
-      let same-rest : length t ≡ length rest = ap length e ∙ omega (arith, length-append list (drop (0 + length list) rest), length-drop (0 + length list) rest) in
-      let x : List ℕ = drop (0 + length list) rest ++ drop (length mid - n) (drop n mid) in
+      let behind : drop n mid ≡ drop n before = ap (drop n) front ∙ drop-at tasks (drop n before) n refl in
+      let none : drop (length mid - n) (drop n mid) ≡ [] = drop-of-length-le (drop n mid) {i = length mid - n} (omega (arith, length-drop n mid)) in
+      let laid-list : t ≡ list ++ drop (length list) (drop n before) =
+      e ∙ ap (laid 0 list) (rest-whole n mid ∙ behind) ∙ ap (λ (k : ℕ). list ++ drop k (drop n before)) (zero-add (length list)) in
       record {
-        same-length = rest-length n mid t same-rest ∙ long;
-        size-is = omega (arith, length-append tasks list);
-        holds = ap (λ (y : List ℕ). take (n + 10 * length keys) (y ++ (t ++ drop (length mid - n) (drop n mid)))) (ap (take n) front ∙ take-at tasks (drop n before) n refl)
-            ∙ ap (λ (y : List ℕ). take (n + 10 * length keys) (tasks ++ (y ++ drop (length mid - n) (drop n mid)))) e
-            ∙ ap (λ (y : List ℕ). take (n + 10 * length keys) (tasks ++ y)) (append-assoc list (drop (0 + length list) rest) (drop (length mid - n) (drop n mid)))
-            ∙ take-append-add tasks (list ++ x) (10 * length keys)
-            ∙ ap (λ (y : List ℕ). tasks ++ y) (take-at list x (10 * length keys) size);
+        length-is = rw enough (sym (input-length tasks keys));
+        holds = rw enough
+            (ap (λ (y : List ℕ). y ++ (t ++ drop (length mid - n) (drop n mid))) (ap (take n) front ∙ take-at tasks (drop n before) n refl)
+            ∙ ap (λ (y : List ℕ). tasks ++ (t ++ y)) none ∙ ap (λ (y : List ℕ). tasks ++ y) (append-nil t ∙ laid-list)
+            ∙ sym (append-assoc tasks list (drop (length list) (drop n before)))
+            ∙ ap (λ (y : List ℕ). input ++ y) (drop-drop (length list) n before ∙ ap (λ (k : ℕ). drop k before) (sym (length-append tasks list))));
       }
 
   -- the place behind the task entries, as it was answered
   pub rebuilt-from : (from : ℕ) → from ≡ length tasks → (mid t : List ℕ) → mid ≡ take (length tasks) tasks ++ drop (length tasks) before
       → t ≡ laid 0 (list-bytes (releases-in keys)) (take (length mid - from) (drop from mid))
-      → Rebuilt tasks keys before (from + 10 * length keys) (take from mid ++ (t ++ drop (length mid - from) (drop from mid)))
+      → Put (input-of tasks (releases-in keys)) before (from + 10 * length keys) (take from mid ++ (t ++ drop (length mid - from) (drop from mid)))
   rebuilt-from from e mid t m x =
-      subst (λ (n : ℕ). Rebuilt tasks keys before (n + 10 * length keys) (take n mid ++ (t ++ drop (length mid - n) (drop n mid)))) (sym e)
+      subst (λ (n : ℕ). Put (input-of tasks (releases-in keys)) before (n + 10 * length keys) (take n mid ++ (t ++ drop (length mid - n) (drop n mid)))) (sym e)
       (rebuilt mid t m (subst (λ (n : ℕ). t ≡ laid 0 (list-bytes (releases-in keys)) (take (length mid - n) (drop n mid))) e x))
+
+-- an input in the front of a slice
+pub record Rebuilt (tasks keys before : List ℕ) (size : ℕ) (after : List ℕ) : Type 0 where
+  pub same-length : length after ≡ length before
+  pub size-is : size ≡ length (input-of tasks (releases-in keys))
+  pub holds : take size after ≡ input-of tasks (releases-in keys)
+
+pub in-room : (tasks keys before : List ℕ) → length tasks + 10 * length keys ≤ length before → {size : ℕ} {after : List ℕ}
+    → Put (input-of tasks (releases-in keys)) before size after → Rebuilt tasks keys before size after
+in-room tasks keys before room {size} {after} put =
+    let all : List ℕ = input-of tasks (releases-in keys) in
+    let is : size ≡ length all = put .length-is ∙ rw (enough tasks keys before room) in
+    let has : after ≡ all ++ drop (length all) before = put .holds ∙ rw (enough tasks keys before room) in
+    record {
+      same-length = ap length has ∙ omega (arith, length-append all (drop (length all) before), length-drop (length all) before, input-length tasks keys);
+      size-is = is;
+      holds = ap₂ take is has ∙ take-at all (drop (length all) before) (length all) refl;
+    }

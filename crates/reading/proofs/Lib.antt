@@ -1,5 +1,6 @@
 pub mod Sorting
 pub mod Noting
+pub mod Onward
 pub mod RunTold
 pub mod Telling
 pub mod Keys

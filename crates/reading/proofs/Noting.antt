@@ -1,7 +1,7 @@
 -- Releases noted one after the other, and what the entries of a record tell from a place on. Assumes nothing.
 use mathlib.Core.Path.{_≡_, refl, sym, ap, _∙_, subst}
 use mathlib.Core.Bool.{Bool, true, false, true≢false, false≢true}
-use mathlib.Core.List.{List, [], _∷_, _++_, append-nil}
+use mathlib.Core.List.{List, [], _∷_, _++_, append-nil, append-assoc}
 use Prim.Native.Nat.{ℕ, zero, suc, _+_, _-_, _*_, _^_, _≤_, _<_}
 use native.Mathlib.Numerals.{add-one}
 use native.Mathlib.Omega.{arith}
@@ -11,16 +11,18 @@ use lib.ListN.{length, take, set, length-append, length-set}
 use lib.Seq.{length-take-le, take-suc-set}
 use Rattle.entries.specs.Entries.{record-entry-at, record-entry-size}
 use Rattle.run.specs.Files.{Checked, Rejected, Releases, refusal-of, with-release}
+use Rattle.words.proofs.Laws.{past}
 use Rattle.sets.proofs.Laws.{by-test}
 use Rattle.entries.proofs.Places.{entry-within}
 use Rattle.record.proofs.Accepted.{with-first}
 use Rattle.record.proofs.Outcomes.{at-entry}
 use Rattle.reading.specs.Types.{Release, Refusal, NoRefusal, AtEntry, RecordEntry, MalformedRecord, JobDone, IntervalEnded, ReleaseSkipped}
-use Rattle.reading.specs.declared.collect.Decoded.the-variants.{Faulty, Whole}
-use Rattle.reading.specs.declared.collect.Noted.{Noted}
-use Rattle.reading.specs.declared.collect.Telling.{Telling}
+use Rattle.reading.specs.declared.collecting.Decoded.the-variants.{Faulty, Whole}
+use Rattle.reading.specs.declared.collecting.Noted.{Noted}
+use Rattle.reading.specs.declared.collecting.Telling.{Telling}
 use Rattle.reading.specs.Told.{key, told, told-by, told-from}
-use Rattle.reading.specs.Parts.{decoded, fault, keys-of, AllFit, AllEarly, Notes, NotesMore, told-release, Collects}
+use Rattle.reading.specs.Parts.{decoded, fault, keys-of, AllFit, AllEarly, Notes, NotesMore, told-release, none-noted, Collects}
+use Rattle.reading.specs.Pieces.{Front, front-by, front-from, front}
 
 -- ---- one release more
 
@@ -60,6 +62,7 @@ module _ (n : Noted) (t : Telling) (keys : List ℕ) where
   pub notes-none : t .counts ≡ false → NotesMore n t keys n keys
   notes-none e = record {
     same-length = refl;
+    within = λ h. h;
     more = λ rs h. rw (e, append-nil rs) h;
   }
 
@@ -68,6 +71,7 @@ module _ (n : Noted) (t : Telling) (keys : List ℕ) where
     pub notes-full : length keys ≤ n .count → NotesMore n t keys (record { count = n .count; possible = false }) keys
     notes-full l = record {
       same-length = refl;
+      within = λ h. h;
       more = λ rs h. rw e (record {
         fit = fit-more rs r (h .fit) f;
         within = h .within;
@@ -85,6 +89,7 @@ module _ (n : Noted) (t : Telling) (keys : List ℕ) where
     pub notes-late : 1000000000 < t .release .time → NotesMore n t keys (record { count = n .count; possible = false }) keys
     notes-late l = record {
       same-length = refl;
+      within = λ h. h;
       more = λ rs h. rw e (record {
         fit = fit-more rs r (h .fit) f;
         within = h .within;
@@ -97,6 +102,7 @@ module _ (n : Noted) (t : Telling) (keys : List ℕ) where
         → NotesMore n t keys (record { count = n .count + 1; possible = n .possible }) (set keys (n .count) (key (t .release)))
     notes-one l m = record {
       same-length = length-set keys (n .count) (key r);
+      within = λ h. omega (arith, length-set keys (n .count) (key r));
       more = λ rs h. rw e (record {
         fit = fit-more rs r (h .fit) f;
         within = omega (arith, length-set keys (n .count) (key r));
@@ -131,23 +137,38 @@ unfolding in-front with-release
 front-refused [] r = refl
 front-refused (q ∷ qs) r = rw (front-refused qs r)
 
--- how far a record's entries have been taken apart
-pub record Collecting (s : List ℕ) (at : ℕ) (n : Noted) (keys : List ℕ) : Type 0 where
+-- how far a piece's entries have been taken apart
+pub record Collecting (s : List ℕ) (n₀ : Noted) (before : List ℕ) (at : ℕ) (n : Noted) (keys : List ℕ) : Type 0 where
   pub rs : List Release
   pub fuel : ℕ
   pub enough : length s - at ≤ fuel
   pub rest : in-front rs (told-from fuel s at) ≡ told s
-  pub notes : Notes rs n keys
+  pub fronts : rs ++ front-from fuel s at .releases ≡ front s .releases
+  pub within : n₀ .count ≤ length before → n .count ≤ length keys
+  pub notes : (qs : List Release) → Notes qs n₀ before → Notes (qs ++ rs) n keys
 
-pub begins : (s keys : List ℕ) → Collecting s 0 (record { count = 0; possible = true }) keys
-unfolding in-front keys-of AllFit AllEarly
-begins s keys = record {
+pub begins : (s : List ℕ) (n : Noted) (keys : List ℕ) → Collecting s n keys 0 n keys
+unfolding in-front
+begins s n keys = record {
   rs = [];
   fuel = length s;
   enough = omega arith;
   rest = refl;
-  notes = record { fit = tt; within = omega arith; noted = λ x. (refl, tt); not = λ x. absurd (true≢false x) };
+  fronts = refl;
+  within = λ h. h;
+  notes = λ qs h. rw (append-nil qs) h;
 }
+
+-- before any piece
+pub notes-begin : (keys : List ℕ) → Notes [] none-noted keys
+unfolding keys-of AllFit AllEarly
+notes-begin keys = record { fit = tt; within = omega arith; noted = λ x. (refl, tt); not = λ x. absurd (true≢false x) }
+
+-- no whole entry stands at the end
+front-none : (k : ℕ) (s : List ℕ) (at : ℕ) → length s ≤ at → front-from k s at .releases ≡ []
+unfolding front-from front-by record-entry-at
+front-none zero s at l = refl
+front-none (suc k) s at l = rw (past 1 s at l)
 
 pub told-none : (k : ℕ) (s : List ℕ) (at : ℕ) → length s ≤ at → told-from k s at ≡ Releases []
 unfolding told-from
@@ -166,27 +187,42 @@ pub same-releases : (qs rs : List Release) → Releases qs ≡ Releases rs → q
 same-releases qs rs e = cc
 
 -- a whole entry, and what it tells
-told-whole : (at : ℕ) (e : RecordEntry) (t : Telling) (c : Checked) → decoded e ≡ Whole t → (told-by e at c ≡ in-front (told-release t (t .counts)) c) × (t .size ≡ record-entry-size e) × (0 < t .size)
-unfolding told-by in-front
-told-whole at (MalformedRecord x) t c d = absurd (let z : _≡_ {A = ℕ} 0 1 = cc in omega arith)
-told-whole at (JobDone x) t c d = subst (λ (y : Telling). (told-by (JobDone x) at c ≡ in-front (told-release y (y .counts)) c) × (y .size ≡ record-entry-size (JobDone x)) × (0 < y .size)) (whole-is _ t d) (refl, refl, omega arith)
-told-whole at (IntervalEnded x) t c d = subst (λ (y : Telling). (told-by (IntervalEnded x) at c ≡ in-front (told-release y (y .counts)) c) × (y .size ≡ record-entry-size (IntervalEnded x)) × (0 < y .size)) (whole-is _ t d) (refl, refl, omega arith)
-told-whole at (ReleaseSkipped x) t c d = subst (λ (y : Telling). (told-by (ReleaseSkipped x) at c ≡ in-front (told-release y (y .counts)) c) × (y .size ≡ record-entry-size (ReleaseSkipped x)) × (0 < y .size)) (whole-is _ t d) (refl, refl, omega arith)
+pub record Says (at : ℕ) (e : RecordEntry) (c : Checked) (f : Front) (t : Telling) : Type 0 where
+  pub told : told-by e at c ≡ in-front (told-release t (t .counts)) c
+  pub front : front-by e at f .releases ≡ told-release t (t .counts) ++ f .releases
+  pub size : t .size ≡ record-entry-size e
+  pub some : 0 < t .size
+
+says : (at : ℕ) (e : RecordEntry) (c : Checked) (f : Front) (t : Telling) → decoded e ≡ Whole t → Says at e c f t
+unfolding told-by front-by in-front
+says at (MalformedRecord x) c f t d = absurd (let z : _≡_ {A = ℕ} 0 1 = cc in omega arith)
+says at (JobDone x) c f t d = subst (Says at (JobDone x) c f) (whole-is _ t d) (record { told = refl; front = refl; size = refl; some = omega arith })
+says at (IntervalEnded x) c f t d = subst (Says at (IntervalEnded x) c f) (whole-is _ t d) (record { told = refl; front = refl; size = refl; some = omega arith })
+says at (ReleaseSkipped x) c f t d = subst (Says at (ReleaseSkipped x) c f) (whole-is _ t d) (record { told = refl; front = refl; size = refl; some = omega arith })
 
 pub whole-size : (e : RecordEntry) (t : Telling) → decoded e ≡ Whole t → (t .size ≡ record-entry-size e) × (0 < t .size)
-whole-size e t d = (told-whole 0 e t (Releases []) d .1, told-whole 0 e t (Releases []) d .2)
+whole-size e t d = let w = says 0 e (Releases []) (front []) t d in (w .size, w .some)
 
-module _ {s : List ℕ} {at : ℕ} {n : Noted} {keys : List ℕ} (h : Collecting s at n keys) where
+module _ {s : List ℕ} {n₀ : Noted} {before : List ℕ} {at : ℕ} {n : Noted} {keys : List ℕ} (h : Collecting s n₀ before at n keys) (same : length keys ≡ length before) where
+  -- no whole entry is left
+  stops : front-from (h .fuel) s at .releases ≡ [] → h .rs ≡ front s .releases
+  stops e = sym (append-nil (h .rs)) ∙ ap (λ (l : List Release). h .rs ++ l) (sym e) ∙ h .fronts
+
+  all-noted : h .rs ≡ front s .releases → (qs : List Release) → Notes qs n₀ before → Notes (qs ++ front s .releases) n keys
+  all-noted e qs m = subst (λ (l : List Release). Notes (qs ++ l) n keys) e (h .notes qs m)
+
   -- nothing is left
-  pub ends : (before : List ℕ) → length keys ≡ length before → length s ≤ at → Collects s before (record { noted = n; refusal = NoRefusal }) keys
-  ends before same l =
+  pub ends : length s ≤ at → Collects s n₀ before (record { noted = n; refusal = NoRefusal }) keys
+  ends l =
       let all : Releases (h .rs) ≡ told s =
       ap Releases (sym (append-nil (h .rs))) ∙ sym (front-all (h .rs) []) ∙ ap (in-front (h .rs)) (sym (told-none (h .fuel) s at l)) ∙ h .rest in
+      let same-front : h .rs ≡ front s .releases = stops (front-none (h .fuel) s at l) in
       record {
         same-length = same;
+        within = h .within;
         refusal-is = ap refusal-of all;
-        whole = λ e. (h .rs, sym all);
-        notes = λ rs e. subst (λ (x : List Release). Notes x n keys) (same-releases (h .rs) rs (all ∙ e)) (h .notes);
+        whole = λ e. sym all ∙ ap Releases same-front;
+        notes = all-noted same-front;
       }
 
   module _ (l : at < length s) where
@@ -194,45 +230,60 @@ module _ {s : List ℕ} {at : ℕ} {n : Noted} {keys : List ℕ} (h : Collecting
         → in-front (h .rs) (told-by (record-entry-at s at) at (told-from k s (at + record-entry-size (record-entry-at s at)))) ≡ told s
     turned k e = ap (in-front (h .rs)) (sym (told-one k s at l) ∙ ap (λ (x : ℕ). told-from x s at) (sym e)) ∙ h .rest
 
+    fronted : (k : ℕ) → h .fuel ≡ suc k
+        → h .rs ++ front-by (record-entry-at s at) at (front-from k s (at + record-entry-size (record-entry-at s at))) .releases ≡ front s .releases
+    unfolding front-from
+    fronted k e = ap (λ (x : ℕ). h .rs ++ front-from x s at .releases) (sym e) ∙ h .fronts
+
     -- an entry that is refused
-    pub faulty : (before : List ℕ) (e : RecordEntry) → length keys ≡ length before → record-entry-at s at ≡ e → decoded e ≡ Faulty
-        → Collects s before (record { noted = n; refusal = AtEntry (fault e) at }) keys
-    unfolding told-by
-    faulty before (MalformedRecord x) same a d = go (h .fuel) refl
+    pub faulty : (e : RecordEntry) → record-entry-at s at ≡ e → decoded e ≡ Faulty
+        → Collects s n₀ before (record { noted = n; refusal = AtEntry (fault e) at }) keys
+    unfolding told-by front-by
+    faulty (MalformedRecord x) a d = go (h .fuel) refl
       where
         refused : (k : ℕ) → h .fuel ≡ suc k → Rejected (AtEntry x at) ≡ told s
         refused k f = sym (front-refused (h .rs) (AtEntry x at)) ∙ subst (λ (y : RecordEntry). in-front (h .rs) (told-by y at (told-from k s (at + record-entry-size y))) ≡ told s) a (turned k f)
 
-        go : (k : ℕ) → h .fuel ≡ k → Collects s before (record { noted = n; refusal = AtEntry x at }) keys
+        here : (k : ℕ) → h .fuel ≡ suc k → h .rs ≡ front s .releases
+        here k f = sym (append-nil (h .rs)) ∙ subst (λ (y : RecordEntry). h .rs ++ front-by y at (front-from k s (at + record-entry-size y)) .releases ≡ front s .releases) a (fronted k f)
+
+        go : (k : ℕ) → h .fuel ≡ k → Collects s n₀ before (record { noted = n; refusal = AtEntry x at }) keys
         go zero f = absurd (omega (arith, h .enough))
         go (suc k) f = record {
           same-length = same;
+          within = h .within;
           refusal-is = ap refusal-of (refused k f);
           whole = λ e. absurd (at-entry {r = AtEntry x at} refl e);
-          notes = λ rs e. absurd (let z : _≡_ {A = ℕ} 0 1 = unlike rs (refused k f ∙ e) in omega arith);
+          notes = all-noted (here k f);
         }
-          where
-            unlike : (rs : List Release) → Rejected (AtEntry x at) ≡ Releases rs → _≡_ {A = ℕ} 0 1
-            unlike rs e = cc
-    faulty before (JobDone x) same a d = absurd (let z : _≡_ {A = ℕ} 0 1 = cc in omega arith)
-    faulty before (IntervalEnded x) same a d = absurd (let z : _≡_ {A = ℕ} 0 1 = cc in omega arith)
-    faulty before (ReleaseSkipped x) same a d = absurd (let z : _≡_ {A = ℕ} 0 1 = cc in omega arith)
+    faulty (JobDone x) a d = absurd (let z : _≡_ {A = ℕ} 0 1 = cc in omega arith)
+    faulty (IntervalEnded x) a d = absurd (let z : _≡_ {A = ℕ} 0 1 = cc in omega arith)
+    faulty (ReleaseSkipped x) a d = absurd (let z : _≡_ {A = ℕ} 0 1 = cc in omega arith)
 
-    pub goes-on : (t : Telling) (m : Noted) (after : List ℕ) → decoded (record-entry-at s at) ≡ Whole t → NotesMore n t keys m after → Collecting s (at + t .size) m after
+    pub goes-on : (t : Telling) (m : Noted) (after : List ℕ) → decoded (record-entry-at s at) ≡ Whole t → NotesMore n t keys m after
+        → Collecting s n₀ before (at + t .size) m after
     goes-on t m after d more = go (h .fuel) refl
       where
-        go : (k : ℕ) → h .fuel ≡ k → Collecting s (at + t .size) m after
+        tells : List Release
+        tells = told-release t (t .counts)
+
+        go : (k : ℕ) → h .fuel ≡ k → Collecting s n₀ before (at + t .size) m after
         go zero f = absurd (omega (arith, h .enough))
         go (suc k) f =
-            let w = told-whole at (record-entry-at s at) t (told-from k s (at + record-entry-size (record-entry-at s at))) d in
+            let next : ℕ = at + record-entry-size (record-entry-at s at) in
+            let w = says at (record-entry-at s at) (told-from k s next) (front-from k s next) t d in
             record {
-              rs = h .rs ++ told-release t (t .counts);
+              rs = h .rs ++ tells;
               fuel = k;
-              enough = omega (arith, h .enough, w .2);
-              rest = sym (front-more (h .rs) (told-release t (t .counts)) (told-from k s (at + t .size)))
-                  ∙ ap (λ (x : ℕ). in-front (h .rs) (in-front (told-release t (t .counts)) (told-from k s (at + x)))) (w .1)
-                  ∙ ap (in-front (h .rs)) (sym (w .0)) ∙ turned k f;
-              notes = more .more (h .rs) (h .notes);
+              enough = omega (arith, h .enough, w .some);
+              rest = sym (front-more (h .rs) tells (told-from k s (at + t .size)))
+                  ∙ ap (λ (x : ℕ). in-front (h .rs) (in-front tells (told-from k s (at + x)))) (w .size)
+                  ∙ ap (in-front (h .rs)) (sym (w .told)) ∙ turned k f;
+              fronts = append-assoc (h .rs) tells (front-from k s (at + t .size) .releases)
+                  ∙ ap (λ (x : ℕ). h .rs ++ (tells ++ front-from k s (at + x) .releases)) (w .size)
+                  ∙ ap (λ (l : List Release). h .rs ++ l) (sym (w .front)) ∙ fronted k f;
+              within = λ q. more .within (h .within q);
+              notes = λ qs q. subst (λ (l : List Release). Notes l m after) (append-assoc qs (h .rs) tells) (more .more (qs ++ h .rs) (h .notes qs q));
             }
 
 -- ---- how many releases a record can tell of

@@ -11,13 +11,15 @@ use Rattle.rules.specs.Calls.{opening}
 use Rattle.run.specs.Files.{Checked, Rejected, Releases, refusal-of}
 use Rattle.record.specs.Writing.{Wrote, written}
 use Rattle.reading.specs.Types.{Release, Refusal, NoRefusal, Alone, AtEntry, Outcome, RefusedInput}
-use Rattle.reading.specs.declared.collect.Collected.{Collected}
+use Rattle.reading.specs.declared.collecting.Collected.{Collected}
 use Rattle.reading.specs.Told.{told, sorted}
 use Rattle.reading.specs.Reading.{list-bytes, input-of, yields, listed-if, read-told, read-opened, reading}
 use Rattle.reading.specs.Acceptance.{Accepts}
 use Rattle.reading.specs.Sorting.{Sorts}
-use Rattle.reading.specs.Parts.{releases-in, Notes, Collects, Rebuilt, Lent}
-use Rattle.reading.proofs.Noting.{told-short}
+use Rattle.reading.specs.Parts.{releases-in, Notes, none-noted, Collects, Lent}
+use Rattle.reading.specs.Pieces.{front}
+use Rattle.reading.proofs.Noting.{told-short, notes-begin}
+use Rattle.reading.proofs.Laying.{Rebuilt}
 use Rattle.reading.proofs.Ordering.{keys-sorted}
 use Rattle.reading.proofs.Acceptance.{unlistable, accepts}
 
@@ -69,7 +71,7 @@ module _ (tasks keys stored lent : List ℕ) {before : List ℕ} {size : ℕ} {a
 
 -- ---- what a record's entries tell
 
-module _ (tasks stored lent keys : List ℕ) {x : Collected} {after : List ℕ} (h : Collects stored keys x after) where
+module _ (tasks stored lent keys : List ℕ) {x : Collected} {after : List ℕ} (h : Collects stored none-noted keys x after) where
   -- an entry is refused
   pub entry-refused : (x .refusal ≡ NoRefusal → ⊥) → Wrote (read-told tasks stored lent (told stored)) (RefusedInput (x .refusal)) lent
   entry-refused n = go (told stored) (h .refusal-is)
@@ -80,28 +82,28 @@ module _ (tasks stored lent keys : List ℕ) {x : Collected} {after : List ℕ} 
 
   module _ (e : x .refusal ≡ NoRefusal) where
     abbrev rs : List Release
-    rs = h .whole e .0
+    rs = front stored .releases
 
-    pub noted : Notes (h .whole e .0) (x .noted) after
-    noted = h .notes rs (h .whole e .1)
+    pub noted : Notes (front stored .releases) (x .noted) after
+    noted = h .notes [] (notes-begin keys)
 
     -- no list can have them
     pub impossible : {input : List ℕ} → Lent tasks stored keys input → x .noted .possible ≡ false
         → Wrote (read-told tasks stored lent (told stored)) (RefusedInput (Alone 18)) lent
     impossible o p =
-        subst (λ (c : Checked). Wrote (read-told tasks stored lent c) (RefusedInput (Alone 18)) lent) (sym (h .whole e .1))
+        subst (λ (c : Checked). Wrote (read-told tasks stored lent c) (RefusedInput (Alone 18)) lent) (sym (h .whole e))
         (not-listed tasks stored lent (sorted rs) (unlistable tasks stored rs (o .opens) (noted .fit) (λ early few. noted .not p early (many (o .enough) few))))
       where
-        many : (4096 ≤ length keys) ⊎ (length stored ≤ 10 * length keys) → length (h .whole e .0) ≤ 4096 → length (h .whole e .0) ≤ length after
+        many : (4096 ≤ length keys) ⊎ (length stored ≤ 10 * length keys) → length (front stored .releases) ≤ 4096 → length (front stored .releases) ≤ length after
         many (inl m) few = omega (arith, h .same-length)
-        many (inr m) few = omega (arith, h .same-length, told-short stored (h .whole e .0) (h .whole e .1))
+        many (inr m) few = omega (arith, h .same-length, told-short stored (front stored .releases) (h .whole e))
 
     -- the numbers in their order stand for the list
     pub possible : (ks lent-keys : List ℕ) {outcome : Outcome} {out : List ℕ} → x .noted .possible ≡ true → Sorts (take (x .noted .count) after) ks → lent-keys ≡ ks
         → Wrote (listed-if tasks stored lent (releases-in lent-keys)) outcome out → Wrote (read-told tasks stored lent (told stored)) outcome out
     possible ks lent-keys {outcome} {out} p s same w =
         let is : releases-in ks ≡ sorted rs = keys-sorted rs ks (noted .fit) (subst (λ (y : List ℕ). Sorts y ks) (noted .noted p .0) s) in
-        subst (λ (c : Checked). Wrote (read-told tasks stored lent c) outcome out) (sym (h .whole e .1))
+        subst (λ (c : Checked). Wrote (read-told tasks stored lent c) outcome out) (sym (h .whole e))
         (subst (λ (qs : List Release). Wrote (listed-if tasks stored lent qs) outcome out) (ap releases-in same ∙ is) w)
 
 -- the numbers in their order, put back where they stood

@@ -3,4 +3,5 @@ pub mod Told
 pub mod Reading
 pub mod Acceptance
 pub mod Sorting
+pub mod Pieces
 pub mod Parts

@@ -10,13 +10,13 @@ use Rattle.table.specs.Head.{head-of}
 use Rattle.rules.specs.Calls.{opening}
 use Rattle.run.specs.Files.{Releases, refusal-of}
 use Rattle.reading.specs.Types.{Bool, true, false, List, [], _∷_, _++_, ℕ, Release, NoRefusal, RecordEntry, MalformedRecord, JobDone, IntervalEnded, ReleaseSkipped}
-use Rattle.reading.specs.declared.collect.Decoded.{Decoded}
-use Rattle.reading.specs.declared.collect.Decoded.the-variants.{Faulty, Whole}
-use Rattle.reading.specs.declared.collect.Noted.{Noted}
-use Rattle.reading.specs.declared.collect.Collected.{Collected}
-use Rattle.reading.specs.declared.collect.Telling.{Telling}
+use Rattle.reading.specs.declared.collecting.Decoded.{Decoded}
+use Rattle.reading.specs.declared.collecting.Decoded.the-variants.{Faulty, Whole}
+use Rattle.reading.specs.declared.collecting.Noted.{Noted}
+use Rattle.reading.specs.declared.collecting.Collected.{Collected}
+use Rattle.reading.specs.declared.collecting.Telling.{Telling}
 use Rattle.reading.specs.Told.{release-of, told, key}
-use Rattle.reading.specs.Reading.{input-of}
+use Rattle.reading.specs.Pieces.{front}
 
 -- ---- An entry taken apart
 
@@ -73,13 +73,20 @@ told-release t false = []
 
 pub record NotesMore (n : Noted) (t : Telling) (before : List ℕ) (x : Noted) (after : List ℕ) : Type 0 where
   pub same-length : length after ≡ length before
+  pub within : n .count ≤ length before → x .count ≤ length after
   pub more : (rs : List Release) → Notes rs n before → Notes (rs ++ told-release t (t .counts)) x after
 
-pub record Collects (s before : List ℕ) (x : Collected) (after : List ℕ) : Type 0 where
+-- none yet
+abbrev pub none-noted : Noted
+none-noted = record { count = 0; possible = true }
+
+-- what was noted before goes on with what the whole entries at the front tell; where none is refused, that is all that the bytes tell
+pub record Collects (s : List ℕ) (n : Noted) (before : List ℕ) (x : Collected) (after : List ℕ) : Type 0 where
   pub same-length : length after ≡ length before
+  pub within : n .count ≤ length before → x .noted .count ≤ length after
   pub refusal-is : x .refusal ≡ refusal-of (told s)
-  pub whole : x .refusal ≡ NoRefusal → (rs : List Release) × (told s ≡ Releases rs)
-  pub notes : (rs : List Release) → told s ≡ Releases rs → Notes rs (x .noted) after
+  pub whole : x .refusal ≡ NoRefusal → told s ≡ Releases (front s .releases)
+  pub notes : (rs : List Release) → Notes rs n before → Notes (rs ++ front s .releases) (x .noted) after
 
 -- ---- Bytes held against others
 
@@ -89,12 +96,6 @@ pub record Tells (x : Bool) (a b : List ℕ) : Type 0 where
   pub told : a ≡ b → x ≡ true
 
 -- ---- The input that the numbers make
-
--- in the front of a slice
-pub record Rebuilt (tasks keys before : List ℕ) (size : ℕ) (after : List ℕ) : Type 0 where
-  pub same-length : length after ≡ length before
-  pub size-is : size ≡ length (input-of tasks (releases-in keys))
-  pub holds : take size after ≡ input-of tasks (releases-in keys)
 
 -- an input's head, as it was read
 pub record ReadHead (s : List ℕ) (k : Head) : Type 0 where

@@ -1,7 +1,8 @@
 // From the head of an input and a stored record, the release entries that made it.
-use crate::collect::collect;
+use crate::collecting::Noted;
+use crate::collecting::collect;
 use crate::order::sort;
-use crate::rebuild::rebuild;
+use crate::rebuilding::lay_input;
 use crate::replay::yields;
 use entries::RELEASE_SIZE;
 use entries::limits;
@@ -47,7 +48,7 @@ fn read_listed(
     requires { ⌜ length (now tasks) + size 2 * length (now keys) ≤ length (now input) ⌝ }
     ensures { λ r. ⌜ Wrote (listed-if (now (tasks .entry)) (now (stored .entry)) (now (out .entry)) (releases-in (now (keys .entry)))) r (now (out .exit)) ⌝ }
 {
-    let end = rebuild(tasks, keys, input);
+    let end = lay_input(tasks, keys, input);
     if yields(&input[..end], head, stored) {
         let from = tasks.len();
         return write_list(&input[from..end], out);
@@ -68,7 +69,11 @@ fn read_record(
     requires { ⌜ Lent (now tasks) (now stored) (now keys) (now input) ⌝ }
     ensures { λ r. ⌜ Wrote (read-told (now (tasks .entry)) (now (stored .entry)) (now (out .entry)) (told (now (stored .entry)))) r (now (out .exit)) ⌝ }
 {
-    let found = collect(stored, keys);
+    let none = Noted {
+        count: 0,
+        possible: true,
+    };
+    let found = collect(stored, none, keys);
     let noted = found.noted;
     let fault = found.refusal;
     match fault {

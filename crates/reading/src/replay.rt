@@ -25,10 +25,13 @@ fn alike_with(alike: bool, x: u8, y: u8) -> bool
     alike
 }
 
-fn same(a: &[u8], b: &[u8]) -> bool
-    requires { ⌜ length (now a) ≡ length (now b) ⌝ }
+// Whether two slices hold the same bytes.
+pub fn same(a: &[u8], b: &[u8]) -> bool
     ensures { λ r. ⌜ Tells r (now (a .entry)) (now (b .entry)) ⌝ }
 {
+    if a.len() != b.len() {
+        return false;
+    }
     let mut alike = true;
     let mut i: usize = 0;
     while i < a.len() {

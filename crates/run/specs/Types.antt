@@ -23,7 +23,3 @@ pub use Rattle.dispatcher.specs.declared.Dispatcher.{Dispatcher}
 pub use mathlib.Core.Bool.{Bool, true, false, cond, not, _&&_, _||_}
 pub use mathlib.Core.List.{List, [], _∷_, _++_}
 pub use Prim.Native.Nat.{ℕ, zero, suc, _+_, _-_, _*_, _^_, _≤_}
-
--- the head under its former name, for the programs
-abbrev pub TaskPart : Type 0
-TaskPart = Head

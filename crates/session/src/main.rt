@@ -1,30 +1,14 @@
 // Drives a dispatcher from standard input. The input is 4 bytes, lowest first, with the length of the opening bytes; the opening
 // bytes, which are task entries; then call entries until the input ends. The lines of the opening and of each call are printed. At the first
 // read or write that fails the program stops, and says so in a line on standard error.
-use call_entries::CallEntry;
 use dispatcher::Dispatcher;
-use streams::Got;
+use entries::CallEntry;
+use entries::limits;
+use streams::Sized;
 use table::Refusal;
-ghost use Prim.Native.Nat.{_≤_, _<_, min};
-ghost use mathlib.Core.Path.{_≡_};
+ghost use Prim.Native.Nat.{_≤_};
 ghost use lib.ListN.{length};
-ghost use Rattle.rules.specs.Cut.{opening-most};
-
-// As many opening bytes as are enough, which is proved: rules/specs/Cut, `OpensFromFront`.
-const OPENING: usize = 33 * entries::TASK_SIZE;
-
-// How many of the opening bytes were read to the front of the input, whether all of them were there, and whether no read failed.
-struct Head {
-    kept: usize,
-    whole: bool,
-    good: bool,
-}
-
-// Whether all bytes were there, and whether no read failed.
-struct Skipped {
-    whole: bool,
-    good: bool,
-}
+ghost use Rattle.entries.specs.Limits.{head-most};
 
 // The dispatcher after the whole calls at the start of a slice, how many bytes they took, and whether no write failed.
 struct Served {
@@ -42,46 +26,6 @@ struct Progress {
     good: bool,
 }
 
-fn least(a: usize, b: usize) -> usize
-    ensures { λ r. ⌜ (r ≤ a) × (r ≤ b) ⌝ }
-{
-    if a < b { a } else { b }
-}
-
-// Reads up to `count` bytes to the front of `to`, fewer only where the input ends or a read fails.
-fn read(to: &mut [u8], count: usize) -> Got
-    requires { ⌜ count ≤ length (now to) ⌝ }
-    ensures { λ r. ⌜ r .count ≤ count ⌝ }
-{
-    streams::fill(b"session", &mut to[..count], 0)
-}
-
-// Reads `count` bytes and drops them, and answers whether they were there and no read failed.
-fn skip(space: &mut [u8], count: usize) -> Skipped {
-    let mut left = count;
-    while left > 0 {
-        let most = least(left, space.len());
-        let got = read(space, most);
-        if got.count == 0 {
-            return Skipped {
-                whole: false,
-                good: got.good,
-            };
-        }
-        if !got.good {
-            return Skipped {
-                whole: false,
-                good: false,
-            };
-        }
-        left -= got.count;
-    }
-    Skipped {
-        whole: true,
-        good: true,
-    }
-}
-
 // Serves the whole calls at the start of `s`, with `out` to gather their lines in, as far as they can be printed.
 fn serve(d: Dispatcher, s: &[u8], out: &mut [u8]) -> Served
     ensures { λ r. ⌜ r .taken ≤ length (now (s .entry)) ⌝ }
@@ -90,8 +34,8 @@ fn serve(d: Dispatcher, s: &[u8], out: &mut [u8]) -> Served
     let mut state = d;
     let mut at = 0;
     loop {
-        let entry = call_entries::call_at(s, at);
-        let size = call_entries::call_size(entry);
+        let entry = entries::call_at(s, at);
+        let size = entries::call_size(entry);
         if size == 0 {
             break;
         }
@@ -120,7 +64,7 @@ fn serve(d: Dispatcher, s: &[u8], out: &mut [u8]) -> Served
 
 // Whether the bytes are a call's that more of the input may make whole, or none.
 fn unfinished(rest: &[u8]) -> bool {
-    if let CallEntry::CutShort = call_entries::call_at(rest, 0) {
+    if let CallEntry::CutShort = entries::call_at(rest, 0) {
         true
     } else {
         false
@@ -177,46 +121,16 @@ fn run(input: &mut [u8], out: &mut [u8], d: Dispatcher) {
     }
 }
 
-// How many of `size` opening bytes are kept: all of them, or as many as are enough.
-fn enough(size: usize) -> usize
-    ensures { λ r. ⌜ (r ≤ size) × (r ≡ min size opening-most) ⌝ }
-{
-    if size < OPENING { size } else { OPENING }
-}
-
 // Reads the opening bytes, and keeps those that are enough. The rest only has to be there.
-fn read_opening(input: &mut [u8], space: &mut [u8]) -> Head
-    requires { ⌜ opening-most ≤ length (now input) ⌝ }
-    ensures { λ r. ⌜ r .kept ≤ opening-most ⌝ }
+fn read_opening(input: &mut [u8], space: &mut [u8]) -> Sized
+    requires { ⌜ head-most ≤ length (now input) ⌝ }
+    ensures { λ r. ⌜ r .kept ≤ head-most ⌝ }
 {
-    let first = read(input, 4);
-    if first.count < 4 {
-        return Head {
-            kept: 0,
-            whole: false,
-            good: first.good,
-        };
-    }
-    let size = words::get_u32(input, 0) as usize;
-    let kept = enough(size);
-    let got = read(input, kept);
-    if got.count < kept {
-        return Head {
-            kept: 0,
-            whole: false,
-            good: got.good,
-        };
-    }
-    let rest = skip(space, size - kept);
-    Head {
-        kept,
-        whole: rest.whole,
-        good: rest.good,
-    }
+    streams::read_sized(b"session", &mut input[..limits::HEAD_MOST], space)
 }
 
 fn drive(input: &mut [u8], out: &mut [u8])
-    requires { ⌜ opening-most ≤ length (now input) ⌝ }
+    requires { ⌜ head-most ≤ length (now input) ⌝ }
 {
     let head = read_opening(input, out);
     if !head.good {

@@ -7,7 +7,7 @@ use native.Mathlib.Numerals.{add-one}
 use native.Mathlib.Nat.{add-comm}
 use lib.ListN.{length, getD, set, take, drop, length-append, length-take, length-drop}
 use lib.Seq.{slice, length-take-le, take-suc, take-length, drop-cons, set-at, append-snoc, getD-append-add, getD-drop, getD-take, take-take}
-use Rattle.streams.specs.Keeping.{Keeps}
+use Rattle.streams.specs.Fronts.{Keeps}
 
 -- ---- What is moved
 

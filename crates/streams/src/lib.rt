@@ -1,14 +1,23 @@
 // Standard input and output of the programs. A call that fails is told apart from one that moved fewer bytes: it is said in one line on
 // standard error, behind the program's name, and the caller is told to stop.
+mod sized;
+mod source;
+
 use libc::STDERR_FILENO;
 use libc::STDIN_FILENO;
 use libc::STDOUT_FILENO;
+pub use sized::Sized;
+pub use sized::read_sized;
+pub use source::Source;
+pub use source::go_back;
+pub use source::put_aside;
+pub use source::read_again;
+pub use source::twice;
 ghost use mathlib.Core.Path.{_≡_};
 ghost use mathlib.Core.Bool.{true, false};
-ghost use Prim.Native.Nat.{_≤_, _<_, min};
-ghost use lib.ListN.{length, take};
-ghost use Rattle.io.specs.Counts.{Counts};
-ghost use Rattle.streams.specs.Keeping.{Keeps};
+ghost use Prim.Native.Nat.{_<_, min};
+ghost use lib.ListN.{length};
+ghost use Rattle.streams.specs.Fronts.{ReadsBehind, Keeps};
 
 // How many bytes a read put at the front of what it was lent, and whether it came to the end of what was asked for without a failure.
 pub struct Got {
@@ -28,55 +37,22 @@ fn least(a: usize, b: usize) -> usize
     if a < b { a } else { b }
 }
 
-// One read. No bytes and no failure is the end of the input; a read that fails put none.
-pub fn read_once(name: &[u8], to: &mut [u8]) -> Got
-    ensures { λ r. ⌜ Counts (r .count) (now (to .exit)) ⌝ }
-    ensures { λ r. ⌜ (r .good ≡ false → r .count ≡ 0) ⌝ }
-{
-    let got = libc::read(STDIN_FILENO, to);
-    if got < 0 {
-        fail(name, b": standard input");
-        return Got {
-            count: 0,
-            good: false,
-        };
-    }
-    let count = io::count(got, to);
-    Got { count, good: true }
-}
-
-// One read behind the first `done` bytes of `to`, which stay, counted with them.
+// One read of standard input behind the first `done` bytes of `to`, which stay, counted with them. No more bytes and no failure is the end
+// of the input; a read that fails put none.
 pub fn read_behind(name: &[u8], to: &mut [u8], done: usize) -> Got
-    ensures { λ r. ⌜ (min done (length (now (to .entry))) ≤ r .count) × (r .count ≤ length (now (to .entry))) ⌝ }
+    ensures { λ r. ⌜ ReadsBehind done (now (to .entry)) (r .count) (now (to .exit)) ⌝ }
     ensures { λ r. ⌜ (r .good ≡ false → r .count ≡ min done (length (now (to .entry)))) ⌝ }
-    ensures { λ _. ⌜ take (min done (length (now (to .entry)))) (now (to .exit)) ≡ take (min done (length (now (to .entry)))) (now (to .entry)) ⌝ }
 {
-    let from = least(done, to.len());
-    let got = read_once(name, &mut to[from..]);
-    Got {
-        count: from + got.count,
-        good: got.good,
-    }
+    source::read_behind(name, STDIN_FILENO, to, done)
 }
 
 // Reads behind the first `done` bytes of `to`, which stay, until it is full or the input ends, counted with them. Where a read fails, what
 // came before it is no input, and does not fill `to`.
 pub fn fill(name: &[u8], to: &mut [u8], done: usize) -> Got
-    ensures { λ r. ⌜ (min done (length (now (to .entry))) ≤ r .count) × Counts (r .count) (now (to .exit)) ⌝ }
+    ensures { λ r. ⌜ ReadsBehind done (now (to .entry)) (r .count) (now (to .exit)) ⌝ }
     ensures { λ r. ⌜ (r .good ≡ false → r .count < length (now (to .exit))) ⌝ }
-    ensures { λ _. ⌜ take (min done (length (now (to .entry)))) (now (to .exit)) ≡ take (min done (length (now (to .entry)))) (now (to .entry)) ⌝ }
 {
-    let mut count = least(done, to.len());
-    let mut good = true;
-    while count < to.len() {
-        let got = read_behind(name, to, count);
-        if got.count == count {
-            good = got.good;
-            break;
-        }
-        count = got.count;
-    }
-    Got { count, good }
+    source::fill(name, STDIN_FILENO, to, done)
 }
 
 // Moves the bytes from `from` up to `end` to the front, and answers how many there are.

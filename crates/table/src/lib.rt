@@ -41,9 +41,6 @@ pub struct Head {
     pub refusal: Refusal,
 }
 
-// The same under its former name, for the programs.
-pub type TaskPart = Head;
-
 // 0 where there is none.
 pub fn number_of(refusal: Refusal) -> u8
     ensures { λ r. ⌜ r ≡ refusal-number refusal ⌝ }

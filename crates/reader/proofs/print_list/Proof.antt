@@ -1,18 +1,18 @@
 -- `reader::print_list` is safe and ends. The measure is how many bytes are left. Assumes nothing.
 use mathlib.Core.Path.{_≡_}
-use Prim.Native.Nat.{_-_, _≤_}
-use lib.ListN.{length}
+use Prim.Native.Nat.{_-_}
 use native.Mathlib.Omega.{arith}
 use borrow.Author.Tests.{leb-true}
 use borrow.Author.Needs.{needs}
+use lib.ListN.{length}
 use Rattle.reader.proofs.print_list.Statement.{statement}
 use Rattle.reader.proofs.print_list.Tie as tie
 
 abbrev Inv-loop : tie.InvT-loop
-Inv-loop list size out₀ len₀ at₀ t8 t9 out len at = (at ≤ length list) × (length out ≡ length out₀)
+Inv-loop list from out₀ len₀ at₀ t8 t9 out len at = length out ≡ length out₀
 
 abbrev μ-loop : tie.MeasureT-loop
-μ-loop list size out₀ len₀ at₀ t8 t9 out len at = length list - at
+μ-loop list from out₀ len₀ at₀ t8 t9 out len at = length list - at
 
 loop-holds : tie.Need-loop-holds Inv-loop μ-loop
 loop-holds c = search needs
@@ -36,7 +36,10 @@ returns : tie.Need-returns Inv-loop μ-loop
 returns c = search needs
 
 add-at : tie.Need-add-at Inv-loop μ-loop
-add-at c = search needs
+add-at c =
+    let v = c .before .before .before .before .before .before .before .before in
+    let f = v .before .before .before .before .before in
+    omega (arith, leb-true 10 (length (f .args .list .now) - v .before .before .loop .at) (v .if1 .taken), f .good .0 .0)
 
 loop-less : tie.Need-loop-less Inv-loop μ-loop
 loop-less c =
@@ -46,11 +49,7 @@ loop-less c =
     omega (arith, left)
 
 loop-again : tie.Need-loop-again Inv-loop μ-loop
-loop-again c =
-    let v = c .before .before .before .before .before .before .before .before in
-    let s = v .before .before .before .before .before .args .list .now in
-    let left = leb-true 10 (length s - v .before .before .loop .at) (v .if1 .taken) in
-    (omega (arith, left), search needs)
+loop-again c = search needs
 
 slice-aggregate-write-front : tie.Need-slice-aggregate-write-front Inv-loop μ-loop
 slice-aggregate-write-front c = search needs

@@ -4,7 +4,7 @@ use Prim.Native.Nat.{_-_, _≤_}
 use borrow.Author.Needs.{needs}
 use native.Mathlib.Omega.{arith}
 use lib.ListN.{length}
-use Rattle.call_entries.proofs.Laws.{size-fits}
+use Rattle.entries.proofs.CallSizes.{size-fits}
 use Rattle.session.proofs.serve.Statement.{statement}
 use Rattle.session.proofs.serve.Tie as tie
 

@@ -1,10 +1,10 @@
 -- `reading::replay::goes_on_with` meets its contract. Assumes nothing.
-use mathlib.Core.Path.{_≡_, sym, ap, _∙_, subst}
+use mathlib.Core.Path.{_≡_, sym, subst}
 use mathlib.Core.Bool.{Bool}
 use mathlib.Core.List.{List}
-use Prim.Native.Nat.{ℕ, _+_, _-_, _≤_}
+use Prim.Native.Nat.{ℕ, _+_, _-_}
 use native.Mathlib.Omega.{arith}
-use lib.ListN.{length, take, drop, length-drop}
+use lib.ListN.{take, drop}
 use lib.Seq.{length-take-le}
 use Rattle.reading.specs.Parts.{Tells}
 use Rattle.reading.proofs.Holding.{too-few}
@@ -18,9 +18,6 @@ back at n = omega arith
 -- the next n bytes, written as the part up to their end
 held : (s : List ℕ) (at n : ℕ) (made : List ℕ) {x : Bool} → Tells x (take (at + n - at) (drop at s)) (take n made) → Tells x (take n (drop at s)) (take n made)
 held s at n made {x} h = subst (λ (k : ℕ). Tells x (take k (drop at s)) (take n made)) (back at n) h
-
-part-length : (s : List ℕ) (at n : ℕ) → at + n ≤ length s → length (take (at + n - at) (drop at s)) ≡ n
-part-length s at n l = ap (λ (k : ℕ). length (take k (drop at s))) (back at n) ∙ length-take-le n (drop at s) (omega (arith, length-drop at s))
 
 sub-if1 : tie.Need-sub-if1
 sub-if1 c = search needs
@@ -44,9 +41,7 @@ slice-aggregate-same : tie.Need-slice-aggregate-same
 slice-aggregate-same c = sym (length-take-le (c .before .before .before .before .before .args .n) (c .before .before .before .before .before .args .made .now) (c .before .before .before .before .before .pre .1))
 
 same-requires : tie.Need-same-requires
-same-requires c κs =
-    let a = c .before .before .before .before .before in
-    part-length (a .args .stored .now) (a .args .at) (a .args .n) (omega (arith, a .pre .0, c .before .before .if1 .left)) ∙ sym (length-take-le (a .args .n) (a .args .made .now) (a .pre .1))
+same-requires c κs = search needs
 
 returns-2 : tie.Need-returns-2
 returns-2 c =
