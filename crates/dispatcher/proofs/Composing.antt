@@ -100,8 +100,8 @@ module _ {kt ka kb kx kf kg : Kept} {bb bx bf : Beside} {new : ReleaseFates} {he
         timed-is = stamps .state;
         a-is = ends .state ∙ outs .state;
         b-is = tests .state;
-        new-is = ap (λ (z : ReleaseFates). z .taken) takes;
-        late-is = ap (λ (z : ReleaseFates). z .deferred) takes;
+        taken-is = ap (λ (z : ReleaseFates). z .taken) takes;
+        deferred-is = ap (λ (z : ReleaseFates). z .deferred) takes;
         held-is = holds (kb .times) (kb .sets);
         x-is = moves .state;
         f-is = second .state;

@@ -13,7 +13,7 @@ use Rattle.rules.specs.Instant.{step-a, step-b, step-c, step-d, step-e, step-g,
 use Rattle.guarantees.specs.History.{Event, Comes, Starts, Stops, Finishes, Completes, Ends, Takes, Defers, GivesWay, Begins, history, happens, processor-events-in, finish-events, finish-events-in, completion-events, end-events, take-events, given-way, giving-events, giving-events-in, begin-events, start-events}
 use Rattle.guarantees.specs.Queries.{details, finishes, ends, begins, gives-way, after}
 use Rattle.guarantees.specs.Intervals.{Course, no-course, course, work-by, course-by, promoted-by, executes-next, Proceeds, entry-by, ended}
-use Rattle.guarantees.specs.Entries.{answers, closed-in, closed}
+use Rattle.guarantees.specs.Entries.{all-occurred, closed-in, closed}
 use Rattle.guarantees.proofs.Walk.{walk-told}
 use Rattle.guarantees.proofs.Cases.{held-at, HeldFor, d-fates, e-cases}
 use Rattle.guarantees.proofs.Steps.{settles, processor-task-same}
@@ -868,11 +868,11 @@ module _ (table : Table) (marks : ℕ) where
   abbrev pr : List ℕ
   pr = table .priority
 
-  along : (cs : List Call) (d : State) (x : Course) → Agrees (table .priority) 0 x d (d .phase) → Follows (table .priority) (closed (answers d cs)) x (history d cs)
+  along : (cs : List Call) (d : State) (x : Course) → Agrees (table .priority) 0 x d (d .phase) → Follows (table .priority) (closed (all-occurred d cs)) x (history d cs)
   along =
       walk-told (λ d os h. (x : Course) → Agrees pr 0 x d (d .phase) → Follows pr (closed os) x h)
       (λ d x a. record { executing = unfold Executing-so in tt; says = unfold ended closed in refl })
-      (λ d t set cs e k x a. unfold closed in instant-follows pr (closed (answers (at-g d t set) cs)) d t set (history (at-g d t set) cs) k x a)
+      (λ d t set cs e k x a. unfold closed in instant-follows pr (closed (all-occurred (at-g d t set) cs)) d t set (history (at-g d t set) cs) k x a)
       (λ d m os h k x a. k x (record { table-is = a .table-is; half-is = a .half-is; phase = a .phase }))
 
   none-highest : (q : MaybeTask) → Best (table .priority) 0 q → NoTask ≡ q
@@ -880,7 +880,7 @@ module _ (table : Table) (marks : ℕ) where
   none-highest (Task q) b = clash (member q 0) (b .1) (none q)
 
   -- every list of calls from the state that opening returned
-  pub courses : (calls : List Call) → Follows (table .priority) (closed (answers (opened table marks) calls)) no-course (history (opened table marks) calls)
+  pub courses : (calls : List Call) → Follows (table .priority) (closed (all-occurred (opened table marks) calls)) no-course (history (opened table marks) calls)
   courses calls =
       along calls (opened table marks) no-course
       (unfold opened in record {

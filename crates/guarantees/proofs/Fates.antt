@@ -12,7 +12,7 @@ use Rattle.rules.specs.Calls.{refusal, instant, served as served-step, after-ca
 use Rattle.guarantees.specs.History.{Event, Takes, Defers, happens, by-call, history, after-calls, take-events, defer-events, giving-events-in, end-events, begin-events, start-events}
 use Rattle.guarantees.specs.Queries.{after, first, taking, waiting}
 use Rattle.guarantees.specs.Releases.{Fates, no-release, fates-by, fates, Balance, Placed}
-use Rattle.guarantees.specs.Entries.{answer-of, answers, handed-in, skips}
+use Rattle.guarantees.specs.Entries.{answer-of, all-occurred, handed-in, skips}
 use Rattle.guarantees.proofs.Walk.{each-call, served, refused, refused-answer}
 use Rattle.guarantees.proofs.Events.{by-front, by-takes, by-defers, front-of, tail-of, happens-parts, tail-parts}
 use Rattle.guarantees.proofs.Frames.{waiting-b}
@@ -153,8 +153,8 @@ module _ (n : ℕ) (small : n < 32) where
       ⊎-elim (λ s. absurd (let x : Mark k m ≡ Instant (s .time) (s .set) = s .is in let z : _≡_ {A = ℕ} 0 1 = cc in omega arith))
       (λ q. ap (λ (x : State). x .waiting) (q .leaves)) (each-call d (Mark k m))
 
-  balance : (cs : List Call) (d : State) (x : Fates) → x .waits ≡ member n (d .waiting .tasks) → Goes x (F x (history d cs)) (handed-in n d cs) (skips n (answers d cs))
-  unfolding handed-in history answers skips by-call answer-of
+  balance : (cs : List Call) (d : State) (x : Fates) → x .waits ≡ member n (d .waiting .tasks) → Goes x (F x (history d cs)) (handed-in n d cs) (skips n (all-occurred d cs))
+  unfolding handed-in history all-occurred skips by-call answer-of
   balance [] d x a = unfold after in record { handed-is = refl; waiting-is = refl }
   balance (Instant t set ∷ cs) d x a =
       by-test (eqb (refusal d t set) 0)
@@ -164,9 +164,9 @@ module _ (n : ℕ) (small : n < 32) where
       (λ e. rw (told-of d t set, e, refused d t set e, zero-add) (balance cs d x a))
   balance (Mark k m ∷ cs) d x a = balance cs (after-call d (Mark k m)) x (a ∙ ap (λ (w : WaitingReleases). member n (w .tasks)) (sym (mark-waits d k m)))
 
-  pub balanced : (d : State) (cs : List Call) → member n (d .waiting .tasks) ≡ false → Balance n (handed-in n d cs) (skips n (answers d cs)) (history d cs)
+  pub balanced : (d : State) (cs : List Call) → member n (d .waiting .tasks) ≡ false → Balance n (handed-in n d cs) (skips n (all-occurred d cs)) (history d cs)
   balanced d cs e =
-      let g : Goes no-release (fates n (history d cs)) (handed-in n d cs) (skips n (answers d cs)) = balance cs d no-release (sym e) in
+      let g : Goes no-release (fates n (history d cs)) (handed-in n d cs) (skips n (all-occurred d cs)) = balance cs d no-release (sym e) in
       record { each-handed = omega (arith, g .handed-is); each-waiting = omega (arith, g .waiting-is) }
 
   -- ---- an instant

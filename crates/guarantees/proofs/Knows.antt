@@ -79,7 +79,7 @@ module _ (pr : List ℕ) (n : ℕ) (small : n < 32) where
     pub started : x .started ≡ s
 
   -- the release that waits
-  pub record Holds (h : Due) (w : WaitingReleases) : Type 0 where
+  pub record HoldsWaiting (h : Due) (w : WaitingReleases) : Type 0 where
     pub times : n < length (w .times)
     pub is : h ≡ cond (member n (w .tasks)) (Tick (getD (w .times) n 0)) Never
 
@@ -88,7 +88,7 @@ module _ (pr : List ℕ) (n : ℕ) (small : n < 32) where
     pub at : x .at ≡ situation-of (d .phase)
     pub releases : n < length (d .jobs .release)
     pub counts : n < length (d .jobs .blocked)
-    pub holds : Holds (x .held) (d .waiting)
+    pub holds : HoldsWaiting (x .held) (d .waiting)
     pub awaits : AwaitsIn pr n small d → Awaiting x d
     pub runs : (s : Due) → RunsAt s (d .phase) → Ran x s d
 
@@ -102,7 +102,7 @@ module _ (pr : List ℕ) (n : ℕ) (small : n < 32) where
     at : situation-of (g .phase) ≡ situation-of (d .phase)
     runs : (s : Due) → RunsAt s (g .phase) → RunsAt s (d .phase)
 
-  alike-knows : (d g : State) (x : Tally) (h : Due) → Alike d g → Holds h (g .waiting) → Knows x d → Knows (with-held n x h) g
+  alike-knows : (d g : State) (x : Tally) (h : Due) → Alike d g → HoldsWaiting h (g .waiting) → Knows x d → Knows (with-held n x h) g
   alike-knows d g x h l z k = record {
     table = l .like .table ∙ k .table;
     at = k .at ∙ sym (l .at);
@@ -136,7 +136,7 @@ module _ (pr : List ℕ) (n : ℕ) (small : n < 32) where
 
   pub d-knows : (new : ℕ) (d : State) (x : Tally) → Knows x d → Knows x (step-d d new (d .phase))
   d-knows new d x k =
-      alike-knows d (step-d d new (d .phase)) x (x .held) (d-alike new d) (subst (Holds (x .held)) (sym (ap (λ (y : Frame). y .waiting) (d-frame d new))) (k .holds)) k
+      alike-knows d (step-d d new (d .phase)) x (x .held) (d-alike new d) (subst (HoldsWaiting (x .held)) (sym (ap (λ (y : Frame). y .waiting) (d-frame d new))) (k .holds)) k
 
   -- e
   choose-same : (d : State) (t : ℕ) (i : Interval) (q : MaybeTask) → (choose d t i q .jobs .release ≡ d .jobs .release) × (choose d t i q .jobs .blocked ≡ d .jobs .blocked)
@@ -165,7 +165,7 @@ module _ (pr : List ℕ) (n : ℕ) (small : n < 32) where
 
   pub e-knows : (t : ℕ) (d : State) (x : Tally) → Knows x d → Knows x (step-e d t (d .phase))
   e-knows t d x k =
-      alike-knows d (step-e d t (d .phase)) x (x .held) (e-alike t d) (subst (Holds (x .held)) (sym (ap (λ (y : Frame). y .waiting) (e-frame d t))) (k .holds)) k
+      alike-knows d (step-e d t (d .phase)) x (x .held) (e-alike t d) (subst (HoldsWaiting (x .held)) (sym (ap (λ (y : Frame). y .waiting) (e-frame d t))) (k .holds)) k
 
   -- ---- a
 
@@ -447,7 +447,7 @@ module _ (pr : List ℕ) (n : ℕ) (small : n < 32) where
     abbrev held-c : Due
     held-c = cond (member n late) (Tick t) (cond (member n new) Never (x .held))
 
-    c-holds : Holds held-c (step-c d t new late .waiting)
+    c-holds : HoldsWaiting held-c (step-c d t new late .waiting)
     unfolding step-c
     c-holds = record {
       times = omega (arith, k .holds .times, stamped-length late (λ j. t) 0 (d .waiting .times));

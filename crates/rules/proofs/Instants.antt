@@ -127,8 +127,8 @@ pub record Left (d : State) (t set new late held : ℕ) (timed a b x f g : State
   pub timed-is : timed ≡ at-clock d t
   pub a-is : a ≡ step-a timed t (timed .phase) .state
   pub b-is : b ≡ step-f a t .state
-  pub new-is : new ≡ taken b set
-  pub late-is : late ≡ deferred b set
+  pub taken-is : new ≡ taken b set
+  pub deferred-is : late ≡ deferred b set
   pub held-is : held ≡ held-over (b .phase) new
   pub x-is : x ≡ steps-c-d b t new late
   pub f-is : f ≡ step-e-f x t .state
@@ -158,8 +158,8 @@ module _ {new late held : ℕ} {timed a b x f g : State} (d : State) (t set : �
   steps : Steps d t set new late held b f g
   steps = record {
     b-is = h .b-is ∙ b-at;
-    new-is = h .new-is;
-    late-is = h .late-is;
+    taken-is = h .taken-is;
+    deferred-is = h .deferred-is;
     f-is = h .f-is ∙ ap (λ (z : Stage). z .state) f-at;
     held-is = h .held-is;
     g-is = h .g-is;
