@@ -5,7 +5,7 @@ use lib.Dec.{eqb}
 use Rattle.sets.specs.Sets.{union, intersection, difference, insert}
 use Rattle.sets.proofs.Laws.{by-test}
 use Rattle.rules.specs.Instant.{processor-at, copyout-at, copyin-at, ended, completed, after-done, without-done, step-a, resting, settled, processor-task, copyout-task, copyin-task, copyin-fate, without-promoted, next-of, awaiting-copyout, original, stamped, with-candidates, step-c, cancel, work-of, begin-processor, begin-copyout, begin, is-over, closed-with, entry-with}
-use Rattle.rules.specs.Registers.{Arrays, arrays, waits, as-task, as-processor, as-copyout, as-next, as-outgoing, processor-in, copyout-in, copyin-in, interval-in, phase-in, Memory, state-in}
+use Rattle.rules.specs.Registers.{Arrays, arrays, waits, as-task, as-processor, as-copyout, as-next, as-outgoing, processor-in, copyout-in, copyin-in, interval-in, phase-in, Memory, state-with, state-in}
 use Rattle.rules.specs.Steps.{CopyInAt, GivenWay}
 use Rattle.rules.proofs.Parts.{not-copying-out}
 
@@ -29,15 +29,7 @@ taken-memory new late t m = with-kept m (taken-arrays new t (m .waiting) (m .arr
 -- an open interval, by its units
 pub opened-with : (m : Memory) (r : Registers) (p : Processor) (o : CopyOut) (i : CopyIn)
     → eqb (r .copyin) 6 ≡ false → processor-in r ≡ p → copyout-in r ≡ o → copyin-in r ≡ i
-    → state-in m r ≡ record {
-      table = m .table;
-      marked = r .marked;
-      clock = m .clock;
-      half = r .half;
-      jobs = record { pending = r .pending; ready = r .ready; release = m .arrays .release; blocked = m .arrays .blocked };
-      waiting = m .waiting;
-      phase = Within (record { begin = r .begin; work = r .work; processor = p; copyout = o; copyin = i; candidates = r .candidates });
-    }
+    → state-in m r ≡ state-with m r (Within (record { begin = r .begin; work = r .work; processor = p; copyout = o; copyin = i; candidates = r .candidates }))
 unfolding state-in phase-in interval-in
 opened-with m r p o i e ep eo ei = simp (e, ep, eo, ei)
 
@@ -111,27 +103,39 @@ entry-by r t p fate task copiedout chosen promoted a b c d e = simp (a, b, c, d,
 
 pub closed-by : (m : Memory) (r : Registers) (p : MaybeTask) (out ready work n : ℕ)
     → as-outgoing out (r .task) (r .start) ≡ awaiting-copyout (processor-in r) → ready ≡ without-promoted (r .ready) p → as-next work n ≡ next-of (copyin-in r) p
-    → state-in m (record { marked = r .marked; pending = r .pending; ready = ready; candidates = r .candidates; begin = r .begin; start = r .start; until = r .until; outstart = r .start; outuntil = r .outuntil; inuntil = r .inuntil; half = r .half; work = work; processor = r .processor; task = n; copyout = out; outtask = r .task; copyin = 6; intask = r .intask }) ≡ closed-with (state-in m r) (interval-in r) p
+    → state-in m (record {
+      marked = r .marked;
+      pending = r .pending;
+      ready = ready;
+      candidates = r .candidates;
+      begin = r .begin;
+      start = r .start;
+      until = r .until;
+      outstart = r .start;
+      outuntil = r .outuntil;
+      inuntil = r .inuntil;
+      half = r .half;
+      work = work;
+      processor = r .processor;
+      task = n;
+      copyout = out;
+      outtask = r .task;
+      copyin = 6;
+      intask = r .intask;
+    })
+    ≡ closed-with (state-in m r) (interval-in r) p
 unfolding state-in phase-in interval-in closed-with
 closed-by m r p out ready work n o a b = simp (a, b, o)
 
 -- ---- c
 
-pub taken-with : (m : Memory) (r : Registers) (t new late pending ready marked candidates : ℕ)
-    → pending ≡ union (r .pending) new → ready ≡ union (r .ready) new → marked ≡ intersection new (r .marked) → candidates ≡ union (r .candidates) marked
-    → state-in (taken-memory new late t m) (record { marked = r .marked; pending = pending; ready = ready; candidates = candidates; begin = r .begin; start = r .start; until = r .until; outstart = r .outstart; outuntil = r .outuntil; inuntil = r .inuntil; half = r .half; work = r .work; processor = r .processor; task = r .task; copyout = r .copyout; outtask = r .outtask; copyin = r .copyin; intask = r .intask }) ≡ step-c (state-in m r) t new late
-unfolding state-in phase-in interval-in step-c with-candidates
-taken-with m r t new late pending ready marked candidates a b k c =
-    by-test (eqb (r .copyin) 6) (λ e. simp (e, a, b)) (λ e. simp (e, a, b, c, k))
-
--- ---- d
-
-abbrev with-given : Registers → ℕ → ℕ → Registers
-with-given r ready kind = record {
+-- other sets, and another kind of copy-in
+abbrev pub with-sets : Registers → ℕ → ℕ → ℕ → ℕ → Registers
+with-sets r pending ready candidates kind = record {
   marked = r .marked;
-  pending = r .pending;
+  pending = pending;
   ready = ready;
-  candidates = r .candidates;
+  candidates = candidates;
   begin = r .begin;
   start = r .start;
   until = r .until;
@@ -147,6 +151,18 @@ with-given r ready kind = record {
   copyin = kind;
   intask = r .intask;
 }
+
+pub taken-with : (m : Memory) (r : Registers) (t new late pending ready marked candidates : ℕ)
+    → pending ≡ union (r .pending) new → ready ≡ union (r .ready) new → marked ≡ intersection new (r .marked) → candidates ≡ union (r .candidates) marked
+    → state-in (taken-memory new late t m) (with-sets r pending ready candidates (r .copyin)) ≡ step-c (state-in m r) t new late
+unfolding state-in phase-in interval-in step-c with-candidates
+taken-with m r t new late pending ready marked candidates a b k c =
+    by-test (eqb (r .copyin) 6) (λ e. simp (e, a, b)) (λ e. simp (e, a, b, c, k))
+
+-- ---- d
+
+abbrev with-given : Registers → ℕ → ℕ → Registers
+with-given r ready kind = with-sets r (r .pending) ready (r .candidates) kind
 
 -- the copy-in gives way
 pub given-with : (m : Memory) (r : Registers) (ready kind : ℕ) → GivenWay (r .copyin) kind → ready ≡ insert (r .intask) (r .ready)
@@ -165,6 +181,26 @@ pub begun-with : (m : Memory) (r : Registers) (t new kind until out outuntil hal
     → half ≡ 1 - r .half
     → work ≡ work-of (as-next (r .work) (r .task))
     → candidates ≡ intersection new (r .marked)
-    → state-in m (record { marked = r .marked; pending = r .pending; ready = r .ready; candidates = candidates; begin = t; start = t; until = until; outstart = r .outstart; outuntil = outuntil; inuntil = r .inuntil; half = half; work = work; processor = kind; task = r .task; copyout = out; outtask = r .outtask; copyin = 0; intask = r .intask }) ≡ begin (state-in m r) t new (as-next (r .work) (r .task)) (as-outgoing (r .copyout) (r .outtask) (r .outstart))
+    → state-in m (record {
+      marked = r .marked;
+      pending = r .pending;
+      ready = r .ready;
+      candidates = candidates;
+      begin = t;
+      start = t;
+      until = until;
+      outstart = r .outstart;
+      outuntil = outuntil;
+      inuntil = r .inuntil;
+      half = half;
+      work = work;
+      processor = kind;
+      task = r .task;
+      copyout = out;
+      outtask = r .outtask;
+      copyin = 0;
+      intask = r .intask;
+    })
+    ≡ begin (state-in m r) t new (as-next (r .work) (r .task)) (as-outgoing (r .copyout) (r .outtask) (r .outstart))
 unfolding state-in phase-in interval-in begin
 begun-with m r t new kind until out outuntil half work candidates p o h x c = simp (p, o, h, x, c)

@@ -16,7 +16,7 @@ use Rattle.rules.specs.Registers.{as-task, as-processor, as-copyout, as-
 use Rattle.rules.specs.Steps.{CopyInAt, GivenWay, next-in, outgoing-in, ProcessorSet, NextSet, CopiesOut, CopyInSet, ProcessorTo}
 use Rattle.rules.specs.Kept.{Kept, kept, Whole, ByTask, Beside, beside, registers-in, memory-in, read, Becomes, copyout-ends}
 use Rattle.rules.proofs.Parts.{copyout-stays, none-completed, is-completed, job-completed, not-yet-completed, nothing-completed, not-copying-out, copyout-begins}
-use Rattle.rules.proofs.Fields.{none-ends, copies, ends-settled, not-ended, ended-with, begun-with, closed-by, given-with, taken-with}
+use Rattle.rules.proofs.Fields.{none-ends, copies, ends-settled, not-ended, ended-with, begun-with, closed-by, given-with, taken-with, with-sets}
 use Rattle.rules.proofs.Releases.{same-memory}
 
 -- for all lists of n numbers, number by number
@@ -53,7 +53,26 @@ by-numbers P h k w =
     (λ begin start until outstart outuntil inuntil last. by-length 6 (λ y. P (kept (begin ∷ start ∷ until ∷ outstart ∷ outuntil ∷ inuntil ∷ last ∷ []) y (k .codes)))
     (λ marked pending ready candidates present waiting. by-length 9 (λ z. P (kept (begin ∷ start ∷ until ∷ outstart ∷ outuntil ∷ inuntil ∷ last ∷ []) (marked ∷ pending ∷ ready ∷ candidates ∷ present ∷ waiting ∷ []) z))
     (λ half work processor task copyout outtask copyin intask timed. h
-    (record { marked = marked; pending = pending; ready = ready; candidates = candidates; begin = begin; start = start; until = until; outstart = outstart; outuntil = outuntil; inuntil = inuntil; half = half; work = work; processor = processor; task = task; copyout = copyout; outtask = outtask; copyin = copyin; intask = intask })
+    (record {
+      marked = marked;
+      pending = pending;
+      ready = ready;
+      candidates = candidates;
+      begin = begin;
+      start = start;
+      until = until;
+      outstart = outstart;
+      outuntil = outuntil;
+      inuntil = inuntil;
+      half = half;
+      work = work;
+      processor = processor;
+      task = task;
+      copyout = copyout;
+      outtask = outtask;
+      copyin = copyin;
+      intask = intask;
+    })
     (record { present = present; waiting = waiting; last = last; timed = timed }))
     (k .codes) (w .codes-whole)) (k .sets) (w .sets-whole)) (k .times) (w .times-whole)
 
@@ -249,7 +268,7 @@ taken-at priority columns o o' t new late before waiting pending ready marked ca
     by-numbers _ (λ r y. λ ed ew ep er em ec x z u. record {
       whole = record { times-whole = refl; sets-whole = refl; codes-whole = refl };
       state = same-memory (memory-in (listed r y) (beside priority columns o))
-          (record { marked = r .marked; pending = pending; ready = ready; candidates = candidates; begin = r .begin; start = r .start; until = r .until; outstart = r .outstart; outuntil = r .outuntil; inuntil = r .inuntil; half = r .half; work = r .work; processor = r .processor; task = r .task; copyout = r .copyout; outtask = r .outtask; copyin = r .copyin; intask = r .intask })
+          (with-sets r pending ready candidates (r .copyin))
           x z (ew ∙ ap (λ s. union s late) ed) u
           ∙ taken-with (memory-in (listed r y) (beside priority columns o)) r t new late pending ready marked candidates ep er em ec;
     })
