@@ -7,6 +7,7 @@ use borrow.Author.Tests.{eqb-false, not-true}
 use lib.Dec.{eqb}
 use Rattle.sets.specs.Sets.{member, union, intersection, insert, size}
 use Rattle.sets.proofs.Laws.{clash, union-left, intersection-in, intersection-left, intersection-right, insert-other, size-union, size-remove, size-insert, size-none, size-some, empty, union-small, remove-small, insert-small}
+use Rattle.guarantees.proofs.Frames.{at-c, at-d}
 use Rattle.guarantees.proofs.Highest.{Best}
 use Rattle.guarantees.proofs.Walk.{walk}
 use Rattle.guarantees.proofs.Totals.{begins-of, takes-of}
@@ -406,13 +407,11 @@ pub to-e : (d : State) (t set : ℕ) → Sound (at-b d t .state) (at-b d t .stat
 unfolding at-e
 to-e d t set h =
     let b : State = at-b d t .state in
-    let new : ℕ = new-at d t set in
-    let late : ℕ = late-at d t set in
-    let c : State = step-c b t new late in
-    let x : State = step-d c new (c .phase) in
-    let e : State = step-e x t (x .phase) in
-    let l1 : Leads b (b .phase) c (c .phase) 0 (size new) = c-leads b t new late h in
-    let l2 : Leads c (c .phase) x (x .phase) 0 0 = d-leads c new (c-new b t new late) (l1 .sound) in
+    let c : State = at-c d t set in
+    let x : State = at-d d t set in
+    let e : State = at-e d t set in
+    let l1 : Leads b (b .phase) c (c .phase) 0 (size (new-at d t set)) = c-leads b t (new-at d t set) (late-at d t set) h in
+    let l2 : Leads c (c .phase) x (x .phase) 0 0 = d-leads c (new-at d t set) (c-new b t (new-at d t set) (late-at d t set)) (l1 .sound) in
     let l3 : Leads x (x .phase) e (e .phase) 0 0 = e-leads x t (l2 .sound) in
     record { sound = l3 .sound; weigh = omega (arith, l1 .weigh, l2 .weigh, l3 .weigh); sink = omega (arith, l1 .sink, l2 .sink, l3 .sink) }
 

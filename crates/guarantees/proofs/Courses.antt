@@ -6,7 +6,7 @@ use native.Mathlib.Omega.{arith}
 use lib.Dec.{eqb}
 use Rattle.sets.specs.Sets.{member, union, intersection, insert, bit}
 use Rattle.sets.proofs.Laws.{by-test, clash, none, same-task, united, intersection-member, intersection-left, inserted, removed, union-out, union-right}
-use Rattle.rules.specs.With.{at-clock}
+use Rattle.rules.specs.With.{at-clock, with-copyin}
 use Rattle.rules.specs.Order.{better, highest-below, highest, highest-of}
 use Rattle.rules.specs.Calls.{opened}
 use Rattle.rules.specs.Instant.{step-a, step-b, step-c, step-d, step-e, step-g, close, close-stage, over, promoted, next-of, work-of, held-over, with-candidates, cancel, choose, begin, begin-processor, begin-copyout, wanted, ended as ended-by, without-done, settled, entry-with, interval-entry, copyin-at, copyin-task, copyin-fate, processor-task, copyout-task, closing, occurred, at-a, at-b, at-e, at-f, at-g, new-at, late-at, fresh-stage}
@@ -183,19 +183,26 @@ module _ (pr : List ℕ) where
   finished t (Loaded n) x = x
   finished t (Cancelled n fate) x = x
 
-  -- all but the copy-in
-  record SameButCopy (x y : Course) : Type 0 where
+  -- the interval, its execution and its copy-out
+  record SameInterval (x y : Course) : Type 0 where
     is-open : y .is-open ≡ x .is-open
     begin-same : y .begin ≡ x .begin
     half-same : y .half ≡ x .half
     task-same : y .task ≡ x .task
     work-same : y .work ≡ x .work
     out-same : y .copiedout ≡ x .copiedout
+
+  -- all but the copy-in
+  record SameButCopy (x y : Course) : Type 0 where
+    interval : SameInterval x y
     own-same : y .own ≡ x .own
     next-same : y .next ≡ x .next
 
+  same-interval : {x : Course} → SameInterval x x
+  same-interval = record { is-open = refl; begin-same = refl; half-same = refl; task-same = refl; work-same = refl; out-same = refl }
+
   unchanged : (x : Course) → SameButCopy x x
-  unchanged x = record { is-open = refl; begin-same = refl; half-same = refl; task-same = refl; work-same = refl; out-same = refl; own-same = refl; next-same = refl }
+  unchanged x = record { interval = same-interval; own-same = refl; next-same = refl }
 
   finished-same : (t : ℕ) (c : CopyIn) (x : Course) → SameButCopy x (finished t c x)
   finished-same t Unchosen x = unchanged x
@@ -203,7 +210,7 @@ module _ (pr : List ℕ) where
   finished-same t (Copying n until) x = go (eqb until t)
     where
       go : (b : Bool) → SameButCopy x (cond b (course-by x (Finishes n)) x)
-      go true = record { is-open = refl; begin-same = refl; half-same = refl; task-same = refl; work-same = refl; out-same = refl; own-same = refl; next-same = refl }
+      go true = record { interval = record { is-open = refl; begin-same = refl; half-same = refl; task-same = refl; work-same = refl; out-same = refl }; own-same = refl; next-same = refl }
       go false = unchanged x
   finished-same t (Loaded n) x = unchanged x
   finished-same t (Cancelled n fate) x = unchanged x
@@ -249,13 +256,13 @@ module _ (pr : List ℕ) where
       (by-completes (Follows l y) (λ n u es h. follows-on l y (Completes n u) es (record { begins-not = refl; ends-not = refl; finishes-not = refl; gives-not = refl }) h) (step-a d t (Within i) .done) ys
       (k y (unfold step-a without-done ended-by in record {
         table-is = a .table-is;
-        half-is = same .half-same ∙ a .half-is;
+        half-is = same .interval .half-same ∙ a .half-is;
         phase = record {
-          is-open = same .is-open ∙ h .is-open;
-          begin-is = same .begin-same ∙ h .begin-is;
-          task-is = same .task-same ∙ h .task-is ∙ sym (processor-task-same (d .table) t (i .processor));
-          work-is = same .work-same ∙ h .work-is;
-          out-is = same .out-same ∙ h .out-is ∙ sym (copyout-task-same t i);
+          is-open = same .interval .is-open ∙ h .is-open;
+          begin-is = same .interval .begin-same ∙ h .begin-is;
+          task-is = same .interval .task-same ∙ h .task-is ∙ sym (processor-task-same (d .table) t (i .processor));
+          work-is = same .interval .work-same ∙ h .work-is;
+          out-is = same .interval .out-same ∙ h .out-is ∙ sym (copyout-task-same t i);
           shown = finished-shown t (i .copyin) x (h .shown);
           own-is = λ j m. ap (member j) (same .own-same) ∙ h .own-is j m;
           none-next = λ j m. ap (member j) (same .next-same) ∙ h .none-next j m;
@@ -402,12 +409,7 @@ module _ (pr : List ℕ) where
 
   -- all but the marked jobs
   record SameButSets (x y : Course) : Type 0 where
-    is-open : y .is-open ≡ x .is-open
-    begin-same : y .begin ≡ x .begin
-    half-same : y .half ≡ x .half
-    task-same : y .task ≡ x .task
-    work-same : y .work ≡ x .work
-    out-same : y .copiedout ≡ x .copiedout
+    interval : SameInterval x y
     chosen-same : y .chosen ≡ x .chosen
     fate-same : y .fate ≡ x .fate
 
@@ -432,16 +434,18 @@ module _ (pr : List ℕ) where
         subst (λ (es : List Event). (x : Course) → SameButSets x (after course-by x es)) (append-nil takes)
         (by-takes (λ es. (x : Course) → SameButSets x (after course-by x es)) 32 new marks t
         (λ n l m es h x. again x n (h (course-by x (Takes n t (member n marks))))) []
-        (λ x. record { is-open = refl; begin-same = refl; half-same = refl; task-same = refl; work-same = refl; out-same = refl; chosen-same = refl; fate-same = refl }))
+        (λ x. record { interval = same-interval; chosen-same = refl; fate-same = refl }))
       where
         again : (x : Course) (n : ℕ) {y : Course} → SameButSets (course-by x (Takes n t (member n marks))) y → SameButSets x y
         again x n i = record {
-          is-open = i .is-open;
-          begin-same = i .begin-same;
-          half-same = i .half-same;
-          task-same = i .task-same;
-          work-same = i .work-same;
-          out-same = i .out-same;
+          interval = record {
+            is-open = i .interval .is-open;
+            begin-same = i .interval .begin-same;
+            half-same = i .interval .half-same;
+            task-same = i .interval .task-same;
+            work-same = i .interval .work-same;
+            out-same = i .interval .out-same;
+          };
           chosen-same = i .chosen-same;
           fate-same = i .fate-same;
         }
@@ -509,7 +513,7 @@ module _ (pr : List ℕ) where
       → (x : Course) → Agrees 0 x d (d .phase) → Follows l x (take-events 32 new (d .marked) t ++ ys)
   c-follows l d t new late ys k x a =
       follows-all l (take-events 32 new (d .marked) t) x ys (none-begins new (d .marked) t)
-      (k y (unfold step-c in record { table-is = a .table-is; half-is = same .half-same ∙ a .half-is; phase = go (d .phase) (a .phase) }))
+      (k y (unfold step-c in record { table-is = a .table-is; half-is = same .interval .half-same ∙ a .half-is; phase = go (d .phase) (a .phase) }))
     where
       y : Course
       y = taken-to new (d .marked) t x
@@ -520,7 +524,7 @@ module _ (pr : List ℕ) where
       go : (p : Phase) → AgreesAt 0 x (d .jobs .ready) p
           → AgreesAt (intersection (held-over p new) (d .marked)) (taken-to new (d .marked) t x) (union (d .jobs .ready) new) (with-candidates d new p)
       go (Between next outgoing) h = unfold with-candidates in record {
-        is-shut = same .is-open ∙ h .is-shut;
+        is-shut = same .interval .is-open ∙ h .is-shut;
         executes = h .executes ∙ executes-same (sym (same .chosen-same)) (sym (same .fate-same)) (sym (takes-other new (d .marked) t false x (h .is-shut)));
         works = h .works ∙ ap (λ (f : ℕ). work-by f (next-task next)) (sym (same .fate-same));
         next-is = λ j m.
@@ -531,11 +535,11 @@ module _ (pr : List ℕ) where
           executes-same : {c c′ : MaybeTask} {f f′ s s′ : ℕ} → c ≡ c′ → f ≡ f′ → s ≡ s′ → cond (eqb f 1) c (highest pr s) ≡ cond (eqb f′ 1) c′ (highest pr s′)
           executes-same e1 e2 e3 = rw (e1, e2, e3) refl
       go (Within i) h = unfold with-candidates in record {
-        is-open = same .is-open ∙ h .is-open;
-        begin-is = same .begin-same ∙ h .begin-is;
-        task-is = same .task-same ∙ h .task-is;
-        work-is = same .work-same ∙ h .work-is;
-        out-is = same .out-same ∙ h .out-is;
+        is-open = same .interval .is-open ∙ h .is-open;
+        begin-is = same .interval .begin-same ∙ h .begin-is;
+        task-is = same .interval .task-same ∙ h .task-is;
+        work-is = same .interval .work-same ∙ h .work-is;
+        out-is = same .interval .out-same ∙ h .out-is;
         shown = shown-same (i .copyin) (same .chosen-same) (same .fate-same) (h .shown);
         own-is = λ j m.
             takes-sets new (d .marked) t true j m x (h .is-open) ∙ ap (λ (b : Bool). b || (member j new && member j (d .marked))) (h .own-is j m)
@@ -583,6 +587,22 @@ module _ (pr : List ℕ) where
   gives-on l s x p y ys g k =
       ⊎-elim (λ h. rw (h .0) (k x (h .1))) (λ h. rw (h .1) (follows-gives l x (h .0) ys (h .3) (h .4) (k (course-by x (GivesWay (h .0))) (h .2)))) g
 
+  -- an interval with another copy-in, where what the course shows of it and who is able are said anew
+  with-other-copy : {x y : Course} {ready ready′ : ℕ} (i : Interval) (c : CopyIn) → SameButCopy x y → InCourse x ready i → Shown (y .chosen) (y .fate) c
+      → ((k : ℕ) → k < 32 → 1 ≤ bit (member k ready) + copyin-bit k (i .copyin) → 1 ≤ bit (member k ready′) + copyin-bit k c)
+      → InCourse y ready′ (with-copyin i c)
+  with-other-copy i c same h shown able = record {
+    is-open = same .interval .is-open ∙ h .is-open;
+    begin-is = same .interval .begin-same ∙ h .begin-is;
+    task-is = same .interval .task-same ∙ h .task-is;
+    work-is = same .interval .work-same ∙ h .work-is;
+    out-is = same .interval .out-same ∙ h .out-is;
+    shown = shown;
+    own-is = λ k l. ap (member k) (same .own-same) ∙ h .own-is k l;
+    none-next = λ k l. ap (member k) (same .next-same) ∙ h .none-next k l;
+    able = λ k l m. able k l (h .able k l m);
+  }
+
   cancel-gave : (s : ℕ) (x : Course) (d : State) (i : Interval) (n fate : ℕ) → HeldFor (i .copyin) n fate → Agrees s x d (Within i) → Gave s x (Within i) (cancel d i n fate true)
   unfolding cancel giving-events-in giving-events
   cancel-gave s x d i n fate h a = inr (
@@ -591,22 +611,16 @@ module _ (pr : List ℕ) where
     record {
       table-is = a .table-is;
       half-is = a .half-is;
-      phase = record {
-        is-open = a .phase .is-open;
-        begin-is = a .phase .begin-is;
-        task-is = a .phase .task-is;
-        work-is = a .phase .work-is;
-        out-is = a .phase .out-is;
-        shown = (refl, fate-is, ⊎-elim (λ z. ap (λ (f : ℕ). eqb f 1) (z .2)) (λ z. ap (λ (f : ℕ). eqb f 1) (z .1)) h);
-        own-is = a .phase .own-is;
-        none-next = a .phase .none-next;
-        able = λ k l m. able k l (a .phase .able k l m);
-      };
+      phase = with-other-copy i (Cancelled n fate) gives-same-but (a .phase)
+          (refl, fate-is, ⊎-elim (λ z. ap (λ (f : ℕ). eqb f 1) (z .2)) (λ z. ap (λ (f : ℕ). eqb f 1) (z .1)) h) able;
     },
     a .phase .is-open,
     under-way,
   )
     where
+      gives-same-but : SameButCopy x (course-by x (GivesWay n))
+      gives-same-but = record { interval = record { is-open = refl; begin-same = refl; half-same = refl; task-same = refl; work-same = refl; out-same = refl }; own-same = refl; next-same = refl }
+
       gives : giving-events (given-way (i .copyin)) (Task n) ≡ GivesWay n ∷ []
       gives = unfold giving-events in ⊎-elim (λ z. ap (λ (c : CopyIn). giving-events (given-way c) (Task n)) (z .1)) (λ z. ap (λ (c : CopyIn). giving-events (given-way c) (Task n)) (z .0)) h
 
@@ -649,32 +663,13 @@ module _ (pr : List ℕ) where
   chose s d t i NoTask e x a = record {
     table-is = a .table-is;
     half-is = a .half-is;
-    phase = record {
-      is-open = a .phase .is-open;
-      begin-is = a .phase .begin-is;
-      task-is = a .phase .task-is;
-      work-is = a .phase .work-is;
-      out-is = a .phase .out-is;
-      shown = subst (Shown (x .chosen) (x .fate)) e (a .phase .shown);
-      own-is = a .phase .own-is;
-      none-next = a .phase .none-next;
-      able = λ k l m. omega (arith, a .phase .able k l m, ap (copyin-bit k) e);
-    };
+    phase = with-other-copy i NoneChosen (unchanged x) (a .phase) (subst (Shown (x .chosen) (x .fate)) e (a .phase .shown)) (λ k l m. omega (arith, m, ap (copyin-bit k) e));
   }
   chose s d t i (Task q) e x a = record {
     table-is = a .table-is;
     half-is = a .half-is;
-    phase = record {
-      is-open = a .phase .is-open;
-      begin-is = a .phase .begin-is;
-      task-is = a .phase .task-is;
-      work-is = a .phase .work-is;
-      out-is = a .phase .out-is;
-      shown = subst (Shown (x .chosen) (x .fate)) e (a .phase .shown);
-      own-is = a .phase .own-is;
-      none-next = a .phase .none-next;
-      able = λ k l m. rw (removed q (d .jobs .ready) k l) (go (eqb k q) (member k (d .jobs .ready)) (omega (arith, a .phase .able k l m, ap (copyin-bit k) e)));
-    };
+    phase = with-other-copy i _ (unchanged x) (a .phase) (subst (Shown (x .chosen) (x .fate)) e (a .phase .shown))
+        (λ k l m. rw (removed q (d .jobs .ready) k l) (go (eqb k q) (member k (d .jobs .ready)) (omega (arith, m, ap (copyin-bit k) e))));
   }
     where
       go : (a b : Bool) → 1 ≤ bit b + 0 → 1 ≤ bit (not a && b) + bit a
@@ -838,7 +833,8 @@ module _ (pr : List ℕ) where
         rw (happens-parts d t set ys, front-parts d t later)
         (subst (λ (m : List IntervalEntry). Follows m x (Comes t ∷ whole)) (closing-is (at-b d t .closed) (at-f d t set .closed) (one-closes d t set) l ∙ closing-so)
         (follows-on all x (Comes t) whole (record { begins-not = refl; ends-not = refl; finishes-not = refl; gives-not = refl })
-        (by-processor-at (Follows all x) t (λ n es z. follows-on all x (Starts n t) es (record { begins-not = refl; ends-not = refl; finishes-not = refl; gives-not = refl }) z) (λ n es z. follows-on all x (Stops n t) es (record { begins-not = refl; ends-not = refl; finishes-not = refl; gives-not = refl }) z) (d .phase) _
+        (by-processor-at (Follows all x) t (λ n es z. follows-on all x (Starts n t) es (record { begins-not = refl; ends-not = refl; finishes-not = refl; gives-not = refl }) z)
+        (λ n es z. follows-on all x (Stops n t) es (record { begins-not = refl; ends-not = refl; finishes-not = refl; gives-not = refl }) z) (d .phase) _
         (front x (record { table-is = a .table-is; half-is = a .half-is; phase = a .phase })))))
       where
         later : List Event

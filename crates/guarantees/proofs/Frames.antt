@@ -81,6 +81,10 @@ waiting-b d t = ap (λ (x : Frame). x .waiting) (frame-b d t)
 abbrev pub at-c : State → ℕ → ℕ → State
 at-c d t set = step-c (at-b d t .state) t (new-at d t set) (late-at d t set)
 
+-- and after step d
+abbrev pub at-d : State → ℕ → ℕ → State
+at-d d t set = let c : State = at-c d t set in step-d c (new-at d t set) (c .phase)
+
 pub c-table : (d : State) (t new late : ℕ) → step-c d t new late .table ≡ d .table
 unfolding step-c
 c-table d t new late = refl

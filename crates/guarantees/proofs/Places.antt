@@ -6,6 +6,7 @@ use borrow.Author.Tests.{eqb-true, not-true}
 use lib.Dec.{eqb}
 use Rattle.sets.specs.Sets.{member, intersection, difference, remove, bit, size}
 use Rattle.sets.proofs.Laws.{left, united, inserted, removed, same-task, member-task, size-union-apart, remove-out, union-out, insert-out, by-test, right, intersection-right, difference-left, size-remove, union-small, remove-small}
+use Rattle.guarantees.proofs.Frames.{at-c, at-d}
 use Rattle.guarantees.proofs.Highest.{Best}
 use Rattle.guarantees.specs.Queries.{total, is-completion}
 use Rattle.rules.specs.Instant.{step-a, step-b, step-c, step-d, step-e, step-g, promoted, next-of, without-promoted, close, close-stage, over, with-candidates, cancel, choose, begin, begin-processor, begin-copyout, copying-out, wanted, taken, deferred, completed, without-done, ended, copyin-at, copyout-at, processor-at, awaiting-copyout, resting, after-done, settled, at-a, at-b, at-e, at-f, at-g, new-at, late-at, fresh-stage}
@@ -431,13 +432,11 @@ module _ (present : ℕ) (tasks : present < 2 ^ 32) where
   unfolding at-e new-at late-at
   to-e d t set f h =
       let b : State = at-b d t .state in
-      let new : ℕ = new-at d t set in
-      let late : ℕ = late-at d t set in
-      let c : State = step-c b t new late in
-      let x : State = step-d c new (c .phase) in
-      let e : State = step-e x t (x .phase) in
-      let l1 : Moves b (b .phase) c (c .phase) 0 (size new) = c-takes b t set f h in
-      let l2 : Moves c (c .phase) x (x .phase) 0 0 = d-moves c new (l1 .parted) in
+      let c : State = at-c d t set in
+      let x : State = at-d d t set in
+      let e : State = at-e d t set in
+      let l1 : Moves b (b .phase) c (c .phase) 0 (size (new-at d t set)) = c-takes b t set f h in
+      let l2 : Moves c (c .phase) x (x .phase) 0 0 = d-moves c (new-at d t set) (l1 .parted) in
       let l3 : Moves x (x .phase) e (e .phase) 0 0 = e-moves x t (l2 .parted) in
       record { parted = l3 .parted; sizes = omega (arith, l1 .sizes, l2 .sizes, l3 .sizes) }
 

@@ -12,7 +12,7 @@ use Rattle.guarantees.proofs.Highest.{Best}
 use Rattle.rules.specs.Instant.{step-a, step-b, step-c, step-d, step-e, step-g, close, over, with-candidates, cancel, choose, begin, begin-processor, begin-copyout, copying-out, wanted, taken, deferred, completed, after-done, without-done, ended, copyin-at, copyout-at, processor-at, at-a, at-b, at-e, at-f, at-g, new-at, late-at, fresh-stage}
 use Rattle.rules.specs.With.{at-clock, later}
 use Rattle.rules.specs.Order.{highest-of, outranks}
-use Rattle.guarantees.proofs.Frames.{Frame, b-frame, c-table, d-frame, table-b, table-e, pending-b}
+use Rattle.guarantees.proofs.Frames.{Frame, at-c, at-d, b-frame, c-table, d-frame, table-b, table-e, pending-b}
 use Rattle.guarantees.proofs.Settled.{Decided, DecidedAt, OpenAt, RestAt}
 use Rattle.guarantees.proofs.Places.{Parted}
 use Rattle.guarantees.proofs.Steps.{Sub, best-of}
@@ -168,10 +168,8 @@ module _ (table : Table) (tasks : table .present < 2 ^ 32) (t : ℕ) (P : ℕ �
         let d0 : State = at-clock d t in
         let a : Stage = at-a d t in
         let b : State = at-b d t .state in
-        let new : ℕ = new-at d t set in
-        let late : ℕ = late-at d t set in
-        let c : State = step-c b t new late in
-        let y : State = step-d c new (c .phase) in
+        let c : State = at-c d t set in
+        let y : State = at-d d t set in
         let e : State = at-e d t set in
         let z : Stage = fresh-stage e in
         let ff : State = at-f d t set .state in
@@ -181,7 +179,7 @@ module _ (table : Table) (tasks : table .present < 2 ^ 32) (t : ℕ) (P : ℕ �
         let ke : Parted pr tasks e (e .phase) = Places.to-e pr tasks d t set f kb .parted in
         let kf : Parted pr tasks ff (ff .phase) = Places.b-moves pr tasks z t (e .phase) refl ke .parted in
         let hb : Times P (b .phase) = b-times a (a-times d0 (d .phase) refl x k0 h) in
-        let he : Times P (e .phase) = e-times y (to-table b set (table-b d t ∙ x)) (ky .ready) (d-times c new (to-c b set hb)) in
+        let he : Times P (e .phase) = e-times y (to-table b set (table-b d t ∙ x)) (ky .ready) (d-times c (new-at d t set) (to-c b set hb)) in
         g-times ff (held-at d t set) (ap (λ (y : Frame). y .table) (b-frame z t) ∙ table-e d t set ∙ x) kf (b-times z he)
       where
         to-c : (b : State) (set : ℕ) → Times P (b .phase) → Times P (step-c b t (taken b set) (deferred b set) .phase)
@@ -336,16 +334,14 @@ module _ (P : ℕ → Type 0) (t : ℕ) where
   instant-still d set z m h =
       let a : Stage = at-a d t in
       let b : State = at-b d t .state in
-      let new : ℕ = new-at d t set in
-      let late : ℕ = late-at d t set in
-      let c : State = step-c b t new late in
-      let y : State = step-d c new (c .phase) in
+      let c : State = at-c d t set in
+      let y : State = at-d d t set in
       let e : State = at-e d t set in
       let s : Stage = fresh-stage e in
       let f : State = at-f d t set .state in
       let hb : Still b (b .phase) = b-still a (a-still (at-clock d t) (d .phase) refl z (record { times = h .times; decided = h .decided; open-yet = h .open-yet; rests = h .rests })) in
-      let hc : Still c (c .phase) = to-c b new late m hb in
-      let he : Still e (e .phase) = e-still y (d-still c new m hc) in
+      let hc : Still c (c .phase) = to-c b (new-at d t set) (late-at d t set) m hb in
+      let he : Still e (e .phase) = e-still y (d-still c (new-at d t set) m hc) in
       g-still f (held-at d t set) (b-still s he)
     where
       to-c : (b : State) (new late : ℕ) → ((k : ℕ) → k < 32 → member k new ≡ false) → Still b (b .phase) → Still (step-c b t new late) (step-c b t new late .phase)

@@ -1,5 +1,5 @@
 -- The entry of a job done tells the truth: along the calls, the state knows of each task's last job what the walk of Tally finds.
-use Rattle.guarantees.specs.Types.{_≡_, refl, sym, ap, _∙_, subst, Bool, true, false, cond, false≢true, List, _∷_, _++_, append-assoc, inr, ⊎-elim, ℕ, _<_, Table, Jobs, CopyOut, NoCopyOut, CopyingOut, CopiedOut, Interval, Phase, Between, Within, State, NoJob, Job, Never, Tick, Call, JobEntry, Occurred, Served, Refused}
+use Rattle.guarantees.specs.Types.{_≡_, refl, sym, ap, _∙_, subst, Bool, true, false, cond, false≢true, List, _∷_, _++_, append-assoc, inr, ⊎-elim, ℕ, _<_, Table, Jobs, Clock, At, CopyOut, NoCopyOut, CopyingOut, CopiedOut, Interval, Phase, Between, Within, State, NoJob, Job, Never, Tick, Call, JobEntry, Occurred, Served, Refused}
 use native.Mathlib.Omega.{arith}
 use lib.Dec.{eqb}
 use lib.ListN.{getD, replicate}
@@ -37,8 +37,9 @@ module _ (table : Table) (marks : ℕ) (fair : Fair table marks) (n : ℕ) (smal
   B = Bounded (table .priority) n small
 
   -- another clock, or other marks
-  clock-knows : (d : State) (t : ℕ) (x : Tally) → K x d → K x (at-clock d t)
-  clock-knows d t x k = record {
+  still-knows : (d : State) (c : Clock) (m : ℕ) (x : Tally) → K x d
+      → K x (record { table = d .table; marked = m; clock = c; half = d .half; jobs = d .jobs; waiting = d .waiting; phase = d .phase })
+  still-knows d c m x k = record {
     table = k .table;
     at = k .at;
     releases = k .releases;
@@ -48,16 +49,11 @@ module _ (table : Table) (marks : ℕ) (fair : Fair table marks) (n : ℕ) (smal
     runs = λ s r. let a : Ran (table .priority) n small x s d = k .runs s r in record { release = a .release; executed = a .executed; count = a .count; started = a .started };
   }
 
+  clock-knows : (d : State) (t : ℕ) (x : Tally) → K x d → K x (at-clock d t)
+  clock-knows d t = still-knows d (At t) (d .marked)
+
   quiet-knows : (d : State) (m : ℕ) (x : Tally) → K x d → K x (with-marks d m)
-  quiet-knows d m x k = record {
-    table = k .table;
-    at = k .at;
-    releases = k .releases;
-    counts = k .counts;
-    holds = k .holds;
-    awaits = λ w. let a : Awaiting (table .priority) n small x d = k .awaits w in record { release = a .release; unexecuted = a .unexecuted; count = a .count; unstarted = a .unstarted };
-    runs = λ s r. let a : Ran (table .priority) n small x s d = k .runs s r in record { release = a .release; executed = a .executed; count = a .count; started = a .started };
-  }
+  quiet-knows d m = still-knows d (d .clock) m
 
   module _ (d : State) (t set : ℕ) (x : Tally) (g : Good table marks fair d) (known : Sub set (table .present)) (bound : B d) (k : K x d) where
     abbrev pr : List ℕ

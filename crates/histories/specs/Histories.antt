@@ -43,11 +43,9 @@ calls-a =
     Instant 0 8 ∷ Instant 2 4 ∷ Instant 3 2 ∷ Instant 7 0 ∷ Instant 9 0 ∷
     Instant 11 0 ∷ Instant 12 0 ∷ Instant 13 0 ∷ Instant 16 0 ∷ Instant 17 0 ∷ []
 
-unfoldable pub history-a : List Event
-history-a =
-    Comes 0 ∷ Takes 3 0 false ∷ Begins 0 NoTask NoTask ∷
-    Comes 2 ∷ Finishes 3 ∷ Ends 2 ∷ Takes 2 2 false ∷ Begins 2 (Task 3) NoTask ∷ Starts 3 2 ∷
-    Comes 3 ∷ Takes 1 3 true ∷ GivesWay 2 ∷
+-- what occurs from 7 on, in this plan and the next
+abbrev pub from-7 : List Event
+from-7 =
     Comes 7 ∷ Stops 3 7 ∷ Ends 7 ∷ Begins 7 (Task 1) (Task 3) ∷
     Comes 9 ∷ Starts 1 9 ∷ Completes 3 9 ∷
     Comes 11 ∷ Finishes 2 ∷
@@ -55,6 +53,13 @@ history-a =
     Comes 13 ∷ Completes 1 13 ∷
     Comes 16 ∷ Stops 2 16 ∷ Ends 16 ∷ Begins 16 NoTask (Task 2) ∷
     Comes 17 ∷ Completes 2 17 ∷ Ends 17 ∷ []
+
+unfoldable pub history-a : List Event
+history-a =
+    Comes 0 ∷ Takes 3 0 false ∷ Begins 0 NoTask NoTask ∷
+    Comes 2 ∷ Finishes 3 ∷ Ends 2 ∷ Takes 2 2 false ∷ Begins 2 (Task 3) NoTask ∷ Starts 3 2 ∷
+    Comes 3 ∷ Takes 1 3 true ∷ GivesWay 2 ∷
+    from-7
 
 unfoldable pub calls-b : List Call
 calls-b =
@@ -66,13 +71,7 @@ history-b =
     Comes 0 ∷ Takes 3 0 false ∷ Begins 0 NoTask NoTask ∷
     Comes 2 ∷ Finishes 3 ∷ Ends 2 ∷ Takes 2 2 false ∷ Begins 2 (Task 3) NoTask ∷ Starts 3 2 ∷
     Comes 4 ∷ Finishes 2 ∷ Takes 1 4 true ∷ GivesWay 2 ∷
-    Comes 7 ∷ Stops 3 7 ∷ Ends 7 ∷ Begins 7 (Task 1) (Task 3) ∷
-    Comes 9 ∷ Starts 1 9 ∷ Completes 3 9 ∷
-    Comes 11 ∷ Finishes 2 ∷
-    Comes 12 ∷ Stops 1 12 ∷ Ends 12 ∷ Begins 12 (Task 2) (Task 1) ∷ Starts 2 12 ∷
-    Comes 13 ∷ Completes 1 13 ∷
-    Comes 16 ∷ Stops 2 16 ∷ Ends 16 ∷ Begins 16 NoTask (Task 2) ∷
-    Comes 17 ∷ Completes 2 17 ∷ Ends 17 ∷ []
+    from-7
 
 unfoldable pub calls-c : List Call
 calls-c = Instant 0 2 ∷ Instant 2 0 ∷ Instant 5 0 ∷ Instant 6 0 ∷ []
