@@ -417,22 +417,22 @@ module _ (pr : List ℕ) where
   set-of true x = x .own
   set-of false x = x .next
 
-  module _ (new marks t : ℕ) where
+  module _ (taken marks t : ℕ) where
     abbrev takes : List Event
-    takes = take-events 32 new marks t
+    takes = take-events 32 taken marks t
 
     abbrev taken-to : Course → Course
-    taken-to x = after course-by x (take-events 32 new marks t)
+    taken-to x = after course-by x (take-events 32 taken marks t)
 
-    none-begins : NoneBegins (take-events 32 new marks t)
+    none-begins : NoneBegins (take-events 32 taken marks t)
     unfolding NoneBegins
-    none-begins = subst NoneBegins (append-nil takes) (by-takes NoneBegins 32 new marks t (λ n l m es h. (record { begins-not = refl; ends-not = refl; finishes-not = refl; gives-not = refl }, h)) [] tt)
+    none-begins = subst NoneBegins (append-nil takes) (by-takes NoneBegins 32 taken marks t (λ n l m es h. (record { begins-not = refl; ends-not = refl; finishes-not = refl; gives-not = refl }, h)) [] tt)
 
     takes-same : (x : Course) → SameButSets x (taken-to x)
     unfolding after
     takes-same =
         subst (λ (es : List Event). (x : Course) → SameButSets x (after course-by x es)) (append-nil takes)
-        (by-takes (λ es. (x : Course) → SameButSets x (after course-by x es)) 32 new marks t
+        (by-takes (λ es. (x : Course) → SameButSets x (after course-by x es)) 32 taken marks t
         (λ n l m es h x. again x n (h (course-by x (Takes n t (member n marks))))) []
         (λ x. record { interval = same-interval; chosen-same = refl; fate-same = refl }))
       where
@@ -455,7 +455,7 @@ module _ (pr : List ℕ) where
     unfolding after
     takes-other o =
         subst (λ (es : List Event). (x : Course) → x .is-open ≡ o → set-of (not o) (after course-by x es) ≡ set-of (not o) x) (append-nil takes)
-        (by-takes (λ es. (x : Course) → x .is-open ≡ o → set-of (not o) (after course-by x es) ≡ set-of (not o) x) 32 new marks t
+        (by-takes (λ es. (x : Course) → x .is-open ≡ o → set-of (not o) (after course-by x es) ≡ set-of (not o) x) 32 taken marks t
         (λ n l m es h x e. h (course-by x (Takes n t (member n marks))) e ∙ one o x n (member n marks) e) [] (λ x e. refl))
       where
         one : (o : Bool) (x : Course) (n : ℕ) (m : Bool) → x .is-open ≡ o → set-of (not o) (course-by x (Takes n t m)) ≡ set-of (not o) x
@@ -475,19 +475,19 @@ module _ (pr : List ℕ) where
           go false x j true e = rw e (inserted j (x .next) k small)
           go false x j false e = refl
 
-      takes-sets : (x : Course) → x .is-open ≡ o → member k (set-of o (taken-to x)) ≡ (member k (set-of o x) || (member k new && member k marks))
+      takes-sets : (x : Course) → x .is-open ≡ o → member k (set-of o (taken-to x)) ≡ (member k (set-of o x) || (member k taken && member k marks))
       unfolding after take-events
       takes-sets x e =
           subst (λ (es : List Event). member k (set-of o (after course-by x es)) ≡ z) (append-nil takes)
-          (at-task k new (λ j. Takes j t (member j marks)) (λ j. take-events j new marks t) refl (λ j. refl) P
+          (at-task k taken (λ j. Takes j t (member j marks)) (λ j. take-events j taken marks t) refl (λ j. refl) P
           (λ b j f es h x e i. h (course-by x (Takes j t (member j marks))) e (joins x j (member j marks) e ∙ rw f (others (member j marks) (member k (set-of o x))) ∙ i))
           (member k (set-of o x)) (member k marks || member k (set-of o x))
           (λ f es h x e i. h (course-by x (Takes k t (member k marks))) e (joins x k (member k marks) e ∙ rw (same-task k) (this (member k marks) (member k (set-of o x)) ∙ ap (λ (b : Bool). member k marks || b) i)))
           32 small [] (λ x e i. i) x e refl)
-          ∙ last (member k new) (member k marks) (member k (set-of o x))
+          ∙ last (member k taken) (member k marks) (member k (set-of o x))
         where
           z : Bool
-          z = cond (member k new) (member k marks || member k (set-of o x)) (member k (set-of o x))
+          z = cond (member k taken) (member k marks || member k (set-of o x)) (member k (set-of o x))
 
           P : Bool → List Event → Type 0
           P b es = (y : Course) → y .is-open ≡ o → member k (set-of o y) ≡ b → member k (set-of o (after course-by y es)) ≡ z
@@ -508,28 +508,28 @@ module _ (pr : List ℕ) where
           last false m true = refl
           last false m false = refl
 
-  c-follows : (l : List IntervalEntry) (d : State) (t new late : ℕ) (ys : List Event)
-      → ((x : Course) → Agrees (intersection (held-over (d .phase) new) (d .marked)) x (step-c d t new late) (step-c d t new late .phase) → Follows l x ys)
-      → (x : Course) → Agrees 0 x d (d .phase) → Follows l x (take-events 32 new (d .marked) t ++ ys)
-  c-follows l d t new late ys k x a =
-      follows-all l (take-events 32 new (d .marked) t) x ys (none-begins new (d .marked) t)
+  c-follows : (l : List IntervalEntry) (d : State) (t taken deferred : ℕ) (ys : List Event)
+      → ((x : Course) → Agrees (intersection (held-over (d .phase) taken) (d .marked)) x (step-c d t taken deferred) (step-c d t taken deferred .phase) → Follows l x ys)
+      → (x : Course) → Agrees 0 x d (d .phase) → Follows l x (take-events 32 taken (d .marked) t ++ ys)
+  c-follows l d t taken deferred ys k x a =
+      follows-all l (take-events 32 taken (d .marked) t) x ys (none-begins taken (d .marked) t)
       (k y (unfold step-c in record { table-is = a .table-is; half-is = same .interval .half-same ∙ a .half-is; phase = go (d .phase) (a .phase) }))
     where
       y : Course
-      y = taken-to new (d .marked) t x
+      y = taken-to taken (d .marked) t x
 
-      same : SameButSets x (taken-to new (d .marked) t x)
-      same = takes-same new (d .marked) t x
+      same : SameButSets x (taken-to taken (d .marked) t x)
+      same = takes-same taken (d .marked) t x
 
       go : (p : Phase) → AgreesAt 0 x (d .jobs .ready) p
-          → AgreesAt (intersection (held-over p new) (d .marked)) (taken-to new (d .marked) t x) (union (d .jobs .ready) new) (with-candidates d new p)
+          → AgreesAt (intersection (held-over p taken) (d .marked)) (taken-to taken (d .marked) t x) (union (d .jobs .ready) taken) (with-candidates d taken p)
       go (Between next outgoing) h = unfold with-candidates in record {
         is-shut = same .interval .is-open ∙ h .is-shut;
-        executes = h .executes ∙ executes-same (sym (same .chosen-same)) (sym (same .fate-same)) (sym (takes-other new (d .marked) t false x (h .is-shut)));
+        executes = h .executes ∙ executes-same (sym (same .chosen-same)) (sym (same .fate-same)) (sym (takes-other taken (d .marked) t false x (h .is-shut)));
         works = h .works ∙ ap (λ (f : ℕ). work-by f (next-task next)) (sym (same .fate-same));
         next-is = λ j m.
-            takes-sets new (d .marked) t false j m x (h .is-shut) ∙ ap (λ (b : Bool). b || (member j new && member j (d .marked))) (h .next-is j m ∙ none j) ∙ sym (intersection-member new (d .marked) j m);
-        able = λ j m z. union-right (d .jobs .ready) new j m (intersection-left new (d .marked) j z);
+            takes-sets taken (d .marked) t false j m x (h .is-shut) ∙ ap (λ (b : Bool). b || (member j taken && member j (d .marked))) (h .next-is j m ∙ none j) ∙ sym (intersection-member taken (d .marked) j m);
+        able = λ j m z. union-right (d .jobs .ready) taken j m (intersection-left taken (d .marked) j z);
       }
         where
           executes-same : {c c′ : MaybeTask} {f f′ s s′ : ℕ} → c ≡ c′ → f ≡ f′ → s ≡ s′ → cond (eqb f 1) c (highest pr s) ≡ cond (eqb f′ 1) c′ (highest pr s′)
@@ -542,13 +542,13 @@ module _ (pr : List ℕ) where
         out-is = same .interval .out-same ∙ h .out-is;
         shown = shown-same (i .copyin) (same .chosen-same) (same .fate-same) (h .shown);
         own-is = λ j m.
-            takes-sets new (d .marked) t true j m x (h .is-open) ∙ ap (λ (b : Bool). b || (member j new && member j (d .marked))) (h .own-is j m)
-            ∙ sym (united (i .candidates) (intersection new (d .marked)) j m ∙ ap (λ (b : Bool). member j (i .candidates) || b) (intersection-member new (d .marked) j m));
-        none-next = λ j m. ap (member j) (takes-other new (d .marked) t true x (h .is-open)) ∙ h .none-next j m;
+            takes-sets taken (d .marked) t true j m x (h .is-open) ∙ ap (λ (b : Bool). b || (member j taken && member j (d .marked))) (h .own-is j m)
+            ∙ sym (united (i .candidates) (intersection taken (d .marked)) j m ∙ ap (λ (b : Bool). member j (i .candidates) || b) (intersection-member taken (d .marked) j m));
+        none-next = λ j m. ap (member j) (takes-other taken (d .marked) t true x (h .is-open)) ∙ h .none-next j m;
         able = λ j m z.
-            ⊎-elim (λ c. more (member j (d .jobs .ready)) (member j new) (copyin-bit j (i .copyin)) (member j (union (d .jobs .ready) new)) (united (d .jobs .ready) new j m) (h .able j m c))
-            (λ c. omega (arith, ap bit (union-right (d .jobs .ready) new j m (intersection-left new (d .marked) j c))))
-            (union-out (i .candidates) (intersection new (d .marked)) j z);
+            ⊎-elim (λ c. more (member j (d .jobs .ready)) (member j taken) (copyin-bit j (i .copyin)) (member j (union (d .jobs .ready) taken)) (united (d .jobs .ready) taken j m) (h .able j m c))
+            (λ c. omega (arith, ap bit (union-right (d .jobs .ready) taken j m (intersection-left taken (d .marked) j c))))
+            (union-out (i .candidates) (intersection taken (d .marked)) j z);
       }
         where
           shown-same : (c : CopyIn) {a a′ : MaybeTask} {f f′ : ℕ} → a′ ≡ a → f′ ≡ f → Shown a f c → Shown a′ f′ c
@@ -569,11 +569,11 @@ module _ (pr : List ℕ) where
       go NoTask = unfold giving-events in refl
       go (Task n) = unfold giving-events in refl
 
-  c-gives : (d : State) (new : ℕ) (p q : Phase) → giving-events-in (with-candidates d new p) q ≡ giving-events-in p q
+  c-gives : (d : State) (taken : ℕ) (p q : Phase) → giving-events-in (with-candidates d taken p) q ≡ giving-events-in p q
   unfolding giving-events-in with-candidates
-  c-gives d new (Between next outgoing) q = refl
-  c-gives d new (Within i) (Between next outgoing) = refl
-  c-gives d new (Within i) (Within j) = refl
+  c-gives d taken (Between next outgoing) q = refl
+  c-gives d taken (Within i) (Between next outgoing) = refl
+  c-gives d taken (Within i) (Within j) = refl
 
   -- from a phase to a state: no copy-in gives way, or one does
   abbrev Gave : ℕ → Course → Phase → State → Type 0
@@ -648,9 +648,9 @@ module _ (pr : List ℕ) where
           go true b l = omega arith
           go false b l = omega arith
 
-  d-gave : (s : ℕ) (x : Course) (d : State) (new : ℕ) → Agrees s x d (d .phase) → Gave s x (d .phase) (step-d d new (d .phase))
-  d-gave s x d new a =
-      d-fates (Gave s x (d .phase)) d new (inl (gives-same (d .phase), a))
+  d-gave : (s : ℕ) (x : Course) (d : State) (taken : ℕ) → Agrees s x d (d .phase) → Gave s x (d .phase) (step-d d taken (d .phase))
+  d-gave s x d taken a =
+      d-fates (Gave s x (d .phase)) d taken (inl (gives-same (d .phase), a))
       (λ i n fate e h b. subst (λ (p : Phase). Gave s x p (cancel d i n fate true)) (sym e) (cancel-gave s x d i n fate h (subst (Agrees s x d) e a)))
 
   -- the choice leaves what agrees
@@ -691,19 +691,19 @@ module _ (pr : List ℕ) where
         agrees = λ x a. chose s d t i (highest-of d (d .jobs .ready)) c x (subst (Agrees s x d) e a);
       })
 
-  e-gave : (s : ℕ) (x : Course) (d : State) (t new late : ℕ) → let c : State = step-c d t new late in let y : State = step-d c new (c .phase) in
+  e-gave : (s : ℕ) (x : Course) (d : State) (t taken deferred : ℕ) → let c : State = step-c d t taken deferred in let y : State = step-d c taken (c .phase) in
       Agrees s x c (c .phase) → Gave s x (d .phase) (step-e y t (y .phase))
-  e-gave s x d t new late a =
-      let c : State = step-c d t new late in
-      let y : State = step-d c new (c .phase) in
+  e-gave s x d t taken deferred a =
+      let c : State = step-c d t taken deferred in
+      let y : State = step-d c taken (c .phase) in
       let e : Chooses s y (step-e y t (y .phase)) = e-chooses s y t in
       ⊎-elim
       (λ h. inl (sym (gives-c (step-e y t (y .phase) .phase)) ∙ e .gives (c .phase) ∙ h .0, e .agrees x (h .1)))
       (λ h. inr (h .0, sym (gives-c (step-e y t (y .phase) .phase)) ∙ e .gives (c .phase) ∙ h .1, e .agrees (course-by x (GivesWay (h .0))) (h .2), h .3, h .4))
-      (d-gave s x c new a)
+      (d-gave s x c taken a)
     where
-      gives-c : (q : Phase) → giving-events-in (step-c d t new late .phase) q ≡ giving-events-in (d .phase) q
-      gives-c q = unfold step-c in c-gives d new (d .phase) q
+      gives-c : (q : Phase) → giving-events-in (step-c d t taken deferred .phase) q ≡ giving-events-in (d .phase) q
+      gives-c q = unfold step-c in c-gives d taken (d .phase) q
 
   -- ---- g
 
@@ -728,22 +728,22 @@ module _ (pr : List ℕ) where
   unfolding begin-events start-events
   shut-follows l t x next outgoing q ys e h = rw e h
 
-  g-follows : (l : List IntervalEntry) (s : ℕ) (f : State) (t new : ℕ) (p : Phase) (ys : List Event) → f .phase ≡ p
-      → ((k : ℕ) → k < 32 → member k s ≡ member k (intersection new (f .marked)))
-      → ((x : Course) → Agrees 0 x (step-g f t new p) (step-g f t new p .phase) → Follows l x ys)
-      → (x : Course) → Agrees s x f p → Follows l x (begin-events t p (step-g f t new p .phase) ++ (start-events t p (step-g f t new p .phase) ++ ys))
+  g-follows : (l : List IntervalEntry) (s : ℕ) (f : State) (t taken : ℕ) (p : Phase) (ys : List Event) → f .phase ≡ p
+      → ((k : ℕ) → k < 32 → member k s ≡ member k (intersection taken (f .marked)))
+      → ((x : Course) → Agrees 0 x (step-g f t taken p) (step-g f t taken p .phase) → Follows l x ys)
+      → (x : Course) → Agrees s x f p → Follows l x (begin-events t p (step-g f t taken p .phase) ++ (start-events t p (step-g f t taken p .phase) ++ ys))
   unfolding step-g begin-events start-events
-  g-follows l s f t new (Within i) ys e m k x a =
+  g-follows l s f t taken (Within i) ys e m k x a =
       k x (subst (Agrees 0 x f) (sym e) (record { table-is = a .table-is; half-is = a .half-is; phase = a .phase }))
-  g-follows l s f t new (Between next outgoing) ys e m k x a = go (wanted next outgoing (f .jobs .ready)) refl k
+  g-follows l s f t taken (Between next outgoing) ys e m k x a = go (wanted next outgoing (f .jobs .ready)) refl k
     where
       b : State
-      b = begin f t new next outgoing
+      b = begin f t taken next outgoing
 
       y : Course
       y = course-by x (Begins t (processor-task (begin-processor (f .table) t next)) (copyout-task (begin-copyout (f .table) t outgoing)))
 
-      begun : Agrees 0 (course-by x (Begins t (processor-task (begin-processor (f .table) t next)) (copyout-task (begin-copyout (f .table) t outgoing)))) (begin f t new next outgoing) (begin f t new next outgoing .phase)
+      begun : Agrees 0 (course-by x (Begins t (processor-task (begin-processor (f .table) t next)) (copyout-task (begin-copyout (f .table) t outgoing)))) (begin f t taken next outgoing) (begin f t taken next outgoing .phase)
       begun = unfold begin in record {
         table-is = a .table-is;
         half-is = ap (λ (h : ℕ). 1 - h) (a .half-is);

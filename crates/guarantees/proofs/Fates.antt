@@ -43,16 +43,16 @@ module _ (n : ℕ) (small : n < 32) where
     front-fates d t x es h =
         by-front (To x) (λ u es h. h) (λ k u es h. h) (λ k u es h. h) (λ k es h. h) (λ k u es h. h) (λ u es h. h) d t es h
 
-    takes-fates : (new marked t : ℕ) (x : Fates) (es : List Event) → To (cond (member n new) (took x) x) es → To x (take-events 32 new marked t ++ es)
+    takes-fates : (taken marked t : ℕ) (x : Fates) (es : List Event) → To (cond (member n taken) (took x) x) es → To x (take-events 32 taken marked t ++ es)
     unfolding take-events after
-    takes-fates new marked t x es h =
-        at-task n new (λ k. Takes k t (member k marked)) (λ k. take-events k new marked t) refl (λ k. refl) To
+    takes-fates taken marked t x es h =
+        at-task n taken (λ k. Takes k t (member k marked)) (λ k. take-events k taken marked t) refl (λ k. refl) To
         (λ x k e es h. rw e h) x (took x) (λ m es h. rw (same-task n) h) 32 small es h
 
-    defers-fates : (late t : ℕ) (x : Fates) (es : List Event) → To (cond (member n late) (put-off x) x) es → To x (defer-events 32 late t ++ es)
+    defers-fates : (deferred t : ℕ) (x : Fates) (es : List Event) → To (cond (member n deferred) (put-off x) x) es → To x (defer-events 32 deferred t ++ es)
     unfolding defer-events after
-    defers-fates late t x es h =
-        at-task n late (λ k. Defers k t) (λ k. defer-events k late t) refl (λ k. refl) To
+    defers-fates deferred t x es h =
+        at-task n deferred (λ k. Defers k t) (λ k. defer-events k deferred t) refl (λ k. refl) To
         (λ x k e es h. rw e h) x (put-off x) (λ m es h. rw (same-task n) h) 32 small es h
 
     tail-fates : (d : State) (t set : ℕ) (x : Fates) (es : List Event) → To (cond (member n (late-at d t set)) (put-off x) x) es → To x (tail-of d t set ++ es)

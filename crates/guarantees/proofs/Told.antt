@@ -99,12 +99,12 @@ module _ (table : Table) (marks : ℕ) (fair : Fair table marks) (n : ℕ) (smal
     unfolding at-e
     knows-e =
         let b : State = at-b d t .state in
-        let new : ℕ = new-at d t set in
-        let late : ℕ = late-at d t set in
-        let c : State = step-c b t new late in
-        e-knows pr n small t (step-d c new (c .phase)) after-c
-        (d-knows pr n small new c after-c
-        (c-knows pr n small (table .present) (fair .present) b t new late (d .marked) (tally n (tally n x ended-a) ends-b) parted-b
+        let taken : ℕ = new-at d t set in
+        let deferred : ℕ = late-at d t set in
+        let c : State = step-c b t taken deferred in
+        e-knows pr n small t (step-d c taken (c .phase)) after-c
+        (d-knows pr n small taken c after-c
+        (c-knows pr n small (table .present) (fair .present) b t taken deferred (d .marked) (tally n (tally n x ended-a) ends-b) parted-b
         (λ j m. unfold new-at in taken-not-pending b set j m) knows-b))
 
     pub parted-e : Parted (table .present) (fair .present) (at-e d t set) (at-e d t set .phase)
