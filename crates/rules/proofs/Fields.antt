@@ -17,14 +17,14 @@ with-kept m a w = record { table = m .table; clock = m .clock; arrays = a; waiti
 
 -- the arrays after the releases of a set at a time are taken
 abbrev pub taken-arrays : ℕ → ℕ → WaitingReleases → Arrays → Arrays
-taken-arrays new t w a = arrays (stamped new (original w t) 0 (a .release)) (stamped new (λ k. 0) 0 (a .blocked))
+taken-arrays taken t w a = arrays (stamped taken (original w t) 0 (a .release)) (stamped taken (λ k. 0) 0 (a .blocked))
 
 -- and the waiting releases after that, with those of another set that wait from now on
 abbrev pub waits-after : ℕ → ℕ → ℕ → WaitingReleases → WaitingReleases
-waits-after new late t w = waits (union (difference (w .tasks) new) late) (stamped late (λ k. t) 0 (w .times))
+waits-after taken deferred t w = waits (union (difference (w .tasks) taken) deferred) (stamped deferred (λ k. t) 0 (w .times))
 
 abbrev pub taken-memory : ℕ → ℕ → ℕ → Memory → Memory
-taken-memory new late t m = with-kept m (taken-arrays new t (m .waiting) (m .arrays)) (waits-after new late t (m .waiting))
+taken-memory taken deferred t m = with-kept m (taken-arrays taken t (m .waiting) (m .arrays)) (waits-after taken deferred t (m .waiting))
 
 -- an open interval, by its units
 pub opened-with : (m : Memory) (r : Registers) (p : Processor) (o : CopyOut) (i : CopyIn)
@@ -152,11 +152,11 @@ with-sets r pending ready candidates kind = record {
   intask = r .intask;
 }
 
-pub taken-with : (m : Memory) (r : Registers) (t new late pending ready marked candidates : ℕ)
-    → pending ≡ union (r .pending) new → ready ≡ union (r .ready) new → marked ≡ intersection new (r .marked) → candidates ≡ union (r .candidates) marked
-    → state-in (taken-memory new late t m) (with-sets r pending ready candidates (r .copyin)) ≡ step-c (state-in m r) t new late
+pub taken-with : (m : Memory) (r : Registers) (t taken deferred pending ready marked candidates : ℕ)
+    → pending ≡ union (r .pending) taken → ready ≡ union (r .ready) taken → marked ≡ intersection taken (r .marked) → candidates ≡ union (r .candidates) marked
+    → state-in (taken-memory taken deferred t m) (with-sets r pending ready candidates (r .copyin)) ≡ step-c (state-in m r) t taken deferred
 unfolding state-in phase-in interval-in step-c with-candidates
-taken-with m r t new late pending ready marked candidates a b k c =
+taken-with m r t taken deferred pending ready marked candidates a b k c =
     by-test (eqb (r .copyin) 6) (λ e. simp (e, a, b)) (λ e. simp (e, a, b, c, k))
 
 -- ---- d
@@ -175,12 +175,12 @@ given-with m r ready kind g e =
 
 -- ---- g
 
-pub begun-with : (m : Memory) (r : Registers) (t new kind until out outuntil half work candidates : ℕ)
+pub begun-with : (m : Memory) (r : Registers) (t taken kind until out outuntil half work candidates : ℕ)
     → as-processor kind (r .task) t until ≡ begin-processor (m .table) t (as-next (r .work) (r .task))
     → as-copyout out (r .outtask) (r .outstart) outuntil ≡ begin-copyout (m .table) t (as-outgoing (r .copyout) (r .outtask) (r .outstart))
     → half ≡ 1 - r .half
     → work ≡ work-of (as-next (r .work) (r .task))
-    → candidates ≡ intersection new (r .marked)
+    → candidates ≡ intersection taken (r .marked)
     → state-in m (record {
       marked = r .marked;
       pending = r .pending;
@@ -201,6 +201,6 @@ pub begun-with : (m : Memory) (r : Registers) (t new kind until out outuntil hal
       copyin = 0;
       intask = r .intask;
     })
-    ≡ begin (state-in m r) t new (as-next (r .work) (r .task)) (as-outgoing (r .copyout) (r .outtask) (r .outstart))
+    ≡ begin (state-in m r) t taken (as-next (r .work) (r .task)) (as-outgoing (r .copyout) (r .outtask) (r .outstart))
 unfolding state-in phase-in interval-in begin
-begun-with m r t new kind until out outuntil half work candidates p o h x c = simp (p, o, h, x, c)
+begun-with m r t taken kind until out outuntil half work candidates p o h x c = simp (p, o, h, x, c)
