@@ -80,28 +80,28 @@ stays-told n {told = told} h = record {
 
 -- ---- where the state is kept
 
-module _ {kt ka kb kx kf kg : Kept} {bb bx bf : Beside} {new : ReleaseFates} {held done first last next : ℕ} {told-a told-b told-f told-g told-h : List ℕ}
+module _ {kt ka kb kx kf kg : Kept} {bb bx bf : Beside} {fates : ReleaseFates} {held done first last next : ℕ} {told-a told-b told-f told-g told-h : List ℕ}
     (k : Kept) (b : Beside) (t set : ℕ) (told : List ℕ) (long : length told ≡ 19) where
   pub composed : Becomes (λ d. at-clock d t) k b kt b
       → EndedAt t kt b ka told told-a done
       → {ko : Kept} → Becomes (λ d. step-a d t (d .phase) .state) ka b ko b
       → TestedTold 1 (step-f (read ko b) t) kb bb told-a told-b first
-      → new ≡ released (getD (kb .sets) 1 0) (getD (kb .sets) 5 0) set
-      → HeldOverAt (kb .codes) (new .taken) held
-      → Becomes (λ d. steps-c-d d t (new .taken) (new .deferred)) kb bb kx bx
+      → fates ≡ released (getD (kb .sets) 1 0) (getD (kb .sets) 5 0) set
+      → HeldOverAt (kb .codes) (fates .taken) held
+      → Becomes (λ d. steps-c-d d t (fates .taken) (fates .deferred)) kb bb kx bx
       → TestedTold 2 (step-e-f (read kx bx) t) kf bf told-b told-f last
       → Becomes (λ d. step-g d t held (d .phase)) kf bf kg bf
       → TellsDue (kg .times) (kg .codes) told-f told-g next
-      → TellsFlags (new .skipped) done first last next told-g told-h
+      → TellsFlags (fates .skipped) done first last next told-g told-h
       → Instant (read k b) t set kg bf told told-h
   unfolding state-in taken deferred skipped
   composed stamps outs {ko} ends tests takes holds moves second begins dues flags =
-      let h : Left (read k b) t set (new .taken) (new .deferred) held (read kt b) (read ko b) (read kb bb) (read kx bx) (read kf bf) (read kg bf) = record {
+      let h : Left (read k b) t set (fates .taken) (fates .deferred) held (read kt b) (read ko b) (read kb bb) (read kx bx) (read kf bf) (read kg bf) = record {
         timed-is = stamps .state;
         a-is = ends .state ∙ outs .state;
         b-is = tests .state;
-        new-is = ap (λ (z : ReleaseFates). z .taken) takes;
-        late-is = ap (λ (z : ReleaseFates). z .deferred) takes;
+        taken-is = ap (λ (z : ReleaseFates). z .taken) takes;
+        deferred-is = ap (λ (z : ReleaseFates). z .deferred) takes;
         held-is = holds (kb .times) (kb .sets);
         x-is = moves .state;
         f-is = second .state;
@@ -110,10 +110,10 @@ module _ {kt ka kb kx kf kg : Kept} {bb bx bf : Beside} {new : ReleaseFates} {he
       let x = step-f (read ko b) t .closed in
       let y = step-e-f (read kx bx) t .closed in
       let once : (e : IntervalEntry) → x ≡ Span e → y ≡ NoInterval = once-here (read k b) t set h in
-      let o : Occurred = record { done = step-a (read kt b) t (read kt b .phase) .done; closed = closing x y; skipped = new .skipped; due = due (phase-in (registers-in kg)) } in
+      let o : Occurred = record { done = step-a (read kt b) t (read kt b .phase) .done; closed = closing x y; skipped = fates .skipped; due = due (phase-in (registers-in kg)) } in
       let occurs : o ≡ occurred (read k b) t set = occurred-by (read k b) t set h refl refl refl refl (ap (λ (z : ReleaseFates). z .skipped) takes) refl in
       let told-is : told-h ≡ told-of o told =
-      told-by (o .done) x y (new .skipped) (o .due) once (outs .told-is) (tests .told-is) (second .told-is) (dues (kg .sets) .told-is)
+      told-by (o .done) x y (fates .skipped) (o .due) once (outs .told-is) (tests .told-is) (second .told-is) (dues (kg .sets) .told-is)
       (outs .number-is) (tests .number-is) (second .number-is) (dues (kg .sets) .number-is) (flags .told-is) in
       record {
         whole = begins .whole;

@@ -106,13 +106,17 @@ module _ (s w0 w1 w2 w3 w4 w5 w6 w7 w8 w9 w10 w11 w12 w13 w14 w15 w16 w17 w18 : 
   back-in (Job e) Unclosed Never f r = simp (small, low (e .task) (f .0), low (e .blocked) (f .1))
   back-in (Job e) Unclosed (Tick t) f r = simp (small, low (e .task) (f .0), low (e .blocked) (f .1))
   back-in (Job e) (BeforeReleases i) Never f r =
-      simp (small, low (e .task) (f .0), low (e .blocked) (f .1), low (i .half) (r .half-fits), low (i .work) (r .work-fits), low (i .fate) (r .fate-fits), task-back (i .task) (r .task-fits), task-back (i .copiedout) (r .copiedout-fits), task-back (i .chosen) (r .chosen-fits), task-back (i .promoted) (r .promoted-fits))
+      let task = low (e .task) (f .0) in let blocked = low (e .blocked) (f .1) in
+      simp (small, task, blocked, low (i .half) (r .half-fits), low (i .work) (r .work-fits), low (i .fate) (r .fate-fits), task-back (i .task) (r .task-fits), task-back (i .copiedout) (r .copiedout-fits), task-back (i .chosen) (r .chosen-fits), task-back (i .promoted) (r .promoted-fits))
   back-in (Job e) (BeforeReleases i) (Tick t) f r =
-      simp (small, low (e .task) (f .0), low (e .blocked) (f .1), low (i .half) (r .half-fits), low (i .work) (r .work-fits), low (i .fate) (r .fate-fits), task-back (i .task) (r .task-fits), task-back (i .copiedout) (r .copiedout-fits), task-back (i .chosen) (r .chosen-fits), task-back (i .promoted) (r .promoted-fits))
+      let task = low (e .task) (f .0) in let blocked = low (e .blocked) (f .1) in
+      simp (small, task, blocked, low (i .half) (r .half-fits), low (i .work) (r .work-fits), low (i .fate) (r .fate-fits), task-back (i .task) (r .task-fits), task-back (i .copiedout) (r .copiedout-fits), task-back (i .chosen) (r .chosen-fits), task-back (i .promoted) (r .promoted-fits))
   back-in (Job e) (AfterReleases i) Never f r =
-      simp (small, low (e .task) (f .0), low (e .blocked) (f .1), low (i .half) (r .half-fits), low (i .work) (r .work-fits), low (i .fate) (r .fate-fits), task-back (i .task) (r .task-fits), task-back (i .copiedout) (r .copiedout-fits), task-back (i .chosen) (r .chosen-fits), task-back (i .promoted) (r .promoted-fits))
+      let task = low (e .task) (f .0) in let blocked = low (e .blocked) (f .1) in
+      simp (small, task, blocked, low (i .half) (r .half-fits), low (i .work) (r .work-fits), low (i .fate) (r .fate-fits), task-back (i .task) (r .task-fits), task-back (i .copiedout) (r .copiedout-fits), task-back (i .chosen) (r .chosen-fits), task-back (i .promoted) (r .promoted-fits))
   back-in (Job e) (AfterReleases i) (Tick t) f r =
-      simp (small, low (e .task) (f .0), low (e .blocked) (f .1), low (i .half) (r .half-fits), low (i .work) (r .work-fits), low (i .fate) (r .fate-fits), task-back (i .task) (r .task-fits), task-back (i .copiedout) (r .copiedout-fits), task-back (i .chosen) (r .chosen-fits), task-back (i .promoted) (r .promoted-fits))
+      let task = low (e .task) (f .0) in let blocked = low (e .blocked) (f .1) in
+      simp (small, task, blocked, low (i .half) (r .half-fits), low (i .work) (r .work-fits), low (i .fate) (r .fate-fits), task-back (i .task) (r .task-fits), task-back (i .copiedout) (r .copiedout-fits), task-back (i .chosen) (r .chosen-fits), task-back (i .promoted) (r .promoted-fits))
 
 pub back : (o : Occurred) (told : List ℕ) → length told ≡ 19 → DoneFits (o .done) → ClosingReads (o .closed) → o .skipped < 2 ^ 32
     → occurred-in (told-of o told) ≡ o

@@ -24,8 +24,8 @@ mark-step-of s = record { state = state-of (s .state); answer = s .answer }
 abbrev pub opening-of : Opening → rules.Opening
 opening-of o = record { state = state-of (o .state); refusal = o .refusal }
 
--- ---- What a call promises: its outcome is the rules', in document 01's numbers too, and one that is refused hands back the very state that it
--- was handed
+-- ---- What a call promises: its outcome is the rules', in document 01's numbers too, and one that is refused hands
+-- back the very state that it was handed
 
 pub record Answers (d : Dispatcher) (t set : ℕ) (r : Step) : Type 0 where
   pub step : step-of r ≡ rules.instant (state-of d) t set
@@ -39,5 +39,5 @@ pub record MarkAnswers (d : Dispatcher) (n m : ℕ) (r : MarkStep) : Type 0 wher
   pub untouched : (rules.mark-refusal (state-of d) n m ≡ 0 → ⊥) → r .state ≡ d
 
 -- an instant of a dispatcher where it is kept promises the same of what stands there afterwards
-abbrev pub Advances : Dispatcher → ℕ → ℕ → Answer → Dispatcher → Type 0
-Advances d t set answer after = Answers d t set (record { state = after; answer = answer })
+abbrev pub AnswersKept : Dispatcher → ℕ → ℕ → Answer → Dispatcher → Type 0
+AnswersKept d t set answer after = Answers d t set (record { state = after; answer = answer })

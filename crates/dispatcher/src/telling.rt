@@ -1,5 +1,5 @@
-// What occurs at an instant, told as it occurs, a word for each number (specs/Telling): bytes packed into one word took longer. What does not
-// occur leaves its words as they were.
+// What occurs at an instant, told as it occurs, a word for each number (specs/Telling): bytes packed into one word took longer. What does
+// not occur leaves its words as they were.
 use entries::JobEntry;
 use rules::at;
 use rules::codes;

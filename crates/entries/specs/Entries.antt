@@ -68,7 +68,8 @@ job-bytes e =
 -- kind 17: begin, end (8 each), processor's half, processor's task, work, task copied out, task chosen for copy-in, its fate,
 -- task promoted at the end (1 each)
 unfoldable pub choice-bytes : IntervalEntry → List ℕ
-choice-bytes e = e .half ∷ task-byte (e .task) ∷ e .work ∷ task-byte (e .copiedout) ∷ task-byte (e .chosen) ∷ e .fate ∷ task-byte (e .promoted) ∷ []
+choice-bytes e =
+    e .half ∷ task-byte (e .task) ∷ e .work ∷ task-byte (e .copiedout) ∷ task-byte (e .chosen) ∷ e .fate ∷ task-byte (e .promoted) ∷ []
 
 unfoldable pub interval-bytes : IntervalEntry → List ℕ
 interval-bytes e = 17 ∷ (bytesOf 8 (e .begin) ++ (bytesOf 8 (e .end) ++ choice-bytes e))

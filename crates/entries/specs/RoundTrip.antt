@@ -40,4 +40,5 @@ ReadAs bytes e = (front rest : List ℕ) → record-entry-at (front ++ (bytes ++
 pub record RoundTrip : Type 0 where
   pub entry : (e : RecordEntry) → EntryFits e → ReadAs (entry-bytes e) e
   -- and a release entry of an input
-  pub release : (r : Release) → r .time < 256 ^ 8 → (front rest : List ℕ) → entry-at (front ++ (release-bytes r ++ rest)) (length front) ≡ ReleaseEntry r
+  pub release : (r : Release) → r .time < 256 ^ 8 → (front rest : List ℕ) →
+      entry-at (front ++ (release-bytes r ++ rest)) (length front) ≡ ReleaseEntry r

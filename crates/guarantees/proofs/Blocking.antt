@@ -61,15 +61,15 @@ abbrev pub place : Phase → Place
 place (Between next outgoing) = Out (next-task next)
 place (Within i) = In (processor-task (i .processor))
 
-pub c-place : (d : State) (new : ℕ) (p : Phase) → place (with-candidates d new p) ≡ place p
+pub c-place : (d : State) (taken : ℕ) (p : Phase) → place (with-candidates d taken p) ≡ place p
 unfolding with-candidates
-c-place d new (Between next outgoing) = refl
-c-place d new (Within i) = refl
+c-place d taken (Between next outgoing) = refl
+c-place d taken (Within i) = refl
 
-pub c-up-next : (d : State) (new : ℕ) (p : Phase) → up-next (with-candidates d new p) ≡ up-next p
+pub c-up-next : (d : State) (taken : ℕ) (p : Phase) → up-next (with-candidates d taken p) ≡ up-next p
 unfolding with-candidates
-c-up-next d new (Between next outgoing) = refl
-c-up-next d new (Within i) = refl
+c-up-next d taken (Between next outgoing) = refl
+c-up-next d taken (Within i) = refl
 
 module _ (pr : List ℕ) (n : ℕ) (small : n < 32) where
   abbrev pub Waits : State → Type 0
@@ -246,34 +246,34 @@ module _ (pr : List ℕ) (n : ℕ) (small : n < 32) where
   b-bounded t s h = b-cases Bounded s t (λ i e o. h) (λ next outgoing e. h) (λ i e o. close-bounded (s .state) t i e o h)
 
   -- c
-  c-bounded : (t new late : ℕ) (d : State) → Bounded d → Bounded (step-c d t new late)
+  c-bounded : (t taken deferred : ℕ) (d : State) → Bounded d → Bounded (step-c d t taken deferred)
   unfolding step-c
-  c-bounded t new late d h =
-      by-test (member n new)
+  c-bounded t taken deferred d h =
+      by-test (member n taken)
       (λ m.
-      let z : count (step-c d t new late) ≤ 0 = omega (arith, fewer, ap (λ (b : Bool). cond b 0 (count d)) m) in
-      record { table = h .table; most = omega arith; far = λ x. far-none (count (step-c d t new late)) (Waits (step-c d t new late)) (place (step-c d t new late .phase)) z })
+      let z : count (step-c d t taken deferred) ≤ 0 = omega (arith, fewer, ap (λ (b : Bool). cond b 0 (count d)) m) in
+      record { table = h .table; most = omega arith; far = λ x. far-none (count (step-c d t taken deferred)) (Waits (step-c d t taken deferred)) (place (step-c d t taken deferred .phase)) z })
       (λ m.
-      let z : count (step-c d t new late) ≤ count d = omega (arith, fewer, ap (λ (b : Bool). cond b 0 (count d)) m) in
+      let z : count (step-c d t taken deferred) ≤ count d = omega (arith, fewer, ap (λ (b : Bool). cond b 0 (count d)) m) in
       record {
         table = h .table;
         most = omega (arith, h .most);
         far = λ x.
-            subst (Far (count (step-c d t new late)) (Waits (step-c d t new late))) (sym (c-place d new (d .phase)))
-            (far-map (count d) (count (step-c d t new late)) (Waits d) (Waits (step-c d t new late)) (place (d .phase)) z
-            (c-waiting pr n (Bound pr n) (NotLower pr n) (rule-old pr n small) small t new late d)
-            (h .far (⊎-elim (λ y. inl (⊎-elim (λ z. z) (λ z. clash (member n new) z m) (union-out (d .jobs .ready) new n y)))
-            (λ y. inr (ap (is-task n) (sym (c-up-next d new (d .phase))) ∙ y)) x)));
+            subst (Far (count (step-c d t taken deferred)) (Waits (step-c d t taken deferred))) (sym (c-place d taken (d .phase)))
+            (far-map (count d) (count (step-c d t taken deferred)) (Waits d) (Waits (step-c d t taken deferred)) (place (d .phase)) z
+            (c-waiting pr n (Bound pr n) (NotLower pr n) (rule-old pr n small) small t taken deferred d)
+            (h .far (⊎-elim (λ y. inl (⊎-elim (λ z. z) (λ z. clash (member n taken) z m) (union-out (d .jobs .ready) taken n y)))
+            (λ y. inr (ap (is-task n) (sym (c-up-next d taken (d .phase))) ∙ y)) x)));
       })
     where
-      fewer : count (step-c d t new late) ≤ cond (member n new) 0 (count d)
-      fewer = unfold step-c in subst (λ (j : ℕ). count (step-c d t new late) ≤ cond (member j new) 0 (count d)) (zero-add n) (stamped-at new 0 (d .jobs .blocked) n)
+      fewer : count (step-c d t taken deferred) ≤ cond (member n taken) 0 (count d)
+      fewer = unfold step-c in subst (λ (j : ℕ). count (step-c d t taken deferred) ≤ cond (member j taken) 0 (count d)) (zero-add n) (stamped-at taken 0 (d .jobs .blocked) n)
 
   -- d
-  pub d-like : (new : ℕ) (d : State) → Like d (step-d d new (d .phase))
+  pub d-like : (taken : ℕ) (d : State) → Like d (step-d d taken (d .phase))
   unfolding cancel
-  d-like new d =
-      d-cases (Like d) d new (record { table = refl; count = refl; place = refl; awaits = λ x. x })
+  d-like taken d =
+      d-cases (Like d) d taken (record { table = refl; count = refl; place = refl; awaits = λ x. x })
       (λ i c u e s b. record {
         table = refl;
         count = refl;
@@ -284,10 +284,10 @@ module _ (pr : List ℕ) (n : ℕ) (small : n < 32) where
             (λ y. absurd (false≢true y)) x);
       })
 
-  d-bounded : (new : ℕ) (d : State) → NewAt d new (d .phase) → Bounded d → Bounded (step-d d new (d .phase))
-  d-bounded new d k =
-      keeps d (step-d d new (d .phase)) (d-like new d)
-      (d-waiting pr n (Bound pr n) (NotLower pr n) (rule-old pr n small) small new d k)
+  d-bounded : (taken : ℕ) (d : State) → NewAt d taken (d .phase) → Bounded d → Bounded (step-d d taken (d .phase))
+  d-bounded taken d k =
+      keeps d (step-d d taken (d .phase)) (d-like taken d)
+      (d-waiting pr n (Bound pr n) (NotLower pr n) (rule-old pr n small) small taken d k)
 
   -- e
   choose-like : (d : State) (t : ℕ) (i : Interval) (q : MaybeTask) → d .phase ≡ Within i → Best (d .table .priority) (d .jobs .ready) q → Like d (choose d t i q)
@@ -316,28 +316,28 @@ module _ (pr : List ℕ) (n : ℕ) (small : n < 32) where
       (e-waiting pr n (Bound pr n) (NotLower pr n) (rule-old pr n small) small t d)
 
   -- g
-  begin-bounded : (f : State) (t new : ℕ) (next : Next) (outgoing : Outgoing) → f .phase ≡ Between next outgoing → Bounded f → Bounded (begin f t new next outgoing)
+  begin-bounded : (f : State) (t taken : ℕ) (next : Next) (outgoing : Outgoing) → f .phase ≡ Between next outgoing → Bounded f → Bounded (begin f t taken next outgoing)
   unfolding begin
-  begin-bounded f t new next outgoing e h = record {
+  begin-bounded f t taken next outgoing e h = record {
     table = h .table;
     most = h .most;
     far = λ x. ⊎-elim (λ m. go m) (λ y. absurd (false≢true y)) x;
   }
     where
       b : State
-      b = begin f t new next outgoing
+      b = begin f t taken next outgoing
 
-      go : member n (f .jobs .ready) ≡ true → Far (count f) (Waits (begin f t new next outgoing)) (In (processor-task (begin-processor (f .table) t next)))
+      go : member n (f .jobs .ready) ≡ true → Far (count f) (Waits (begin f t taken next outgoing)) (In (processor-task (begin-processor (f .table) t next)))
       go m =
-          let w : Waits (begin f t new next outgoing) = unfold begin in record { table = h .table; ready = λ x. m; fate = tt } in
+          let w : Waits (begin f t taken next outgoing) = unfold begin in record { table = h .table; ready = λ x. m; fate = tt } in
           rw (runs (f .table) t next)
           (⊎-elim (λ y. inr (inl (y, w))) (λ y. inr (inr (y .0, w, y .1)))
           (subst (λ (p : Phase). Far (count f) (Waits f) (place p)) e (h .far (inl m))))
 
-  g-bounded : (t new : ℕ) (f : State) → Bounded f → Bounded (step-g f t new (f .phase))
-  g-bounded t new f h =
-      g-cases Bounded f t new (λ i e. h) (λ next outgoing e w. h)
-      (λ next outgoing e w. e-bounded t (begin f t new next outgoing) (begin-bounded f t new next outgoing e h))
+  g-bounded : (t taken : ℕ) (f : State) → Bounded f → Bounded (step-g f t taken (f .phase))
+  g-bounded t taken f h =
+      g-cases Bounded f t taken (λ i e. h) (λ next outgoing e w. h)
+      (λ next outgoing e w. e-bounded t (begin f t taken next outgoing) (begin-bounded f t taken next outgoing e h))
 
   -- ---- at an instant
 
@@ -354,10 +354,10 @@ module _ (pr : List ℕ) (n : ℕ) (small : n < 32) where
     unfolding at-e at-b
     bounded-e =
         let b : State = at-b d t .state in
-        let new : ℕ = new-at d t set in
-        let late : ℕ = late-at d t set in
-        let c : State = step-c b t new late in
-        e-bounded t (step-d c new (c .phase)) (d-bounded new c (c-new b t new late) (c-bounded t new late b (b-bounded t (at-a d t) bounded-a)))
+        let taken : ℕ = new-at d t set in
+        let deferred : ℕ = late-at d t set in
+        let c : State = step-c b t taken deferred in
+        e-bounded t (step-d c taken (c .phase)) (d-bounded taken c (c-new b t taken deferred) (c-bounded t taken deferred b (b-bounded t (at-a d t) bounded-a)))
 
     pub bounded-g : Bounded (at-g d t set)
     unfolding at-g at-f

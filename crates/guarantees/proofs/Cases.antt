@@ -94,32 +94,32 @@ module _ (R : State → Type 0) where
       go (Within i) e = go-within i (over i) e refl
 
   -- d
-  pub d-fates : (d : State) (new : ℕ) → R d
-      → ((i : Interval) (n fate : ℕ) → d .phase ≡ Within i → HeldFor (i .copyin) n fate → outranks d n (highest-of d (intersection new (d .marked))) ≡ true → R (cancel d i n fate true))
-      → R (step-d d new (d .phase))
+  pub d-fates : (d : State) (taken : ℕ) → R d
+      → ((i : Interval) (n fate : ℕ) → d .phase ≡ Within i → HeldFor (i .copyin) n fate → outranks d n (highest-of d (intersection taken (d .marked))) ≡ true → R (cancel d i n fate true))
+      → R (step-d d taken (d .phase))
   unfolding step-d cancel-by
-  d-fates d new h f = go (d .phase) refl
+  d-fates d taken h f = go (d .phase) refl
     where
-      go-outranks : (i : Interval) (n fate : ℕ) (b : Bool) → d .phase ≡ Within i → HeldFor (i .copyin) n fate → outranks d n (highest-of d (intersection new (d .marked))) ≡ b → R (cancel d i n fate b)
+      go-outranks : (i : Interval) (n fate : ℕ) (b : Bool) → d .phase ≡ Within i → HeldFor (i .copyin) n fate → outranks d n (highest-of d (intersection taken (d .marked))) ≡ b → R (cancel d i n fate b)
       go-outranks i n fate true e s b = f i n fate e s b
       go-outranks i n fate false e s b = unfold cancel in h
 
-      go-copyin : (i : Interval) (c : CopyIn) → d .phase ≡ Within i → i .copyin ≡ c → R (cancel-by d new i c)
+      go-copyin : (i : Interval) (c : CopyIn) → d .phase ≡ Within i → i .copyin ≡ c → R (cancel-by d taken i c)
       go-copyin i Unchosen e s = h
       go-copyin i NoneChosen e s = h
-      go-copyin i (Copying n until) e s = go-outranks i n 2 (outranks d n (highest-of d (intersection new (d .marked)))) e (inl (until, s, refl)) refl
-      go-copyin i (Loaded n) e s = go-outranks i n 3 (outranks d n (highest-of d (intersection new (d .marked)))) e (inr (s, refl)) refl
+      go-copyin i (Copying n until) e s = go-outranks i n 2 (outranks d n (highest-of d (intersection taken (d .marked)))) e (inl (until, s, refl)) refl
+      go-copyin i (Loaded n) e s = go-outranks i n 3 (outranks d n (highest-of d (intersection taken (d .marked)))) e (inr (s, refl)) refl
       go-copyin i (Cancelled n fate) e s = h
 
-      go : (p : Phase) → d .phase ≡ p → R (step-d d new p)
+      go : (p : Phase) → d .phase ≡ p → R (step-d d taken p)
       go (Between next outgoing) e = h
       go (Within i) e = go-copyin i (i .copyin) e refl
 
   -- whatever the fate
-  pub d-cases : (d : State) (new : ℕ) → R d
-      → ((i : Interval) (n fate : ℕ) → d .phase ≡ Within i → Held (i .copyin) n → outranks d n (highest-of d (intersection new (d .marked))) ≡ true → R (cancel d i n fate true))
-      → R (step-d d new (d .phase))
-  d-cases d new h f = d-fates d new h (λ i n fate e s b. f i n fate e (⊎-elim (λ x. inl (x .0, x .1)) (λ x. inr (x .0)) s) b)
+  pub d-cases : (d : State) (taken : ℕ) → R d
+      → ((i : Interval) (n fate : ℕ) → d .phase ≡ Within i → Held (i .copyin) n → outranks d n (highest-of d (intersection taken (d .marked))) ≡ true → R (cancel d i n fate true))
+      → R (step-d d taken (d .phase))
+  d-cases d taken h f = d-fates d taken h (λ i n fate e s b. f i n fate e (⊎-elim (λ x. inl (x .0, x .1)) (λ x. inr (x .0)) s) b)
 
   -- e
   pub e-cases : (d : State) (t : ℕ) → R d
@@ -144,19 +144,19 @@ module _ (R : State → Type 0) where
       go (Within i) e = go-copyin i (i .copyin) e refl
 
   -- g
-  pub g-cases : (d : State) (t new : ℕ) → ((i : Interval) → d .phase ≡ Within i → R d)
+  pub g-cases : (d : State) (t taken : ℕ) → ((i : Interval) → d .phase ≡ Within i → R d)
       → ((next : Next) (outgoing : Outgoing) → d .phase ≡ Between next outgoing → wanted next outgoing (d .jobs .ready) ≡ false → R d)
       → ((next : Next) (outgoing : Outgoing) → d .phase ≡ Between next outgoing → wanted next outgoing (d .jobs .ready) ≡ true
-      → let b : State = begin d t new next outgoing in R (step-e b t (b .phase)))
-      → R (step-g d t new (d .phase))
+      → let b : State = begin d t taken next outgoing in R (step-e b t (b .phase)))
+      → R (step-g d t taken (d .phase))
   unfolding step-g
-  g-cases d t new k h f = go (d .phase) refl
+  g-cases d t taken k h f = go (d .phase) refl
     where
       go-wanted : (next : Next) (outgoing : Outgoing) (w : Bool) → d .phase ≡ Between next outgoing → wanted next outgoing (d .jobs .ready) ≡ w
-          → let b : State = begin d t new next outgoing in R (cond w (step-e b t (b .phase)) d)
+          → let b : State = begin d t taken next outgoing in R (cond w (step-e b t (b .phase)) d)
       go-wanted next outgoing true e w = f next outgoing e w
       go-wanted next outgoing false e w = h next outgoing e w
 
-      go : (p : Phase) → d .phase ≡ p → R (step-g d t new p)
+      go : (p : Phase) → d .phase ≡ p → R (step-g d t taken p)
       go (Within i) e = k i e
       go (Between next outgoing) e = go-wanted next outgoing (wanted next outgoing (d .jobs .ready)) e refl

@@ -5,7 +5,7 @@ use Rattle.rules.specs.With.{at-clock}
 use Rattle.rules.specs.Instant.{step-a, step-b, close, close-stage, closing, occurred, over, copyout-task, copyout-at, at-a, at-b, at-e, at-f, at-g, new-at, late-at, fresh-stage}
 use Rattle.guarantees.specs.History.{Event, Comes, history, happens, processor-events-in, finish-events-in, completion-events, end-events, take-events, defer-events, giving-events-in, begin-events, start-events}
 use Rattle.guarantees.specs.Queries.{NoneOpen, each}
-use Rattle.guarantees.specs.Entries.{answers, Completion, completed-in, done, completions, closed-in}
+use Rattle.guarantees.specs.Entries.{all-occurred, Completion, completed-in, done, completions, closed-in}
 use Rattle.guarantees.proofs.Walk.{walk-told}
 use Rattle.guarantees.proofs.Cases.{copyout-cases}
 use Rattle.guarantees.proofs.Events.{by-processor, by-finishes, by-gives, by-ends, by-takes, by-defers, by-begins, by-starts, tail-of, happens-parts, front-parts, tail-parts}
@@ -115,12 +115,12 @@ happens-completions d t set h =
     skip-begins : (p q : Phase) → completions (begin-events t p q ++ (start-events t p q ++ h)) ≡ completions h
     skip-begins p q = unfold each in by-begins (Same h) t (λ r l es e. e) p q (start-events t p q ++ h) (by-starts (Same h) t (λ n es e. e) p q h refl)
 
-pub all-done : (cs : List Call) (d : State) → done (answers d cs) ≡ completions (history d cs)
+pub all-done : (cs : List Call) (d : State) → done (all-occurred d cs) ≡ completions (history d cs)
 all-done =
     walk-told (λ d os h. done os ≡ completions h)
     (λ d. unfold done each in refl)
     (λ d t set cs e k.
-    next-done (occurred d t set) (answers (at-g d t set) cs) (completions (history (at-g d t set) cs)) k ∙ sym (happens-completions d t set (history (at-g d t set) cs)))
+    next-done (occurred d t set) (all-occurred (at-g d t set) cs) (completions (history (at-g d t set) cs)) k ∙ sym (happens-completions d t set (history (at-g d t set) cs)))
     (λ d m os h k. k)
   where
     next-done : (o : Occurred) (os : List Occurred) (l : List Completion) → done os ≡ l → done (o ∷ os) ≡ completed-in (o .done) ++ l

@@ -97,14 +97,14 @@ apart-at present tasks d (Within i) h = apart-in present tasks d i (i .processor
 
 -- ---- step by step, at an instant
 
-c-engine : (d : State) (t new : ℕ) (p : Phase) → engine-of t (with-candidates d new p) ≡ engine-of t p
+c-engine : (d : State) (t taken : ℕ) (p : Phase) → engine-of t (with-candidates d taken p) ≡ engine-of t p
 unfolding with-candidates
-c-engine d t new (Between next outgoing) = refl
-c-engine d t new (Within i) = refl
+c-engine d t taken (Between next outgoing) = refl
+c-engine d t taken (Within i) = refl
 
-d-engine : (d : State) (t new : ℕ) → engine-of t (step-d d new (d .phase) .phase) ≡ engine-of t (d .phase)
+d-engine : (d : State) (t taken : ℕ) → engine-of t (step-d d taken (d .phase) .phase) ≡ engine-of t (d .phase)
 unfolding cancel
-d-engine d t new = d-cases (λ x. engine-of t (x .phase) ≡ engine-of t (d .phase)) d new refl (λ i n u e s b. rw e)
+d-engine d t taken = d-cases (λ x. engine-of t (x .phase) ≡ engine-of t (d .phase)) d taken refl (λ i n u e s b. rw e)
 
 choose-engine : (d : State) (t x : ℕ) (i : Interval) (q : MaybeTask) → engine-of x (choose d t i q .phase) ≡ engine-of x (Within i)
 unfolding choose
@@ -118,11 +118,11 @@ engine-e : (d : State) (t set : ℕ) → engine-of t (at-e d t set .phase) ≡ e
 unfolding at-e step-c
 engine-e d t set =
     let b : State = at-b d t .state in
-    let new : ℕ = new-at d t set in
-    let late : ℕ = late-at d t set in
-    let c : State = step-c b t new late in
-    let x : State = step-d c new (c .phase) in
-    e-engine x t ∙ d-engine c t new ∙ c-engine b t new (b .phase)
+    let taken : ℕ = new-at d t set in
+    let deferred : ℕ = late-at d t set in
+    let c : State = step-c b t taken deferred in
+    let x : State = step-d c taken (c .phase) in
+    e-engine x t ∙ d-engine c t taken ∙ c-engine b t taken (b .phase)
 
 module _ (columns : List ℕ) (t : ℕ) where
   -- a
@@ -222,14 +222,14 @@ module _ (columns : List ℕ) (t : ℕ) where
   unfolding begin-events
   shut-leaving next outgoing q ys e k = rw e (rw e at k)
 
-  g-leaving : (f : State) (new : ℕ) (p : Phase) (ys : List Event) → f .phase ≡ p → f .table .columns ≡ columns → Times Plain (step-g f t new p .phase)
-      → ApartAt (step-g f t new p .phase) → Leaving columns t (engine-of t (step-g f t new p .phase)) ys → Leaving columns t (engine-of t p) (begin-events t p (step-g f t new p .phase) ++ ys)
+  g-leaving : (f : State) (taken : ℕ) (p : Phase) (ys : List Event) → f .phase ≡ p → f .table .columns ≡ columns → Times Plain (step-g f t taken p .phase)
+      → ApartAt (step-g f t taken p .phase) → Leaving columns t (engine-of t (step-g f t taken p .phase)) ys → Leaving columns t (engine-of t p) (begin-events t p (step-g f t taken p .phase) ++ ys)
   unfolding step-g begin-events
-  g-leaving f new (Within i) ys e x p a h = subst (λ (p : Phase). Leaving columns t (engine-of t p) ys) e h
-  g-leaving f new (Between next outgoing) ys e x p a h = go (wanted next outgoing (f .jobs .ready)) p a h
+  g-leaving f taken (Within i) ys e x p a h = subst (λ (p : Phase). Leaving columns t (engine-of t p) ys) e h
+  g-leaving f taken (Between next outgoing) ys e x p a h = go (wanted next outgoing (f .jobs .ready)) p a h
     where
       b : State
-      b = begin f t new next outgoing
+      b = begin f t taken next outgoing
 
       go : (w : Bool) → Times Plain (cond w (step-e b t (b .phase)) f .phase) → ApartAt (cond w (step-e b t (b .phase)) f .phase)
           → Leaving columns t (engine-of t (cond w (step-e b t (b .phase)) f .phase)) ys

@@ -7,6 +7,7 @@ use borrow.Author.Tests.{eqb-false, not-true}
 use lib.Dec.{eqb}
 use Rattle.sets.specs.Sets.{member, union, intersection, insert, size}
 use Rattle.sets.proofs.Laws.{clash, union-left, intersection-in, intersection-left, intersection-right, insert-other, size-union, size-remove, size-insert, size-none, size-some, empty, union-small, remove-small, insert-small}
+use Rattle.guarantees.proofs.Frames.{at-c, at-d}
 use Rattle.guarantees.proofs.Highest.{Best}
 use Rattle.guarantees.proofs.Walk.{walk}
 use Rattle.guarantees.proofs.Totals.{begins-of, takes-of}
@@ -237,15 +238,15 @@ b-leads s t (Within i) e h = go (over i)
     go false = back (s .state) (Within i) e h
 
 -- c
-c-rank : (d : State) (new : ℕ) (p : Phase) → rank (with-candidates d new p) ≡ rank p
+c-rank : (d : State) (taken : ℕ) (p : Phase) → rank (with-candidates d taken p) ≡ rank p
 unfolding with-candidates
-c-rank d new (Between next outgoing) = refl
-c-rank d new (Within i) = refl
+c-rank d taken (Between next outgoing) = refl
+c-rank d taken (Within i) = refl
 
-c-phase : (d : State) (new : ℕ) (p : Phase) → (phase-weight (with-candidates d new p) ≡ phase-weight p) × (phase-debt (with-candidates d new p) ≡ phase-debt p)
+c-phase : (d : State) (taken : ℕ) (p : Phase) → (phase-weight (with-candidates d taken p) ≡ phase-weight p) × (phase-debt (with-candidates d taken p) ≡ phase-debt p)
 unfolding with-candidates
-c-phase d new (Between next outgoing) = (refl, refl)
-c-phase d new (Within i) = (refl, refl)
+c-phase d taken (Between next outgoing) = (refl, refl)
+c-phase d taken (Within i) = (refl, refl)
 
 rival-more : (ready candidates ready′ candidates′ : ℕ) → Sub ready ready′ → Sub candidates candidates′ → Rival ready candidates → Rival ready′ candidates′
 rival-more ready candidates ready′ candidates′ r f h =
@@ -258,32 +259,32 @@ paid-more ready candidates ready′ candidates′ r f (Copying n until) h = tt
 paid-more ready candidates ready′ candidates′ r f (Loaded n) h = tt
 paid-more ready candidates ready′ candidates′ r f (Cancelled n fate) h = rival-more ready candidates ready′ candidates′ r f h
 
-c-paid : (d : State) (new : ℕ) (p : Phase) → Paid (d .jobs .ready) p → Paid (union (d .jobs .ready) new) (with-candidates d new p)
+c-paid : (d : State) (taken : ℕ) (p : Phase) → Paid (d .jobs .ready) p → Paid (union (d .jobs .ready) taken) (with-candidates d taken p)
 unfolding with-candidates
-c-paid d new (Between next outgoing) h = tt
-c-paid d new (Within i) h =
-    paid-more (d .jobs .ready) (i .candidates) (union (d .jobs .ready) new) (union (i .candidates) (intersection new (d .marked)))
-    (λ k l m. union-left (d .jobs .ready) new k l m) (λ k l m. union-left (i .candidates) (intersection new (d .marked)) k l m) (i .copyin) h
+c-paid d taken (Between next outgoing) h = tt
+c-paid d taken (Within i) h =
+    paid-more (d .jobs .ready) (i .candidates) (union (d .jobs .ready) taken) (union (i .candidates) (intersection taken (d .marked)))
+    (λ k l m. union-left (d .jobs .ready) taken k l m) (λ k l m. union-left (i .candidates) (intersection taken (d .marked)) k l m) (i .copyin) h
 
-c-leads : (d : State) (t new late : ℕ) → Sound d (d .phase) → Leads d (d .phase) (step-c d t new late) (step-c d t new late .phase) 0 (size new)
+c-leads : (d : State) (t taken deferred : ℕ) → Sound d (d .phase) → Leads d (d .phase) (step-c d t taken deferred) (step-c d t taken deferred .phase) 0 (size taken)
 unfolding step-c
-c-leads d t new late h = record {
-  sound = record { few = union-small (d .jobs .ready) new; paid = c-paid d new (d .phase) (h .paid) };
-  weigh = omega (arith, c-phase d new (d .phase) .0, c-phase d new (d .phase) .1, size-union (d .jobs .ready) new);
-  sink = omega (arith, c-phase d new (d .phase) .0, c-phase d new (d .phase) .1, size-union (d .jobs .ready) new, c-rank d new (d .phase));
+c-leads d t taken deferred h = record {
+  sound = record { few = union-small (d .jobs .ready) taken; paid = c-paid d taken (d .phase) (h .paid) };
+  weigh = omega (arith, c-phase d taken (d .phase) .0, c-phase d taken (d .phase) .1, size-union (d .jobs .ready) taken);
+  sink = omega (arith, c-phase d taken (d .phase) .0, c-phase d taken (d .phase) .1, size-union (d .jobs .ready) taken, c-rank d taken (d .phase));
 }
 
 -- d
-d-rival : (d : State) (new : ℕ) (i : Interval) (c : ℕ) (q : MaybeTask) → NewIn d new i
-    → Best (d .table .priority) (intersection new (d .marked)) q → outranks d c q ≡ true → Rival (insert c (d .jobs .ready)) (i .candidates)
-d-rival d new i c NoTask f b t = absurd (false≢true t)
-d-rival d new i c (Task q) f b t =
-    let is-new : member q new ≡ true = intersection-left new (d .marked) q (b .1) in
+d-rival : (d : State) (taken : ℕ) (i : Interval) (c : ℕ) (q : MaybeTask) → NewIn d taken i
+    → Best (d .table .priority) (intersection taken (d .marked)) q → outranks d c q ≡ true → Rival (insert c (d .jobs .ready)) (i .candidates)
+d-rival d taken i c NoTask f b t = absurd (false≢true t)
+d-rival d taken i c (Task q) f b t =
+    let is-new : member q taken ≡ true = intersection-left taken (d .marked) q (b .1) in
     record {
       who = q;
       task = b .0;
       is-ready = insert-other c (d .jobs .ready) q (b .0) (f .ready q (b .0) is-new);
-      is-candidate = f .candidates q (b .0) is-new (intersection-right new (d .marked) q (b .1));
+      is-candidate = f .candidates q (b .0) is-new (intersection-right taken (d .marked) q (b .1));
     }
 
 held-weight : (k : CopyIn) (c : ℕ) → Held k c → copyin-weight k ≡ 2
@@ -292,23 +293,23 @@ held-weight k c s = ⊎-elim (λ x. ap copyin-weight (x .1)) (λ x. ap copyin-we
 held-debt : (k : CopyIn) (c : ℕ) → Held k c → copyin-debt k ≡ 0
 held-debt k c s = ⊎-elim (λ x. ap copyin-debt (x .1)) (λ x. ap copyin-debt x) s
 
-d-cancel : (d : State) (new : ℕ) (i : Interval) (c fate : ℕ) → Held (i .copyin) c → NewIn d new i → Sound d (Within i)
-    → outranks d c (highest-of d (intersection new (d .marked))) ≡ true → Leads d (Within i) (cancel d i c fate true) (cancel d i c fate true .phase) 0 0
+d-cancel : (d : State) (taken : ℕ) (i : Interval) (c fate : ℕ) → Held (i .copyin) c → NewIn d taken i → Sound d (Within i)
+    → outranks d c (highest-of d (intersection taken (d .marked))) ≡ true → Leads d (Within i) (cancel d i c fate true) (cancel d i c fate true .phase) 0 0
 unfolding cancel
-d-cancel d new i c fate s f h b = record {
+d-cancel d taken i c fate s f h b = record {
   sound = record {
     few = insert-small c (d .jobs .ready);
-    paid = d-rival d new i c (highest-of d (intersection new (d .marked))) f (best-of d (intersection new (d .marked))) b;
+    paid = d-rival d taken i c (highest-of d (intersection taken (d .marked))) f (best-of d (intersection taken (d .marked))) b;
   };
   weigh = omega (arith, size-insert c (d .jobs .ready), held-weight (i .copyin) c s, held-debt (i .copyin) c s);
   sink = omega (arith, size-insert c (d .jobs .ready), held-weight (i .copyin) c s, held-debt (i .copyin) c s);
 }
 
-d-leads : (d : State) (new : ℕ) → NewAt d new (d .phase) → Sound d (d .phase) → Leads d (d .phase) (step-d d new (d .phase)) (step-d d new (d .phase) .phase) 0 0
-d-leads d new f h =
-    d-cases (λ x. Leads d (d .phase) x (x .phase) 0 0) d new (stays d h)
+d-leads : (d : State) (taken : ℕ) → NewAt d taken (d .phase) → Sound d (d .phase) → Leads d (d .phase) (step-d d taken (d .phase)) (step-d d taken (d .phase) .phase) 0 0
+d-leads d taken f h =
+    d-cases (λ x. Leads d (d .phase) x (x .phase) 0 0) d taken (stays d h)
     (λ i c fate e s b.
-    subst (λ (p : Phase). Leads d p (cancel d i c fate true) (cancel d i c fate true .phase) 0 0) (sym e) (d-cancel d new i c fate s (subst (NewAt d new) e f) (subst (Sound d) e h) b))
+    subst (λ (p : Phase). Leads d p (cancel d i c fate true) (cancel d i c fate true .phase) 0 0) (sym e) (d-cancel d taken i c fate s (subst (NewAt d taken) e f) (subst (Sound d) e h) b))
 
 -- e
 choose-leads : (d : State) (t : ℕ) (i : Interval) (q : MaybeTask) → i .copyin ≡ Unchosen → Sound d (Within i) → Best (d .table .priority) (d .jobs .ready) q
@@ -342,7 +343,7 @@ begins-one t (Between next outgoing) (Between x y) = omega arith
 begins-one t (Between next outgoing) (Within j) = omega arith
 
 -- a state whose interval has just begun
-module _ (f : State) (t new : ℕ) (next : Next) (outgoing : Outgoing) (h : Sound f (Between next outgoing)) where
+module _ (f : State) (t taken : ℕ) (next : Next) (outgoing : Outgoing) (h : Sound f (Between next outgoing)) where
   new-interval : Interval
   new-interval = record {
     begin = t;
@@ -350,34 +351,34 @@ module _ (f : State) (t new : ℕ) (next : Next) (outgoing : Outgoing) (h : Soun
     processor = begin-processor (f .table) t next;
     copyout = begin-copyout (f .table) t outgoing;
     copyin = Unchosen;
-    candidates = intersection new (f .marked);
+    candidates = intersection taken (f .marked);
   }
 
-  opened-leads : let b : State = begin f t new next outgoing in
+  opened-leads : let b : State = begin f t taken next outgoing in
       Leads b (b .phase) (step-e b t (b .phase)) (step-e b t (b .phase) .phase) 0 0
   unfolding begin
-  opened-leads = let b : State = begin f t new next outgoing in e-leads b t (record { few = h .few; paid = tt })
+  opened-leads = let b : State = begin f t taken next outgoing in e-leads b t (record { few = h .few; paid = tt })
 
-g-falls : (f : State) (t new : ℕ) (next : Next) (outgoing : Outgoing) → Sound f (Between next outgoing) → wanted next outgoing (f .jobs .ready) ≡ true
-    → let b : State = begin f t new next outgoing in
+g-falls : (f : State) (t taken : ℕ) (next : Next) (outgoing : Outgoing) → Sound f (Between next outgoing) → wanted next outgoing (f .jobs .ready) ≡ true
+    → let b : State = begin f t taken next outgoing in
     weight (step-e b t (b .phase)) (step-e b t (b .phase) .phase) + 1 ≤ weight f (Between next outgoing) + phase-debt (step-e b t (b .phase) .phase)
 unfolding begin
-g-falls f t new (LoadedNext n) outgoing h w = omega (arith, opened-leads f t new (LoadedNext n) outgoing h .weigh)
-g-falls f t new (PromotedNext n) outgoing h w = omega (arith, opened-leads f t new (PromotedNext n) outgoing h .weigh)
-g-falls f t new NoneNext (AwaitsCopyOut m s) h w = omega (arith, opened-leads f t new NoneNext (AwaitsCopyOut m s) h .weigh)
-g-falls f t new NoneNext NoneOutgoing h w =
+g-falls f t taken (LoadedNext n) outgoing h w = omega (arith, opened-leads f t taken (LoadedNext n) outgoing h .weigh)
+g-falls f t taken (PromotedNext n) outgoing h w = omega (arith, opened-leads f t taken (PromotedNext n) outgoing h .weigh)
+g-falls f t taken NoneNext (AwaitsCopyOut m s) h w = omega (arith, opened-leads f t taken NoneNext (AwaitsCopyOut m s) h .weigh)
+g-falls f t taken NoneNext NoneOutgoing h w =
     unfold step-e choose-if new-interval in
-    let b : State = begin f t new NoneNext NoneOutgoing in
-    omega (arith, choose-falls b t (new-interval f t new NoneNext NoneOutgoing h) (highest-of b (f .jobs .ready)) refl (h .few) (not-true (eqb (f .jobs .ready) 0) w) (best-of b (f .jobs .ready)))
+    let b : State = begin f t taken NoneNext NoneOutgoing in
+    omega (arith, choose-falls b t (new-interval f t taken NoneNext NoneOutgoing h) (highest-of b (f .jobs .ready)) refl (h .few) (not-true (eqb (f .jobs .ready) 0) w) (best-of b (f .jobs .ready)))
 
-g-leads : (f : State) (t new : ℕ) (p : Phase) → f .phase ≡ p → Sound f p
-    → Leads f p (step-g f t new p) (step-g f t new p .phase) (total is-begin (begin-events t p (step-g f t new p .phase))) 0
+g-leads : (f : State) (t taken : ℕ) (p : Phase) → f .phase ≡ p → Sound f p
+    → Leads f p (step-g f t taken p) (step-g f t taken p .phase) (total is-begin (begin-events t p (step-g f t taken p .phase))) 0
 unfolding step-g begin-events total
-g-leads f t new (Within i) e h = back f (Within i) e h
-g-leads f t new (Between next outgoing) e h = go (wanted next outgoing (f .jobs .ready)) refl
+g-leads f t taken (Within i) e h = back f (Within i) e h
+g-leads f t taken (Between next outgoing) e h = go (wanted next outgoing (f .jobs .ready)) refl
   where
     b : State
-    b = begin f t new next outgoing
+    b = begin f t taken next outgoing
 
     stays : (q : Phase) → q ≡ Between next outgoing → Leads f (Between next outgoing) f q (total is-begin (begin-events t (Between next outgoing) q)) 0
     stays q x = subst (λ (q : Phase). Leads f (Between next outgoing) f q (total is-begin (begin-events t (Between next outgoing) q)) 0) (sym x) (record { sound = h; weigh = omega arith; sink = omega arith })
@@ -385,9 +386,9 @@ g-leads f t new (Between next outgoing) e h = go (wanted next outgoing (f .jobs 
     go : (w : Bool) → wanted next outgoing (f .jobs .ready) ≡ w
         → Leads f (Between next outgoing) (cond w (step-e b t (b .phase)) f) (cond w (step-e b t (b .phase)) f .phase) (total is-begin (begin-events t (Between next outgoing) (cond w (step-e b t (b .phase)) f .phase))) 0
     go true x = record {
-      sound = opened-leads f t new next outgoing h .sound;
-      weigh = omega (arith, g-falls f t new next outgoing h x, begins-one t (Between next outgoing) (step-e b t (b .phase) .phase));
-      sink = omega (arith, g-falls f t new next outgoing h x, rank-small (step-e b t (b .phase) .phase));
+      sound = opened-leads f t taken next outgoing h .sound;
+      weigh = omega (arith, g-falls f t taken next outgoing h x, begins-one t (Between next outgoing) (step-e b t (b .phase) .phase));
+      sink = omega (arith, g-falls f t taken next outgoing h x, rank-small (step-e b t (b .phase) .phase));
     }
     go false x = stays (f .phase) e
 
@@ -406,13 +407,11 @@ pub to-e : (d : State) (t set : ℕ) → Sound (at-b d t .state) (at-b d t .stat
 unfolding at-e
 to-e d t set h =
     let b : State = at-b d t .state in
-    let new : ℕ = new-at d t set in
-    let late : ℕ = late-at d t set in
-    let c : State = step-c b t new late in
-    let x : State = step-d c new (c .phase) in
-    let e : State = step-e x t (x .phase) in
-    let l1 : Leads b (b .phase) c (c .phase) 0 (size new) = c-leads b t new late h in
-    let l2 : Leads c (c .phase) x (x .phase) 0 0 = d-leads c new (c-new b t new late) (l1 .sound) in
+    let c : State = at-c d t set in
+    let x : State = at-d d t set in
+    let e : State = at-e d t set in
+    let l1 : Leads b (b .phase) c (c .phase) 0 (size (new-at d t set)) = c-leads b t (new-at d t set) (late-at d t set) h in
+    let l2 : Leads c (c .phase) x (x .phase) 0 0 = d-leads c (new-at d t set) (c-new b t (new-at d t set) (late-at d t set)) (l1 .sound) in
     let l3 : Leads x (x .phase) e (e .phase) 0 0 = e-leads x t (l2 .sound) in
     record { sound = l3 .sound; weigh = omega (arith, l1 .weigh, l2 .weigh, l3 .weigh); sink = omega (arith, l1 .sink, l2 .sink, l3 .sink) }
 

@@ -6,14 +6,14 @@ use native.Mathlib.Omega.{arith}
 use lib.Dec.{eqb}
 use Rattle.sets.specs.Sets.{member, union, intersection, insert, bit}
 use Rattle.sets.proofs.Laws.{by-test, clash, none, same-task, united, intersection-member, intersection-left, inserted, removed, union-out, union-right}
-use Rattle.rules.specs.With.{at-clock}
+use Rattle.rules.specs.With.{at-clock, with-copyin}
 use Rattle.rules.specs.Order.{better, highest-below, highest, highest-of}
 use Rattle.rules.specs.Calls.{opened}
 use Rattle.rules.specs.Instant.{step-a, step-b, step-c, step-d, step-e, step-g, close, close-stage, over, promoted, next-of, work-of, held-over, with-candidates, cancel, choose, begin, begin-processor, begin-copyout, wanted, ended as ended-by, without-done, settled, entry-with, interval-entry, copyin-at, copyin-task, copyin-fate, processor-task, copyout-task, closing, occurred, at-a, at-b, at-e, at-f, at-g, new-at, late-at, fresh-stage}
 use Rattle.guarantees.specs.History.{Event, Comes, Starts, Stops, Finishes, Completes, Ends, Takes, Defers, GivesWay, Begins, history, happens, processor-events-in, finish-events, finish-events-in, completion-events, end-events, take-events, given-way, giving-events, giving-events-in, begin-events, start-events}
 use Rattle.guarantees.specs.Queries.{details, finishes, ends, begins, gives-way, after}
 use Rattle.guarantees.specs.Intervals.{Course, no-course, course, work-by, course-by, promoted-by, executes-next, Proceeds, entry-by, ended}
-use Rattle.guarantees.specs.Entries.{answers, closed-in, closed}
+use Rattle.guarantees.specs.Entries.{all-occurred, closed-in, closed}
 use Rattle.guarantees.proofs.Walk.{walk-told}
 use Rattle.guarantees.proofs.Cases.{held-at, HeldFor, d-fates, e-cases}
 use Rattle.guarantees.proofs.Steps.{settles, processor-task-same}
@@ -183,19 +183,26 @@ module _ (pr : List ℕ) where
   finished t (Loaded n) x = x
   finished t (Cancelled n fate) x = x
 
-  -- all but the copy-in
-  record SameButCopy (x y : Course) : Type 0 where
+  -- the interval, its execution and its copy-out
+  record SameInterval (x y : Course) : Type 0 where
     is-open : y .is-open ≡ x .is-open
     begin-same : y .begin ≡ x .begin
     half-same : y .half ≡ x .half
     task-same : y .task ≡ x .task
     work-same : y .work ≡ x .work
     out-same : y .copiedout ≡ x .copiedout
+
+  -- all but the copy-in
+  record SameButCopy (x y : Course) : Type 0 where
+    interval : SameInterval x y
     own-same : y .own ≡ x .own
     next-same : y .next ≡ x .next
 
+  same-interval : {x : Course} → SameInterval x x
+  same-interval = record { is-open = refl; begin-same = refl; half-same = refl; task-same = refl; work-same = refl; out-same = refl }
+
   unchanged : (x : Course) → SameButCopy x x
-  unchanged x = record { is-open = refl; begin-same = refl; half-same = refl; task-same = refl; work-same = refl; out-same = refl; own-same = refl; next-same = refl }
+  unchanged x = record { interval = same-interval; own-same = refl; next-same = refl }
 
   finished-same : (t : ℕ) (c : CopyIn) (x : Course) → SameButCopy x (finished t c x)
   finished-same t Unchosen x = unchanged x
@@ -203,7 +210,7 @@ module _ (pr : List ℕ) where
   finished-same t (Copying n until) x = go (eqb until t)
     where
       go : (b : Bool) → SameButCopy x (cond b (course-by x (Finishes n)) x)
-      go true = record { is-open = refl; begin-same = refl; half-same = refl; task-same = refl; work-same = refl; out-same = refl; own-same = refl; next-same = refl }
+      go true = record { interval = record { is-open = refl; begin-same = refl; half-same = refl; task-same = refl; work-same = refl; out-same = refl }; own-same = refl; next-same = refl }
       go false = unchanged x
   finished-same t (Loaded n) x = unchanged x
   finished-same t (Cancelled n fate) x = unchanged x
@@ -249,13 +256,13 @@ module _ (pr : List ℕ) where
       (by-completes (Follows l y) (λ n u es h. follows-on l y (Completes n u) es (record { begins-not = refl; ends-not = refl; finishes-not = refl; gives-not = refl }) h) (step-a d t (Within i) .done) ys
       (k y (unfold step-a without-done ended-by in record {
         table-is = a .table-is;
-        half-is = same .half-same ∙ a .half-is;
+        half-is = same .interval .half-same ∙ a .half-is;
         phase = record {
-          is-open = same .is-open ∙ h .is-open;
-          begin-is = same .begin-same ∙ h .begin-is;
-          task-is = same .task-same ∙ h .task-is ∙ sym (processor-task-same (d .table) t (i .processor));
-          work-is = same .work-same ∙ h .work-is;
-          out-is = same .out-same ∙ h .out-is ∙ sym (copyout-task-same t i);
+          is-open = same .interval .is-open ∙ h .is-open;
+          begin-is = same .interval .begin-same ∙ h .begin-is;
+          task-is = same .interval .task-same ∙ h .task-is ∙ sym (processor-task-same (d .table) t (i .processor));
+          work-is = same .interval .work-same ∙ h .work-is;
+          out-is = same .interval .out-same ∙ h .out-is ∙ sym (copyout-task-same t i);
           shown = finished-shown t (i .copyin) x (h .shown);
           own-is = λ j m. ap (member j) (same .own-same) ∙ h .own-is j m;
           none-next = λ j m. ap (member j) (same .next-same) ∙ h .none-next j m;
@@ -402,12 +409,7 @@ module _ (pr : List ℕ) where
 
   -- all but the marked jobs
   record SameButSets (x y : Course) : Type 0 where
-    is-open : y .is-open ≡ x .is-open
-    begin-same : y .begin ≡ x .begin
-    half-same : y .half ≡ x .half
-    task-same : y .task ≡ x .task
-    work-same : y .work ≡ x .work
-    out-same : y .copiedout ≡ x .copiedout
+    interval : SameInterval x y
     chosen-same : y .chosen ≡ x .chosen
     fate-same : y .fate ≡ x .fate
 
@@ -415,33 +417,35 @@ module _ (pr : List ℕ) where
   set-of true x = x .own
   set-of false x = x .next
 
-  module _ (new marks t : ℕ) where
+  module _ (taken marks t : ℕ) where
     abbrev takes : List Event
-    takes = take-events 32 new marks t
+    takes = take-events 32 taken marks t
 
     abbrev taken-to : Course → Course
-    taken-to x = after course-by x (take-events 32 new marks t)
+    taken-to x = after course-by x (take-events 32 taken marks t)
 
-    none-begins : NoneBegins (take-events 32 new marks t)
+    none-begins : NoneBegins (take-events 32 taken marks t)
     unfolding NoneBegins
-    none-begins = subst NoneBegins (append-nil takes) (by-takes NoneBegins 32 new marks t (λ n l m es h. (record { begins-not = refl; ends-not = refl; finishes-not = refl; gives-not = refl }, h)) [] tt)
+    none-begins = subst NoneBegins (append-nil takes) (by-takes NoneBegins 32 taken marks t (λ n l m es h. (record { begins-not = refl; ends-not = refl; finishes-not = refl; gives-not = refl }, h)) [] tt)
 
     takes-same : (x : Course) → SameButSets x (taken-to x)
     unfolding after
     takes-same =
         subst (λ (es : List Event). (x : Course) → SameButSets x (after course-by x es)) (append-nil takes)
-        (by-takes (λ es. (x : Course) → SameButSets x (after course-by x es)) 32 new marks t
+        (by-takes (λ es. (x : Course) → SameButSets x (after course-by x es)) 32 taken marks t
         (λ n l m es h x. again x n (h (course-by x (Takes n t (member n marks))))) []
-        (λ x. record { is-open = refl; begin-same = refl; half-same = refl; task-same = refl; work-same = refl; out-same = refl; chosen-same = refl; fate-same = refl }))
+        (λ x. record { interval = same-interval; chosen-same = refl; fate-same = refl }))
       where
         again : (x : Course) (n : ℕ) {y : Course} → SameButSets (course-by x (Takes n t (member n marks))) y → SameButSets x y
         again x n i = record {
-          is-open = i .is-open;
-          begin-same = i .begin-same;
-          half-same = i .half-same;
-          task-same = i .task-same;
-          work-same = i .work-same;
-          out-same = i .out-same;
+          interval = record {
+            is-open = i .interval .is-open;
+            begin-same = i .interval .begin-same;
+            half-same = i .interval .half-same;
+            task-same = i .interval .task-same;
+            work-same = i .interval .work-same;
+            out-same = i .interval .out-same;
+          };
           chosen-same = i .chosen-same;
           fate-same = i .fate-same;
         }
@@ -451,7 +455,7 @@ module _ (pr : List ℕ) where
     unfolding after
     takes-other o =
         subst (λ (es : List Event). (x : Course) → x .is-open ≡ o → set-of (not o) (after course-by x es) ≡ set-of (not o) x) (append-nil takes)
-        (by-takes (λ es. (x : Course) → x .is-open ≡ o → set-of (not o) (after course-by x es) ≡ set-of (not o) x) 32 new marks t
+        (by-takes (λ es. (x : Course) → x .is-open ≡ o → set-of (not o) (after course-by x es) ≡ set-of (not o) x) 32 taken marks t
         (λ n l m es h x e. h (course-by x (Takes n t (member n marks))) e ∙ one o x n (member n marks) e) [] (λ x e. refl))
       where
         one : (o : Bool) (x : Course) (n : ℕ) (m : Bool) → x .is-open ≡ o → set-of (not o) (course-by x (Takes n t m)) ≡ set-of (not o) x
@@ -471,19 +475,19 @@ module _ (pr : List ℕ) where
           go false x j true e = rw e (inserted j (x .next) k small)
           go false x j false e = refl
 
-      takes-sets : (x : Course) → x .is-open ≡ o → member k (set-of o (taken-to x)) ≡ (member k (set-of o x) || (member k new && member k marks))
+      takes-sets : (x : Course) → x .is-open ≡ o → member k (set-of o (taken-to x)) ≡ (member k (set-of o x) || (member k taken && member k marks))
       unfolding after take-events
       takes-sets x e =
           subst (λ (es : List Event). member k (set-of o (after course-by x es)) ≡ z) (append-nil takes)
-          (at-task k new (λ j. Takes j t (member j marks)) (λ j. take-events j new marks t) refl (λ j. refl) P
+          (at-task k taken (λ j. Takes j t (member j marks)) (λ j. take-events j taken marks t) refl (λ j. refl) P
           (λ b j f es h x e i. h (course-by x (Takes j t (member j marks))) e (joins x j (member j marks) e ∙ rw f (others (member j marks) (member k (set-of o x))) ∙ i))
           (member k (set-of o x)) (member k marks || member k (set-of o x))
           (λ f es h x e i. h (course-by x (Takes k t (member k marks))) e (joins x k (member k marks) e ∙ rw (same-task k) (this (member k marks) (member k (set-of o x)) ∙ ap (λ (b : Bool). member k marks || b) i)))
           32 small [] (λ x e i. i) x e refl)
-          ∙ last (member k new) (member k marks) (member k (set-of o x))
+          ∙ last (member k taken) (member k marks) (member k (set-of o x))
         where
           z : Bool
-          z = cond (member k new) (member k marks || member k (set-of o x)) (member k (set-of o x))
+          z = cond (member k taken) (member k marks || member k (set-of o x)) (member k (set-of o x))
 
           P : Bool → List Event → Type 0
           P b es = (y : Course) → y .is-open ≡ o → member k (set-of o y) ≡ b → member k (set-of o (after course-by y es)) ≡ z
@@ -504,47 +508,47 @@ module _ (pr : List ℕ) where
           last false m true = refl
           last false m false = refl
 
-  c-follows : (l : List IntervalEntry) (d : State) (t new late : ℕ) (ys : List Event)
-      → ((x : Course) → Agrees (intersection (held-over (d .phase) new) (d .marked)) x (step-c d t new late) (step-c d t new late .phase) → Follows l x ys)
-      → (x : Course) → Agrees 0 x d (d .phase) → Follows l x (take-events 32 new (d .marked) t ++ ys)
-  c-follows l d t new late ys k x a =
-      follows-all l (take-events 32 new (d .marked) t) x ys (none-begins new (d .marked) t)
-      (k y (unfold step-c in record { table-is = a .table-is; half-is = same .half-same ∙ a .half-is; phase = go (d .phase) (a .phase) }))
+  c-follows : (l : List IntervalEntry) (d : State) (t taken deferred : ℕ) (ys : List Event)
+      → ((x : Course) → Agrees (intersection (held-over (d .phase) taken) (d .marked)) x (step-c d t taken deferred) (step-c d t taken deferred .phase) → Follows l x ys)
+      → (x : Course) → Agrees 0 x d (d .phase) → Follows l x (take-events 32 taken (d .marked) t ++ ys)
+  c-follows l d t taken deferred ys k x a =
+      follows-all l (take-events 32 taken (d .marked) t) x ys (none-begins taken (d .marked) t)
+      (k y (unfold step-c in record { table-is = a .table-is; half-is = same .interval .half-same ∙ a .half-is; phase = go (d .phase) (a .phase) }))
     where
       y : Course
-      y = taken-to new (d .marked) t x
+      y = taken-to taken (d .marked) t x
 
-      same : SameButSets x (taken-to new (d .marked) t x)
-      same = takes-same new (d .marked) t x
+      same : SameButSets x (taken-to taken (d .marked) t x)
+      same = takes-same taken (d .marked) t x
 
       go : (p : Phase) → AgreesAt 0 x (d .jobs .ready) p
-          → AgreesAt (intersection (held-over p new) (d .marked)) (taken-to new (d .marked) t x) (union (d .jobs .ready) new) (with-candidates d new p)
+          → AgreesAt (intersection (held-over p taken) (d .marked)) (taken-to taken (d .marked) t x) (union (d .jobs .ready) taken) (with-candidates d taken p)
       go (Between next outgoing) h = unfold with-candidates in record {
-        is-shut = same .is-open ∙ h .is-shut;
-        executes = h .executes ∙ executes-same (sym (same .chosen-same)) (sym (same .fate-same)) (sym (takes-other new (d .marked) t false x (h .is-shut)));
+        is-shut = same .interval .is-open ∙ h .is-shut;
+        executes = h .executes ∙ executes-same (sym (same .chosen-same)) (sym (same .fate-same)) (sym (takes-other taken (d .marked) t false x (h .is-shut)));
         works = h .works ∙ ap (λ (f : ℕ). work-by f (next-task next)) (sym (same .fate-same));
         next-is = λ j m.
-            takes-sets new (d .marked) t false j m x (h .is-shut) ∙ ap (λ (b : Bool). b || (member j new && member j (d .marked))) (h .next-is j m ∙ none j) ∙ sym (intersection-member new (d .marked) j m);
-        able = λ j m z. union-right (d .jobs .ready) new j m (intersection-left new (d .marked) j z);
+            takes-sets taken (d .marked) t false j m x (h .is-shut) ∙ ap (λ (b : Bool). b || (member j taken && member j (d .marked))) (h .next-is j m ∙ none j) ∙ sym (intersection-member taken (d .marked) j m);
+        able = λ j m z. union-right (d .jobs .ready) taken j m (intersection-left taken (d .marked) j z);
       }
         where
           executes-same : {c c′ : MaybeTask} {f f′ s s′ : ℕ} → c ≡ c′ → f ≡ f′ → s ≡ s′ → cond (eqb f 1) c (highest pr s) ≡ cond (eqb f′ 1) c′ (highest pr s′)
           executes-same e1 e2 e3 = rw (e1, e2, e3) refl
       go (Within i) h = unfold with-candidates in record {
-        is-open = same .is-open ∙ h .is-open;
-        begin-is = same .begin-same ∙ h .begin-is;
-        task-is = same .task-same ∙ h .task-is;
-        work-is = same .work-same ∙ h .work-is;
-        out-is = same .out-same ∙ h .out-is;
+        is-open = same .interval .is-open ∙ h .is-open;
+        begin-is = same .interval .begin-same ∙ h .begin-is;
+        task-is = same .interval .task-same ∙ h .task-is;
+        work-is = same .interval .work-same ∙ h .work-is;
+        out-is = same .interval .out-same ∙ h .out-is;
         shown = shown-same (i .copyin) (same .chosen-same) (same .fate-same) (h .shown);
         own-is = λ j m.
-            takes-sets new (d .marked) t true j m x (h .is-open) ∙ ap (λ (b : Bool). b || (member j new && member j (d .marked))) (h .own-is j m)
-            ∙ sym (united (i .candidates) (intersection new (d .marked)) j m ∙ ap (λ (b : Bool). member j (i .candidates) || b) (intersection-member new (d .marked) j m));
-        none-next = λ j m. ap (member j) (takes-other new (d .marked) t true x (h .is-open)) ∙ h .none-next j m;
+            takes-sets taken (d .marked) t true j m x (h .is-open) ∙ ap (λ (b : Bool). b || (member j taken && member j (d .marked))) (h .own-is j m)
+            ∙ sym (united (i .candidates) (intersection taken (d .marked)) j m ∙ ap (λ (b : Bool). member j (i .candidates) || b) (intersection-member taken (d .marked) j m));
+        none-next = λ j m. ap (member j) (takes-other taken (d .marked) t true x (h .is-open)) ∙ h .none-next j m;
         able = λ j m z.
-            ⊎-elim (λ c. more (member j (d .jobs .ready)) (member j new) (copyin-bit j (i .copyin)) (member j (union (d .jobs .ready) new)) (united (d .jobs .ready) new j m) (h .able j m c))
-            (λ c. omega (arith, ap bit (union-right (d .jobs .ready) new j m (intersection-left new (d .marked) j c))))
-            (union-out (i .candidates) (intersection new (d .marked)) j z);
+            ⊎-elim (λ c. more (member j (d .jobs .ready)) (member j taken) (copyin-bit j (i .copyin)) (member j (union (d .jobs .ready) taken)) (united (d .jobs .ready) taken j m) (h .able j m c))
+            (λ c. omega (arith, ap bit (union-right (d .jobs .ready) taken j m (intersection-left taken (d .marked) j c))))
+            (union-out (i .candidates) (intersection taken (d .marked)) j z);
       }
         where
           shown-same : (c : CopyIn) {a a′ : MaybeTask} {f f′ : ℕ} → a′ ≡ a → f′ ≡ f → Shown a f c → Shown a′ f′ c
@@ -565,11 +569,11 @@ module _ (pr : List ℕ) where
       go NoTask = unfold giving-events in refl
       go (Task n) = unfold giving-events in refl
 
-  c-gives : (d : State) (new : ℕ) (p q : Phase) → giving-events-in (with-candidates d new p) q ≡ giving-events-in p q
+  c-gives : (d : State) (taken : ℕ) (p q : Phase) → giving-events-in (with-candidates d taken p) q ≡ giving-events-in p q
   unfolding giving-events-in with-candidates
-  c-gives d new (Between next outgoing) q = refl
-  c-gives d new (Within i) (Between next outgoing) = refl
-  c-gives d new (Within i) (Within j) = refl
+  c-gives d taken (Between next outgoing) q = refl
+  c-gives d taken (Within i) (Between next outgoing) = refl
+  c-gives d taken (Within i) (Within j) = refl
 
   -- from a phase to a state: no copy-in gives way, or one does
   abbrev Gave : ℕ → Course → Phase → State → Type 0
@@ -583,6 +587,22 @@ module _ (pr : List ℕ) where
   gives-on l s x p y ys g k =
       ⊎-elim (λ h. rw (h .0) (k x (h .1))) (λ h. rw (h .1) (follows-gives l x (h .0) ys (h .3) (h .4) (k (course-by x (GivesWay (h .0))) (h .2)))) g
 
+  -- an interval with another copy-in, where what the course shows of it and who is able are said anew
+  with-other-copy : {x y : Course} {ready ready′ : ℕ} (i : Interval) (c : CopyIn) → SameButCopy x y → InCourse x ready i → Shown (y .chosen) (y .fate) c
+      → ((k : ℕ) → k < 32 → 1 ≤ bit (member k ready) + copyin-bit k (i .copyin) → 1 ≤ bit (member k ready′) + copyin-bit k c)
+      → InCourse y ready′ (with-copyin i c)
+  with-other-copy i c same h shown able = record {
+    is-open = same .interval .is-open ∙ h .is-open;
+    begin-is = same .interval .begin-same ∙ h .begin-is;
+    task-is = same .interval .task-same ∙ h .task-is;
+    work-is = same .interval .work-same ∙ h .work-is;
+    out-is = same .interval .out-same ∙ h .out-is;
+    shown = shown;
+    own-is = λ k l. ap (member k) (same .own-same) ∙ h .own-is k l;
+    none-next = λ k l. ap (member k) (same .next-same) ∙ h .none-next k l;
+    able = λ k l m. able k l (h .able k l m);
+  }
+
   cancel-gave : (s : ℕ) (x : Course) (d : State) (i : Interval) (n fate : ℕ) → HeldFor (i .copyin) n fate → Agrees s x d (Within i) → Gave s x (Within i) (cancel d i n fate true)
   unfolding cancel giving-events-in giving-events
   cancel-gave s x d i n fate h a = inr (
@@ -591,22 +611,16 @@ module _ (pr : List ℕ) where
     record {
       table-is = a .table-is;
       half-is = a .half-is;
-      phase = record {
-        is-open = a .phase .is-open;
-        begin-is = a .phase .begin-is;
-        task-is = a .phase .task-is;
-        work-is = a .phase .work-is;
-        out-is = a .phase .out-is;
-        shown = (refl, fate-is, ⊎-elim (λ z. ap (λ (f : ℕ). eqb f 1) (z .2)) (λ z. ap (λ (f : ℕ). eqb f 1) (z .1)) h);
-        own-is = a .phase .own-is;
-        none-next = a .phase .none-next;
-        able = λ k l m. able k l (a .phase .able k l m);
-      };
+      phase = with-other-copy i (Cancelled n fate) gives-same-but (a .phase)
+          (refl, fate-is, ⊎-elim (λ z. ap (λ (f : ℕ). eqb f 1) (z .2)) (λ z. ap (λ (f : ℕ). eqb f 1) (z .1)) h) able;
     },
     a .phase .is-open,
     under-way,
   )
     where
+      gives-same-but : SameButCopy x (course-by x (GivesWay n))
+      gives-same-but = record { interval = record { is-open = refl; begin-same = refl; half-same = refl; task-same = refl; work-same = refl; out-same = refl }; own-same = refl; next-same = refl }
+
       gives : giving-events (given-way (i .copyin)) (Task n) ≡ GivesWay n ∷ []
       gives = unfold giving-events in ⊎-elim (λ z. ap (λ (c : CopyIn). giving-events (given-way c) (Task n)) (z .1)) (λ z. ap (λ (c : CopyIn). giving-events (given-way c) (Task n)) (z .0)) h
 
@@ -634,9 +648,9 @@ module _ (pr : List ℕ) where
           go true b l = omega arith
           go false b l = omega arith
 
-  d-gave : (s : ℕ) (x : Course) (d : State) (new : ℕ) → Agrees s x d (d .phase) → Gave s x (d .phase) (step-d d new (d .phase))
-  d-gave s x d new a =
-      d-fates (Gave s x (d .phase)) d new (inl (gives-same (d .phase), a))
+  d-gave : (s : ℕ) (x : Course) (d : State) (taken : ℕ) → Agrees s x d (d .phase) → Gave s x (d .phase) (step-d d taken (d .phase))
+  d-gave s x d taken a =
+      d-fates (Gave s x (d .phase)) d taken (inl (gives-same (d .phase), a))
       (λ i n fate e h b. subst (λ (p : Phase). Gave s x p (cancel d i n fate true)) (sym e) (cancel-gave s x d i n fate h (subst (Agrees s x d) e a)))
 
   -- the choice leaves what agrees
@@ -649,32 +663,13 @@ module _ (pr : List ℕ) where
   chose s d t i NoTask e x a = record {
     table-is = a .table-is;
     half-is = a .half-is;
-    phase = record {
-      is-open = a .phase .is-open;
-      begin-is = a .phase .begin-is;
-      task-is = a .phase .task-is;
-      work-is = a .phase .work-is;
-      out-is = a .phase .out-is;
-      shown = subst (Shown (x .chosen) (x .fate)) e (a .phase .shown);
-      own-is = a .phase .own-is;
-      none-next = a .phase .none-next;
-      able = λ k l m. omega (arith, a .phase .able k l m, ap (copyin-bit k) e);
-    };
+    phase = with-other-copy i NoneChosen (unchanged x) (a .phase) (subst (Shown (x .chosen) (x .fate)) e (a .phase .shown)) (λ k l m. omega (arith, m, ap (copyin-bit k) e));
   }
   chose s d t i (Task q) e x a = record {
     table-is = a .table-is;
     half-is = a .half-is;
-    phase = record {
-      is-open = a .phase .is-open;
-      begin-is = a .phase .begin-is;
-      task-is = a .phase .task-is;
-      work-is = a .phase .work-is;
-      out-is = a .phase .out-is;
-      shown = subst (Shown (x .chosen) (x .fate)) e (a .phase .shown);
-      own-is = a .phase .own-is;
-      none-next = a .phase .none-next;
-      able = λ k l m. rw (removed q (d .jobs .ready) k l) (go (eqb k q) (member k (d .jobs .ready)) (omega (arith, a .phase .able k l m, ap (copyin-bit k) e)));
-    };
+    phase = with-other-copy i _ (unchanged x) (a .phase) (subst (Shown (x .chosen) (x .fate)) e (a .phase .shown))
+        (λ k l m. rw (removed q (d .jobs .ready) k l) (go (eqb k q) (member k (d .jobs .ready)) (omega (arith, m, ap (copyin-bit k) e))));
   }
     where
       go : (a b : Bool) → 1 ≤ bit b + 0 → 1 ≤ bit (not a && b) + bit a
@@ -696,19 +691,19 @@ module _ (pr : List ℕ) where
         agrees = λ x a. chose s d t i (highest-of d (d .jobs .ready)) c x (subst (Agrees s x d) e a);
       })
 
-  e-gave : (s : ℕ) (x : Course) (d : State) (t new late : ℕ) → let c : State = step-c d t new late in let y : State = step-d c new (c .phase) in
+  e-gave : (s : ℕ) (x : Course) (d : State) (t taken deferred : ℕ) → let c : State = step-c d t taken deferred in let y : State = step-d c taken (c .phase) in
       Agrees s x c (c .phase) → Gave s x (d .phase) (step-e y t (y .phase))
-  e-gave s x d t new late a =
-      let c : State = step-c d t new late in
-      let y : State = step-d c new (c .phase) in
+  e-gave s x d t taken deferred a =
+      let c : State = step-c d t taken deferred in
+      let y : State = step-d c taken (c .phase) in
       let e : Chooses s y (step-e y t (y .phase)) = e-chooses s y t in
       ⊎-elim
       (λ h. inl (sym (gives-c (step-e y t (y .phase) .phase)) ∙ e .gives (c .phase) ∙ h .0, e .agrees x (h .1)))
       (λ h. inr (h .0, sym (gives-c (step-e y t (y .phase) .phase)) ∙ e .gives (c .phase) ∙ h .1, e .agrees (course-by x (GivesWay (h .0))) (h .2), h .3, h .4))
-      (d-gave s x c new a)
+      (d-gave s x c taken a)
     where
-      gives-c : (q : Phase) → giving-events-in (step-c d t new late .phase) q ≡ giving-events-in (d .phase) q
-      gives-c q = unfold step-c in c-gives d new (d .phase) q
+      gives-c : (q : Phase) → giving-events-in (step-c d t taken deferred .phase) q ≡ giving-events-in (d .phase) q
+      gives-c q = unfold step-c in c-gives d taken (d .phase) q
 
   -- ---- g
 
@@ -733,22 +728,22 @@ module _ (pr : List ℕ) where
   unfolding begin-events start-events
   shut-follows l t x next outgoing q ys e h = rw e h
 
-  g-follows : (l : List IntervalEntry) (s : ℕ) (f : State) (t new : ℕ) (p : Phase) (ys : List Event) → f .phase ≡ p
-      → ((k : ℕ) → k < 32 → member k s ≡ member k (intersection new (f .marked)))
-      → ((x : Course) → Agrees 0 x (step-g f t new p) (step-g f t new p .phase) → Follows l x ys)
-      → (x : Course) → Agrees s x f p → Follows l x (begin-events t p (step-g f t new p .phase) ++ (start-events t p (step-g f t new p .phase) ++ ys))
+  g-follows : (l : List IntervalEntry) (s : ℕ) (f : State) (t taken : ℕ) (p : Phase) (ys : List Event) → f .phase ≡ p
+      → ((k : ℕ) → k < 32 → member k s ≡ member k (intersection taken (f .marked)))
+      → ((x : Course) → Agrees 0 x (step-g f t taken p) (step-g f t taken p .phase) → Follows l x ys)
+      → (x : Course) → Agrees s x f p → Follows l x (begin-events t p (step-g f t taken p .phase) ++ (start-events t p (step-g f t taken p .phase) ++ ys))
   unfolding step-g begin-events start-events
-  g-follows l s f t new (Within i) ys e m k x a =
+  g-follows l s f t taken (Within i) ys e m k x a =
       k x (subst (Agrees 0 x f) (sym e) (record { table-is = a .table-is; half-is = a .half-is; phase = a .phase }))
-  g-follows l s f t new (Between next outgoing) ys e m k x a = go (wanted next outgoing (f .jobs .ready)) refl k
+  g-follows l s f t taken (Between next outgoing) ys e m k x a = go (wanted next outgoing (f .jobs .ready)) refl k
     where
       b : State
-      b = begin f t new next outgoing
+      b = begin f t taken next outgoing
 
       y : Course
       y = course-by x (Begins t (processor-task (begin-processor (f .table) t next)) (copyout-task (begin-copyout (f .table) t outgoing)))
 
-      begun : Agrees 0 (course-by x (Begins t (processor-task (begin-processor (f .table) t next)) (copyout-task (begin-copyout (f .table) t outgoing)))) (begin f t new next outgoing) (begin f t new next outgoing .phase)
+      begun : Agrees 0 (course-by x (Begins t (processor-task (begin-processor (f .table) t next)) (copyout-task (begin-copyout (f .table) t outgoing)))) (begin f t taken next outgoing) (begin f t taken next outgoing .phase)
       begun = unfold begin in record {
         table-is = a .table-is;
         half-is = ap (λ (h : ℕ). 1 - h) (a .half-is);
@@ -838,7 +833,8 @@ module _ (pr : List ℕ) where
         rw (happens-parts d t set ys, front-parts d t later)
         (subst (λ (m : List IntervalEntry). Follows m x (Comes t ∷ whole)) (closing-is (at-b d t .closed) (at-f d t set .closed) (one-closes d t set) l ∙ closing-so)
         (follows-on all x (Comes t) whole (record { begins-not = refl; ends-not = refl; finishes-not = refl; gives-not = refl })
-        (by-processor-at (Follows all x) t (λ n es z. follows-on all x (Starts n t) es (record { begins-not = refl; ends-not = refl; finishes-not = refl; gives-not = refl }) z) (λ n es z. follows-on all x (Stops n t) es (record { begins-not = refl; ends-not = refl; finishes-not = refl; gives-not = refl }) z) (d .phase) _
+        (by-processor-at (Follows all x) t (λ n es z. follows-on all x (Starts n t) es (record { begins-not = refl; ends-not = refl; finishes-not = refl; gives-not = refl }) z)
+        (λ n es z. follows-on all x (Stops n t) es (record { begins-not = refl; ends-not = refl; finishes-not = refl; gives-not = refl }) z) (d .phase) _
         (front x (record { table-is = a .table-is; half-is = a .half-is; phase = a .phase })))))
       where
         later : List Event
@@ -868,11 +864,11 @@ module _ (table : Table) (marks : ℕ) where
   abbrev pr : List ℕ
   pr = table .priority
 
-  along : (cs : List Call) (d : State) (x : Course) → Agrees (table .priority) 0 x d (d .phase) → Follows (table .priority) (closed (answers d cs)) x (history d cs)
+  along : (cs : List Call) (d : State) (x : Course) → Agrees (table .priority) 0 x d (d .phase) → Follows (table .priority) (closed (all-occurred d cs)) x (history d cs)
   along =
       walk-told (λ d os h. (x : Course) → Agrees pr 0 x d (d .phase) → Follows pr (closed os) x h)
       (λ d x a. record { executing = unfold Executing-so in tt; says = unfold ended closed in refl })
-      (λ d t set cs e k x a. unfold closed in instant-follows pr (closed (answers (at-g d t set) cs)) d t set (history (at-g d t set) cs) k x a)
+      (λ d t set cs e k x a. unfold closed in instant-follows pr (closed (all-occurred (at-g d t set) cs)) d t set (history (at-g d t set) cs) k x a)
       (λ d m os h k x a. k x (record { table-is = a .table-is; half-is = a .half-is; phase = a .phase }))
 
   none-highest : (q : MaybeTask) → Best (table .priority) 0 q → NoTask ≡ q
@@ -880,7 +876,7 @@ module _ (table : Table) (marks : ℕ) where
   none-highest (Task q) b = clash (member q 0) (b .1) (none q)
 
   -- every list of calls from the state that opening returned
-  pub courses : (calls : List Call) → Follows (table .priority) (closed (answers (opened table marks) calls)) no-course (history (opened table marks) calls)
+  pub courses : (calls : List Call) → Follows (table .priority) (closed (all-occurred (opened table marks) calls)) no-course (history (opened table marks) calls)
   courses calls =
       along calls (opened table marks) no-course
       (unfold opened in record {

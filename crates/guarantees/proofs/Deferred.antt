@@ -183,18 +183,18 @@ module _ (n : ℕ) where
         by-front (Alone last b) (λ u. quiet b (Comes u) refl refl) (λ k u. quiet b (Starts k u) refl refl) (λ k u. quiet b (Stops k u) refl refl)
         (λ k. quiet b (Finishes k) refl refl) (λ k u. quiet b (Completes k u) refl refl) (λ u. quiet b (Ends u) refl refl) d t es h
 
-    takes-alone : n < 32 → (new marked t : ℕ) (b : Bool) (es : List Event) → Alone last (cond (member n new) false b) es → Alone last b (take-events 32 new marked t ++ es)
+    takes-alone : n < 32 → (taken marked t : ℕ) (b : Bool) (es : List Event) → Alone last (cond (member n taken) false b) es → Alone last b (take-events 32 taken marked t ++ es)
     unfolding take-events Alone
-    takes-alone l new marked t b es h =
-        at-task n new (λ k. Takes k t (member k marked)) (λ k. take-events k new marked t) refl (λ k. refl) (Alone last)
+    takes-alone l taken marked t b es h =
+        at-task n taken (λ k. Takes k t (member k marked)) (λ k. take-events k taken marked t) refl (λ k. refl) (Alone last)
         (λ x k e. quiet x (Takes k t (member k marked)) refl (rw e)) b false
         (λ m es z. (λ y. absurd (false≢true y), rw (same-task n) z)) 32 l es h
 
-    defers-alone : n < 32 → (late t : ℕ) (b : Bool) (es : List Event) → (member n late ≡ true → b ≡ false)
-        → Alone last (cond (member n late) true b) es → Alone last b (defer-events 32 late t ++ es)
+    defers-alone : n < 32 → (deferred t : ℕ) (b : Bool) (es : List Event) → (member n deferred ≡ true → b ≡ false)
+        → Alone last (cond (member n deferred) true b) es → Alone last b (defer-events 32 deferred t ++ es)
     unfolding defer-events Alone
-    defers-alone l late t b es f h =
-        at-task n late (λ k. Defers k t) (λ k. defer-events k late t) refl (λ k. refl) (Alone last)
+    defers-alone l deferred t b es f h =
+        at-task n deferred (λ k. Defers k t) (λ k. defer-events k deferred t) refl (λ k. refl) (Alone last)
         (λ x k e. quiet x (Defers k t) e (rw e)) b true
         (λ m es z. (λ y. f m, rw (same-task n) z)) 32 l es h
 

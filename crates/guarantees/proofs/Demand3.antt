@@ -13,7 +13,7 @@ use Rattle.guarantees.specs.History.{Event, Completes, Takes, Defers, hi
 use Rattle.guarantees.specs.Queries.{Situation, NoneOpen, Open, situation, intervals, total, is-take, taking, met}
 use Rattle.guarantees.specs.Pending.{OneAtATime}
 use Rattle.guarantees.specs.Intervals.{no-course}
-use Rattle.guarantees.specs.Entries.{answers, closed}
+use Rattle.guarantees.specs.Entries.{all-occurred, closed}
 use Rattle.guarantees.specs.Claim.{Lower, ThisOrHigher, InOrder, Holds, TakenLater, AllCompleted, Claim, Demand3}
 use Rattle.guarantees.proofs.Proper.{Fair, Opens, opens}
 use Rattle.guarantees.proofs.Walk.{after-append, history-append}
@@ -73,7 +73,7 @@ module _ (table : Table) (marks : ℕ) (fair : Fair table marks) where
 
   -- ---- the claim of each history
 
-  follows : (calls : List Call) → Follows (table .priority) (closed (answers (opened table marks) calls)) no-course (history (opened table marks) calls)
+  follows : (calls : List Call) → Follows (table .priority) (closed (all-occurred (opened table marks) calls)) no-course (history (opened table marks) calls)
   follows calls = courses table marks calls
 
   holds : (calls : List Call) → Holds table (history (opened table marks) calls)

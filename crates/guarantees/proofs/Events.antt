@@ -85,25 +85,25 @@ module _ (P : List Event → Type 0) where
   by-ends t f (Within i) (Between next outgoing) es h = f es h
   by-ends t f (Within i) (Within j) es h = h
 
-  pub by-takes : (k new marked t : ℕ) → ((n : ℕ) → n < k → member n new ≡ true → (es : List Event) → P es → P (Takes n t (member n marked) ∷ es))
-      → (es : List Event) → P es → P (take-events k new marked t ++ es)
+  pub by-takes : (k taken marked t : ℕ) → ((n : ℕ) → n < k → member n taken ≡ true → (es : List Event) → P es → P (Takes n t (member n marked) ∷ es))
+      → (es : List Event) → P es → P (take-events k taken marked t ++ es)
   unfolding take-events
-  by-takes zero new marked t f es h = h
-  by-takes (suc k) new marked t f es h =
-      rw (append-assoc (take-events k new marked t) (cond (member k new) (Takes k t (member k marked) ∷ []) []) es)
-      (by-takes k new marked t (λ n l. f n (omega arith)) (cond (member k new) (Takes k t (member k marked) ∷ []) [] ++ es) (go (member k new) (f k (omega arith))))
+  by-takes zero taken marked t f es h = h
+  by-takes (suc k) taken marked t f es h =
+      rw (append-assoc (take-events k taken marked t) (cond (member k taken) (Takes k t (member k marked) ∷ []) []) es)
+      (by-takes k taken marked t (λ n l. f n (omega arith)) (cond (member k taken) (Takes k t (member k marked) ∷ []) [] ++ es) (go (member k taken) (f k (omega arith))))
     where
       go : (b : Bool) → (b ≡ true → (es : List Event) → P es → P (Takes k t (member k marked) ∷ es)) → P (cond b (Takes k t (member k marked) ∷ []) [] ++ es)
       go true f = f refl es h
       go false f = h
 
-  pub by-defers : (k late t : ℕ) → ((n : ℕ) → n < k → member n late ≡ true → (es : List Event) → P es → P (Defers n t ∷ es))
-      → (es : List Event) → P es → P (defer-events k late t ++ es)
+  pub by-defers : (k deferred t : ℕ) → ((n : ℕ) → n < k → member n deferred ≡ true → (es : List Event) → P es → P (Defers n t ∷ es))
+      → (es : List Event) → P es → P (defer-events k deferred t ++ es)
   unfolding defer-events
-  by-defers zero late t f es h = h
-  by-defers (suc k) late t f es h =
-      rw (append-assoc (defer-events k late t) (cond (member k late) (Defers k t ∷ []) []) es)
-      (by-defers k late t (λ n l. f n (omega arith)) (cond (member k late) (Defers k t ∷ []) [] ++ es) (go (member k late) (f k (omega arith))))
+  by-defers zero deferred t f es h = h
+  by-defers (suc k) deferred t f es h =
+      rw (append-assoc (defer-events k deferred t) (cond (member k deferred) (Defers k t ∷ []) []) es)
+      (by-defers k deferred t (λ n l. f n (omega arith)) (cond (member k deferred) (Defers k t ∷ []) [] ++ es) (go (member k deferred) (f k (omega arith))))
     where
       go : (b : Bool) → (b ≡ true → (es : List Event) → P es → P (Defers k t ∷ es)) → P (cond b (Defers k t ∷ []) [] ++ es)
       go true f = f refl es h
@@ -177,9 +177,9 @@ by-front P a x y b c e d t es h =
 abbrev As : List Event → List Event → Type 0
 As ys zs = intervals zs ≡ intervals ys
 
-pub takes-intervals : (k new marked t : ℕ) (ys : List Event) → intervals (take-events k new marked t ++ ys) ≡ intervals ys
+pub takes-intervals : (k taken marked t : ℕ) (ys : List Event) → intervals (take-events k taken marked t ++ ys) ≡ intervals ys
 unfolding each
-takes-intervals k new marked t ys = by-takes (As ys) k new marked t (λ n l m es e. e) ys refl
+takes-intervals k taken marked t ys = by-takes (As ys) k taken marked t (λ n l m es e. e) ys refl
 
 front-intervals : (d : State) (t : ℕ) (ys : List Event) → intervals (front-of d t ++ ys) ≡ intervals ys
 unfolding each

@@ -84,19 +84,19 @@ unfolding giving-events-in
 same-given (Between next outgoing) = inl (refl, refl)
 same-given (Within i) = inl (gives-none (given-way (i .copyin)), refl)
 
-c-given : (d : State) (new : ℕ) (p q : Phase) → Given (with-candidates d new p) q → Given p q
+c-given : (d : State) (taken : ℕ) (p q : Phase) → Given (with-candidates d taken p) q → Given p q
 unfolding with-candidates giving-events-in
-c-given d new (Between next outgoing) q h = h
-c-given d new (Within i) (Between next outgoing) h = h
-c-given d new (Within i) (Within j) h = h
+c-given d taken (Between next outgoing) q h = h
+c-given d taken (Within i) (Between next outgoing) h = h
+c-given d taken (Within i) (Within j) h = h
 
 held-not-given : (k : CopyIn) (n : ℕ) → Held k n → given-way k ≡ NoTask
 held-not-given k n s = ⊎-elim (λ x. ap given-way (x .1)) (λ x. ap given-way x) s
 
-d-given : (d : State) (new : ℕ) → Given (d .phase) (step-d d new (d .phase) .phase)
+d-given : (d : State) (taken : ℕ) → Given (d .phase) (step-d d taken (d .phase) .phase)
 unfolding cancel giving-events-in giving-events
-d-given d new =
-    d-cases (λ x. Given (d .phase) (x .phase)) d new (same-given (d .phase))
+d-given d taken =
+    d-cases (λ x. Given (d .phase) (x .phase)) d taken (same-given (d .phase))
     (λ i n fate e s b.
     subst (λ (p : Phase). Given p (cancel d i n fate true .phase)) (sym e) (inr (n, ap (λ (m : MaybeTask). giving-events m (Task n)) (held-not-given (i .copyin) n s), refl)))
 
@@ -121,11 +121,11 @@ pub given-e : (d : State) (t set : ℕ) → Given (at-b d t .state .phase) (at-e
 unfolding at-e step-c
 given-e d t set =
     let b : State = at-b d t .state in
-    let new : ℕ = new-at d t set in
-    let late : ℕ = late-at d t set in
-    let c : State = step-c b t new late in
-    let x : State = step-d c new (c .phase) in
-    e-given (b .phase) x t (c-given b new (b .phase) (x .phase) (d-given c new))
+    let taken : ℕ = new-at d t set in
+    let deferred : ℕ = late-at d t set in
+    let c : State = step-c b t taken deferred in
+    let x : State = step-d c taken (c .phase) in
+    e-given (b .phase) x t (c-given b taken (b .phase) (x .phase) (d-given c taken))
 
 -- a time with room for a length
 plain-later : (t x : ℕ) → t ≤ 3000000000 → x ≤ 1000000 → later t x ≡ t + x
@@ -251,14 +251,14 @@ module _ (table : Table) (marks : ℕ) (fair : Fair table marks) (t : ℕ) where
   unfolding begin-events start-events
   shut-works next outgoing q ys e k = rw e (rw e at k)
 
-  g-works : (f : State) (new : ℕ) (p : Phase) (ys : List Event) → f .phase ≡ p → f .table ≡ table → Times Plain (step-g f t new p .phase)
-      → Works (view-of (step-g f t new p .phase)) ys → Works (view-of p) (begin-events t p (step-g f t new p .phase) ++ (start-events t p (step-g f t new p .phase) ++ ys))
+  g-works : (f : State) (taken : ℕ) (p : Phase) (ys : List Event) → f .phase ≡ p → f .table ≡ table → Times Plain (step-g f t taken p .phase)
+      → Works (view-of (step-g f t taken p .phase)) ys → Works (view-of p) (begin-events t p (step-g f t taken p .phase) ++ (start-events t p (step-g f t taken p .phase) ++ ys))
   unfolding step-g begin-events start-events
-  g-works f new (Within i) ys e x p h = subst (λ (p : Phase). Works (view-of p) ys) e h
-  g-works f new (Between next outgoing) ys e x p h = go (wanted next outgoing (f .jobs .ready)) p h
+  g-works f taken (Within i) ys e x p h = subst (λ (p : Phase). Works (view-of p) ys) e h
+  g-works f taken (Between next outgoing) ys e x p h = go (wanted next outgoing (f .jobs .ready)) p h
     where
       b : State
-      b = begin f t new next outgoing
+      b = begin f t taken next outgoing
 
       begun : Opened (begin-processor table t next) (step-e b t (b .phase) .phase)
       begun = unfold begin in subst (λ (y : Table). Opened (begin-processor y t next) (step-e b t (b .phase) .phase)) x (e-opens b t (begin-processor (f .table) t next) refl)

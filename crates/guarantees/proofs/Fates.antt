@@ -12,7 +12,7 @@ use Rattle.rules.specs.Calls.{refusal, instant, served as served-step, after-ca
 use Rattle.guarantees.specs.History.{Event, Takes, Defers, happens, by-call, history, after-calls, take-events, defer-events, giving-events-in, end-events, begin-events, start-events}
 use Rattle.guarantees.specs.Queries.{after, first, taking, waiting}
 use Rattle.guarantees.specs.Releases.{Fates, no-release, fates-by, fates, Balance, Placed}
-use Rattle.guarantees.specs.Entries.{answer-of, answers, handed-in, skips}
+use Rattle.guarantees.specs.Entries.{answer-of, all-occurred, handed-in, skips}
 use Rattle.guarantees.proofs.Walk.{each-call, served, refused, refused-answer}
 use Rattle.guarantees.proofs.Events.{by-front, by-takes, by-defers, front-of, tail-of, happens-parts, tail-parts}
 use Rattle.guarantees.proofs.Frames.{waiting-b}
@@ -43,16 +43,16 @@ module _ (n : ℕ) (small : n < 32) where
     front-fates d t x es h =
         by-front (To x) (λ u es h. h) (λ k u es h. h) (λ k u es h. h) (λ k es h. h) (λ k u es h. h) (λ u es h. h) d t es h
 
-    takes-fates : (new marked t : ℕ) (x : Fates) (es : List Event) → To (cond (member n new) (took x) x) es → To x (take-events 32 new marked t ++ es)
+    takes-fates : (taken marked t : ℕ) (x : Fates) (es : List Event) → To (cond (member n taken) (took x) x) es → To x (take-events 32 taken marked t ++ es)
     unfolding take-events after
-    takes-fates new marked t x es h =
-        at-task n new (λ k. Takes k t (member k marked)) (λ k. take-events k new marked t) refl (λ k. refl) To
+    takes-fates taken marked t x es h =
+        at-task n taken (λ k. Takes k t (member k marked)) (λ k. take-events k taken marked t) refl (λ k. refl) To
         (λ x k e es h. rw e h) x (took x) (λ m es h. rw (same-task n) h) 32 small es h
 
-    defers-fates : (late t : ℕ) (x : Fates) (es : List Event) → To (cond (member n late) (put-off x) x) es → To x (defer-events 32 late t ++ es)
+    defers-fates : (deferred t : ℕ) (x : Fates) (es : List Event) → To (cond (member n deferred) (put-off x) x) es → To x (defer-events 32 deferred t ++ es)
     unfolding defer-events after
-    defers-fates late t x es h =
-        at-task n late (λ k. Defers k t) (λ k. defer-events k late t) refl (λ k. refl) To
+    defers-fates deferred t x es h =
+        at-task n deferred (λ k. Defers k t) (λ k. defer-events k deferred t) refl (λ k. refl) To
         (λ x k e es h. rw e h) x (put-off x) (λ m es h. rw (same-task n) h) 32 small es h
 
     tail-fates : (d : State) (t set : ℕ) (x : Fates) (es : List Event) → To (cond (member n (late-at d t set)) (put-off x) x) es → To x (tail-of d t set ++ es)
@@ -153,8 +153,8 @@ module _ (n : ℕ) (small : n < 32) where
       ⊎-elim (λ s. absurd (let x : Mark k m ≡ Instant (s .time) (s .set) = s .is in let z : _≡_ {A = ℕ} 0 1 = cc in omega arith))
       (λ q. ap (λ (x : State). x .waiting) (q .leaves)) (each-call d (Mark k m))
 
-  balance : (cs : List Call) (d : State) (x : Fates) → x .waits ≡ member n (d .waiting .tasks) → Goes x (F x (history d cs)) (handed-in n d cs) (skips n (answers d cs))
-  unfolding handed-in history answers skips by-call answer-of
+  balance : (cs : List Call) (d : State) (x : Fates) → x .waits ≡ member n (d .waiting .tasks) → Goes x (F x (history d cs)) (handed-in n d cs) (skips n (all-occurred d cs))
+  unfolding handed-in history all-occurred skips by-call answer-of
   balance [] d x a = unfold after in record { handed-is = refl; waiting-is = refl }
   balance (Instant t set ∷ cs) d x a =
       by-test (eqb (refusal d t set) 0)
@@ -164,9 +164,9 @@ module _ (n : ℕ) (small : n < 32) where
       (λ e. rw (told-of d t set, e, refused d t set e, zero-add) (balance cs d x a))
   balance (Mark k m ∷ cs) d x a = balance cs (after-call d (Mark k m)) x (a ∙ ap (λ (w : WaitingReleases). member n (w .tasks)) (sym (mark-waits d k m)))
 
-  pub balanced : (d : State) (cs : List Call) → member n (d .waiting .tasks) ≡ false → Balance n (handed-in n d cs) (skips n (answers d cs)) (history d cs)
+  pub balanced : (d : State) (cs : List Call) → member n (d .waiting .tasks) ≡ false → Balance n (handed-in n d cs) (skips n (all-occurred d cs)) (history d cs)
   balanced d cs e =
-      let g : Goes no-release (fates n (history d cs)) (handed-in n d cs) (skips n (answers d cs)) = balance cs d no-release (sym e) in
+      let g : Goes no-release (fates n (history d cs)) (handed-in n d cs) (skips n (all-occurred d cs)) = balance cs d no-release (sym e) in
       record { each-handed = omega (arith, g .handed-is); each-waiting = omega (arith, g .waiting-is) }
 
   -- ---- an instant

@@ -30,9 +30,9 @@ pub b-frame : (s : Stage) (t : ℕ) → frame (step-b s t (s .state .phase) .sta
 unfolding close
 b-frame s t = b-cases (λ x. frame x ≡ frame (s .state)) s t (λ i e o. refl) (λ next outgoing e. refl) (λ i e o. refl)
 
-pub d-frame : (d : State) (new : ℕ) → frame (step-d d new (d .phase)) ≡ frame d
+pub d-frame : (d : State) (taken : ℕ) → frame (step-d d taken (d .phase)) ≡ frame d
 unfolding cancel
-d-frame d new = d-cases (λ x. frame x ≡ frame d) d new refl (λ i n u e s b. refl)
+d-frame d taken = d-cases (λ x. frame x ≡ frame d) d taken refl (λ i n u e s b. refl)
 
 choose-frame : (d : State) (t : ℕ) (i : Interval) (q : MaybeTask) → frame (choose d t i q) ≡ frame d
 unfolding choose
@@ -42,10 +42,10 @@ choose-frame d t i (Task q) = refl
 pub e-frame : (d : State) (t : ℕ) → frame (step-e d t (d .phase)) ≡ frame d
 e-frame d t = e-cases (λ x. frame x ≡ frame d) d t refl (λ i e s u. choose-frame d t i (highest-of d (d .jobs .ready)))
 
-pub g-frame : (d : State) (t new : ℕ) → frame (step-g d t new (d .phase)) ≡ frame d
+pub g-frame : (d : State) (t taken : ℕ) → frame (step-g d t taken (d .phase)) ≡ frame d
 unfolding begin
-g-frame d t new =
-    g-cases (λ x. frame x ≡ frame d) d t new (λ i e. refl) (λ next outgoing e w. refl) (λ next outgoing e w. e-frame (begin d t new next outgoing) t)
+g-frame d t taken =
+    g-cases (λ x. frame x ≡ frame d) d t taken (λ i e. refl) (λ next outgoing e w. refl) (λ next outgoing e w. e-frame (begin d t taken next outgoing) t)
 
 -- ---- up to step b
 
@@ -81,24 +81,28 @@ waiting-b d t = ap (λ (x : Frame). x .waiting) (frame-b d t)
 abbrev pub at-c : State → ℕ → ℕ → State
 at-c d t set = step-c (at-b d t .state) t (new-at d t set) (late-at d t set)
 
-pub c-table : (d : State) (t new late : ℕ) → step-c d t new late .table ≡ d .table
-unfolding step-c
-c-table d t new late = refl
+-- and after step d
+abbrev pub at-d : State → ℕ → ℕ → State
+at-d d t set = let c : State = at-c d t set in step-d c (new-at d t set) (c .phase)
 
-c-clock : (d : State) (t new late : ℕ) → step-c d t new late .clock ≡ d .clock
+pub c-table : (d : State) (t taken deferred : ℕ) → step-c d t taken deferred .table ≡ d .table
 unfolding step-c
-c-clock d t new late = refl
+c-table d t taken deferred = refl
 
-c-pending : (d : State) (t new late : ℕ) → step-c d t new late .jobs .pending ≡ union (d .jobs .pending) new
+c-clock : (d : State) (t taken deferred : ℕ) → step-c d t taken deferred .clock ≡ d .clock
 unfolding step-c
-c-pending d t new late = refl
+c-clock d t taken deferred = refl
+
+c-pending : (d : State) (t taken deferred : ℕ) → step-c d t taken deferred .jobs .pending ≡ union (d .jobs .pending) taken
+unfolding step-c
+c-pending d t taken deferred = refl
 
 pub frame-e : (d : State) (t set : ℕ) → frame (at-e d t set) ≡ frame (at-c d t set)
 unfolding at-e
 frame-e d t set =
-    let new : ℕ = new-at d t set in
+    let taken : ℕ = new-at d t set in
     let c : State = at-c d t set in
-    e-frame (step-d c new (c .phase)) t ∙ d-frame c new
+    e-frame (step-d c taken (c .phase)) t ∙ d-frame c taken
 
 frame-g : (d : State) (t set : ℕ) → frame (at-g d t set) ≡ frame (at-c d t set)
 unfolding at-g at-f
@@ -106,9 +110,9 @@ frame-g d t set =
     g-frame (at-f d t set .state) t (held-at d t set)
     ∙ b-frame (fresh-stage (at-e d t set)) t ∙ frame-e d t set
 
-c-marked : (d : State) (t new late : ℕ) → step-c d t new late .marked ≡ d .marked
+c-marked : (d : State) (t taken deferred : ℕ) → step-c d t taken deferred .marked ≡ d .marked
 unfolding step-c
-c-marked d t new late = refl
+c-marked d t taken deferred = refl
 
 module _ (d : State) (t set : ℕ) where
   pub marked-g : at-g d t set .marked ≡ d .marked

@@ -79,7 +79,7 @@ module _ (pr : List ℕ) (n : ℕ) (small : n < 32) where
     pub started : x .started ≡ s
 
   -- the release that waits
-  pub record Holds (h : Due) (w : WaitingReleases) : Type 0 where
+  pub record HoldsWaiting (h : Due) (w : WaitingReleases) : Type 0 where
     pub times : n < length (w .times)
     pub is : h ≡ cond (member n (w .tasks)) (Tick (getD (w .times) n 0)) Never
 
@@ -88,7 +88,7 @@ module _ (pr : List ℕ) (n : ℕ) (small : n < 32) where
     pub at : x .at ≡ situation-of (d .phase)
     pub releases : n < length (d .jobs .release)
     pub counts : n < length (d .jobs .blocked)
-    pub holds : Holds (x .held) (d .waiting)
+    pub holds : HoldsWaiting (x .held) (d .waiting)
     pub awaits : AwaitsIn pr n small d → Awaiting x d
     pub runs : (s : Due) → RunsAt s (d .phase) → Ran x s d
 
@@ -102,7 +102,7 @@ module _ (pr : List ℕ) (n : ℕ) (small : n < 32) where
     at : situation-of (g .phase) ≡ situation-of (d .phase)
     runs : (s : Due) → RunsAt s (g .phase) → RunsAt s (d .phase)
 
-  alike-knows : (d g : State) (x : Tally) (h : Due) → Alike d g → Holds h (g .waiting) → Knows x d → Knows (with-held n x h) g
+  alike-knows : (d g : State) (x : Tally) (h : Due) → Alike d g → HoldsWaiting h (g .waiting) → Knows x d → Knows (with-held n x h) g
   alike-knows d g x h l z k = record {
     table = l .like .table ∙ k .table;
     at = k .at ∙ sym (l .at);
@@ -123,20 +123,20 @@ module _ (pr : List ℕ) (n : ℕ) (small : n < 32) where
   }
 
   -- d
-  d-alike : (new : ℕ) (d : State) → Alike d (step-d d new (d .phase))
+  d-alike : (taken : ℕ) (d : State) → Alike d (step-d d taken (d .phase))
   unfolding cancel
-  d-alike new d = record {
-    like = d-like pr n small new d;
-    release = d-cases (λ x. getD (x .jobs .release) n 0 ≡ getD (d .jobs .release) n 0) d new refl (λ i m u e s b. refl);
-    releases = d-cases (λ x. length (x .jobs .release) ≡ length (d .jobs .release)) d new refl (λ i m u e s b. refl);
-    counts = d-cases (λ x. length (x .jobs .blocked) ≡ length (d .jobs .blocked)) d new refl (λ i m u e s b. refl);
-    at = d-situation d new;
-    runs = λ s. d-cases (λ x. RunsAt s (x .phase) → RunsAt s (d .phase)) d new (λ r. r) (λ i m u e c b r. subst (RunsAt s) (sym e) r);
+  d-alike taken d = record {
+    like = d-like pr n small taken d;
+    release = d-cases (λ x. getD (x .jobs .release) n 0 ≡ getD (d .jobs .release) n 0) d taken refl (λ i m u e s b. refl);
+    releases = d-cases (λ x. length (x .jobs .release) ≡ length (d .jobs .release)) d taken refl (λ i m u e s b. refl);
+    counts = d-cases (λ x. length (x .jobs .blocked) ≡ length (d .jobs .blocked)) d taken refl (λ i m u e s b. refl);
+    at = d-situation d taken;
+    runs = λ s. d-cases (λ x. RunsAt s (x .phase) → RunsAt s (d .phase)) d taken (λ r. r) (λ i m u e c b r. subst (RunsAt s) (sym e) r);
   }
 
-  pub d-knows : (new : ℕ) (d : State) (x : Tally) → Knows x d → Knows x (step-d d new (d .phase))
-  d-knows new d x k =
-      alike-knows d (step-d d new (d .phase)) x (x .held) (d-alike new d) (subst (Holds (x .held)) (sym (ap (λ (y : Frame). y .waiting) (d-frame d new))) (k .holds)) k
+  pub d-knows : (taken : ℕ) (d : State) (x : Tally) → Knows x d → Knows x (step-d d taken (d .phase))
+  d-knows taken d x k =
+      alike-knows d (step-d d taken (d .phase)) x (x .held) (d-alike taken d) (subst (HoldsWaiting (x .held)) (sym (ap (λ (y : Frame). y .waiting) (d-frame d taken))) (k .holds)) k
 
   -- e
   choose-same : (d : State) (t : ℕ) (i : Interval) (q : MaybeTask) → (choose d t i q .jobs .release ≡ d .jobs .release) × (choose d t i q .jobs .blocked ≡ d .jobs .blocked)
@@ -165,7 +165,7 @@ module _ (pr : List ℕ) (n : ℕ) (small : n < 32) where
 
   pub e-knows : (t : ℕ) (d : State) (x : Tally) → Knows x d → Knows x (step-e d t (d .phase))
   e-knows t d x k =
-      alike-knows d (step-e d t (d .phase)) x (x .held) (e-alike t d) (subst (Holds (x .held)) (sym (ap (λ (y : Frame). y .waiting) (e-frame d t))) (k .holds)) k
+      alike-knows d (step-e d t (d .phase)) x (x .held) (e-alike t d) (subst (HoldsWaiting (x .held)) (sym (ap (λ (y : Frame). y .waiting) (e-frame d t))) (k .holds)) k
 
   -- ---- a
 
@@ -407,10 +407,10 @@ module _ (pr : List ℕ) (n : ℕ) (small : n < 32) where
   staged s (Between next outgoing) r = omega (arith, outgoing-staged s outgoing r)
   staged s (Within i) r = ⊎-elim (λ y. omega (arith, processor-staged s (i .processor) y)) (λ y. omega (arith, copyout-staged s (i .copyout) y)) r
 
-  c-runs : (d : State) (new : ℕ) (s : Due) (p : Phase) → RunsAt s (with-candidates d new p) → RunsAt s p
+  c-runs : (d : State) (taken : ℕ) (s : Due) (p : Phase) → RunsAt s (with-candidates d taken p) → RunsAt s p
   unfolding with-candidates
-  c-runs d new s (Between next outgoing) r = r
-  c-runs d new s (Within i) r = r
+  c-runs d taken s (Between next outgoing) r = r
+  c-runs d taken s (Within i) r = r
 
   first-low : (p : Phase) → lower-in pr n (first-of (situation-of p)) ≡ low (place p)
   unfolding lower-in
@@ -442,88 +442,88 @@ module _ (pr : List ℕ) (n : ℕ) (small : n < 32) where
   stamp : (s : ℕ) (f : ℕ → ℕ) (xs : List ℕ) → n < length xs → getD (stamped s f 0 xs) n 0 ≡ cond (member n s) (f n) (getD xs n 0)
   stamp s f xs l = stamped-exact s f 0 xs n l ∙ ap (λ (j : ℕ). cond (member j s) (f j) (getD xs n 0)) (zero-add n)
 
-  module _ (d : State) (t new late : ℕ) (x : Tally) (k : Knows x d) where
+  module _ (d : State) (t taken deferred : ℕ) (x : Tally) (k : Knows x d) where
     -- the tick of the release that waits then
     abbrev held-c : Due
-    held-c = cond (member n late) (Tick t) (cond (member n new) Never (x .held))
+    held-c = cond (member n deferred) (Tick t) (cond (member n taken) Never (x .held))
 
-    c-holds : Holds held-c (step-c d t new late .waiting)
+    c-holds : HoldsWaiting held-c (step-c d t taken deferred .waiting)
     unfolding step-c
     c-holds = record {
-      times = omega (arith, k .holds .times, stamped-length late (λ j. t) 0 (d .waiting .times));
+      times = omega (arith, k .holds .times, stamped-length deferred (λ j. t) 0 (d .waiting .times));
       is =
           rw (
-            united (difference (d .waiting .tasks) new) late n small,
-            difference-member (d .waiting .tasks) new n small,
-            stamp late (λ j. t) (d .waiting .times) (k .holds .times),
+            united (difference (d .waiting .tasks) taken) deferred n small,
+            difference-member (d .waiting .tasks) taken n small,
+            stamp deferred (λ j. t) (d .waiting .times) (k .holds .times),
           )
-          (held-is (member n new) (member n late) (member n (d .waiting .tasks)) (getD (d .waiting .times) n 0) t (x .held) (k .holds .is));
+          (held-is (member n taken) (member n deferred) (member n (d .waiting .tasks)) (getD (d .waiting .times) n 0) t (x .held) (k .holds .is));
     }
 
-    c-taken : member n new ≡ true → ((s : Due) → RunsAt s (d .phase) → ⊥) → Knows (with-held n (fresh t x) held-c) (step-c d t new late)
+    c-taken : member n taken ≡ true → ((s : Due) → RunsAt s (d .phase) → ⊥) → Knows (with-held n (fresh t x) held-c) (step-c d t taken deferred)
     unfolding step-c
     c-taken m f = record {
       table = k .table;
-      at = k .at ∙ sym (c-situation d new (d .phase));
-      releases = omega (arith, k .releases, stamped-length new (stamps (d .waiting) t) 0 (d .jobs .release));
-      counts = omega (arith, k .counts, stamped-length new (λ j. 0) 0 (d .jobs .blocked));
+      at = k .at ∙ sym (c-situation d taken (d .phase));
+      releases = omega (arith, k .releases, stamped-length taken (stamps (d .waiting) t) 0 (d .jobs .release));
+      counts = omega (arith, k .counts, stamped-length taken (λ j. 0) 0 (d .jobs .blocked));
       holds = c-holds;
       awaits = λ w. record {
         release =
             ap Tick (original-is (member n (d .waiting .tasks)) (getD (d .waiting .times) n 0) t (x .held) (k .holds .is)
-            ∙ sym (stamp new (stamps (d .waiting) t) (d .jobs .release) (k .releases) ∙ ap (λ (b : Bool). cond b (stamps (d .waiting) t n) (getD (d .jobs .release) n 0)) m));
+            ∙ sym (stamp taken (stamps (d .waiting) t) (d .jobs .release) (k .releases) ∙ ap (λ (b : Bool). cond b (stamps (d .waiting) t n) (getD (d .jobs .release) n 0)) m));
         unexecuted = refl;
         count =
             omega (
               arith,
-              stamp new (λ j. 0) (d .jobs .blocked) (k .counts) ∙ ap (λ (b : Bool). cond b 0 (getD (d .jobs .blocked) n 0)) m,
-              ap low (c-place d new (d .phase)),
+              stamp taken (λ j. 0) (d .jobs .blocked) (k .counts) ∙ ap (λ (b : Bool). cond b 0 (getD (d .jobs .blocked) n 0)) m,
+              ap low (c-place d taken (d .phase)),
               first-low (d .phase),
               ap (λ (s : Situation). lower-in pr n (first-of s)) (k .at),
             );
         unstarted = refl;
       };
-      runs = λ s r. absurd (f s (c-runs d new s (d .phase) r));
+      runs = λ s r. absurd (f s (c-runs d taken s (d .phase) r));
     }
 
-    c-other : member n new ≡ false → Knows (with-held n x held-c) (step-c d t new late)
+    c-other : member n taken ≡ false → Knows (with-held n x held-c) (step-c d t taken deferred)
     unfolding step-c
     c-other m =
-        alike-knows d (step-c d t new late) x held-c
+        alike-knows d (step-c d t taken deferred) x held-c
         (record {
           like = record {
             table = refl;
-            count = stamp new (λ j. 0) (d .jobs .blocked) (k .counts) ∙ ap (λ (b : Bool). cond b 0 (getD (d .jobs .blocked) n 0)) m;
-            place = sym (c-place d new (d .phase));
+            count = stamp taken (λ j. 0) (d .jobs .blocked) (k .counts) ∙ ap (λ (b : Bool). cond b 0 (getD (d .jobs .blocked) n 0)) m;
+            place = sym (c-place d taken (d .phase));
             awaits = λ w.
-                ⊎-elim (λ y. inl (⊎-elim (λ z. z) (λ z. clash (member n new) z m) (union-out (d .jobs .ready) new n y)))
-                (λ y. inr (ap (is-task n) (sym (c-up-next d new (d .phase))) ∙ y)) w;
+                ⊎-elim (λ y. inl (⊎-elim (λ z. z) (λ z. clash (member n taken) z m) (union-out (d .jobs .ready) taken n y)))
+                (λ y. inr (ap (is-task n) (sym (c-up-next d taken (d .phase))) ∙ y)) w;
           };
-          release = stamp new (stamps (d .waiting) t) (d .jobs .release) (k .releases) ∙ ap (λ (b : Bool). cond b (stamps (d .waiting) t n) (getD (d .jobs .release) n 0)) m;
-          releases = stamped-length new (stamps (d .waiting) t) 0 (d .jobs .release);
-          counts = stamped-length new (λ j. 0) 0 (d .jobs .blocked);
-          at = c-situation d new (d .phase);
-          runs = λ s r. c-runs d new s (d .phase) r;
+          release = stamp taken (stamps (d .waiting) t) (d .jobs .release) (k .releases) ∙ ap (λ (b : Bool). cond b (stamps (d .waiting) t n) (getD (d .jobs .release) n 0)) m;
+          releases = stamped-length taken (stamps (d .waiting) t) 0 (d .jobs .release);
+          counts = stamped-length taken (λ j. 0) 0 (d .jobs .blocked);
+          at = c-situation d taken (d .phase);
+          runs = λ s r. c-runs d taken s (d .phase) r;
         })
         c-holds k
 
-  pub c-knows : (present : ℕ) (tasks : present < 2 ^ 32) (d : State) (t new late marks : ℕ) (x : Tally) → Parted present tasks d (d .phase)
-      → ((k : ℕ) → member k new ≡ true → member k (d .jobs .pending) ≡ false) → Knows x d
-      → Knows (tally n (tally n x (take-events 32 new marks t)) (defer-events 32 late t)) (step-c d t new late)
-  c-knows present tasks d t new late marks x h f k =
-      by-test (member n new)
+  pub c-knows : (present : ℕ) (tasks : present < 2 ^ 32) (d : State) (t taken deferred marks : ℕ) (x : Tally) → Parted present tasks d (d .phase)
+      → ((k : ℕ) → member k taken ≡ true → member k (d .jobs .pending) ≡ false) → Knows x d
+      → Knows (tally n (tally n x (take-events 32 taken marks t)) (defer-events 32 deferred t)) (step-c d t taken deferred)
+  c-knows present tasks d t taken deferred marks x h f k =
+      by-test (member n taken)
       (λ m.
-      subst (λ (y : Tally). Knows y (step-c d t new late))
-      (sym (ap (λ (y : Tally). tally n y (defer-events 32 late t)) (takes-this n 32 new marks t x small m ∙ is-fresh t (member n marks) x)
-      ∙ defers-tally n small late t (fresh t x) ∙ ap (λ (b : Bool). with-held n (fresh t x) (cond (member n late) (Tick t) (cond b Never (x .held)))) (sym m)))
-      (c-taken d t new late x k m
+      subst (λ (y : Tally). Knows y (step-c d t taken deferred))
+      (sym (ap (λ (y : Tally). tally n y (defer-events 32 deferred t)) (takes-this n 32 taken marks t x small m ∙ is-fresh t (member n marks) x)
+      ∙ defers-tally n small deferred t (fresh t x) ∙ ap (λ (b : Bool). with-held n (fresh t x) (cond (member n deferred) (Tick t) (cond b Never (x .held)))) (sym m)))
+      (c-taken d t taken deferred x k m
       (λ s r. let z : bit (member n (d .jobs .pending)) ≡ 0 = rw (f n m) in omega (arith, h .parts n small, staged s (d .phase) r))))
       (λ m.
-      subst (λ (y : Tally). Knows y (step-c d t new late))
-      (sym (ap (λ (y : Tally). tally n y (defer-events 32 late t))
-      (takes-others n 32 new marks t x (λ j l y. ne-eqb n j (λ e. clash (member n new) (ap (λ (i : ℕ). member i new) e ∙ y) m)))
-      ∙ defers-tally n small late t x ∙ ap (λ (b : Bool). with-held n x (cond (member n late) (Tick t) (cond b Never (x .held)))) (sym m)))
-      (c-other d t new late x k m))
+      subst (λ (y : Tally). Knows y (step-c d t taken deferred))
+      (sym (ap (λ (y : Tally). tally n y (defer-events 32 deferred t))
+      (takes-others n 32 taken marks t x (λ j l y. ne-eqb n j (λ e. clash (member n taken) (ap (λ (i : ℕ). member i taken) e ∙ y) m)))
+      ∙ defers-tally n small deferred t x ∙ ap (λ (b : Bool). with-held n x (cond (member n deferred) (Tick t) (cond b Never (x .held)))) (sym m)))
+      (c-other d t taken deferred x k m))
 
   -- ---- g
 
@@ -585,10 +585,10 @@ module _ (pr : List ℕ) (n : ℕ) (small : n < 32) where
   neither : (b c : Bool) → b ≡ false → c ≡ false → (b || c) ≡ false
   neither b c e f = rw (e, f)
 
-  begin-knows : (present : ℕ) (tasks : present < 2 ^ 32) (f : State) (t new : ℕ) (next : Next) (outgoing : Outgoing) (x : Tally) → f .phase ≡ Between next outgoing
-      → Parted present tasks f (Between next outgoing) → Knows x f → Knows (begun n t next x) (begin f t new next outgoing)
+  begin-knows : (present : ℕ) (tasks : present < 2 ^ 32) (f : State) (t taken : ℕ) (next : Next) (outgoing : Outgoing) (x : Tally) → f .phase ≡ Between next outgoing
+      → Parted present tasks f (Between next outgoing) → Knows x f → Knows (begun n t next x) (begin f t taken next outgoing)
   unfolding begin
-  begin-knows present tasks f t new next outgoing x e h k = record {
+  begin-knows present tasks f t taken next outgoing x e h k = record {
     table = k .table;
     at = ap Open (sym (runs (f .table) t next));
     releases = k .releases;
@@ -604,7 +604,7 @@ module _ (pr : List ℕ) (n : ℕ) (small : n < 32) where
       count-between : (c : ℕ) → getD (f .jobs .blocked) n 0 + low (place (f .phase)) ≡ c → getD (f .jobs .blocked) n 0 ≡ c
       count-between c z = omega (arith, z, ap (λ (p : Phase). low (place p)) e)
 
-      awaiting : member n (f .jobs .ready) ≡ true → Awaiting (begun n t next x) (begin f t new next outgoing)
+      awaiting : member n (f .jobs .ready) ≡ true → Awaiting (begun n t next x) (begin f t taken next outgoing)
       awaiting m =
           let a : Awaiting x f = k .awaits (inl m) in
           let c : is-task n (next-task next) ≡ false = next-staged next (omega (arith, h .parts n small, most-one (member n (f .jobs .pending)), ap bit m)) in
@@ -621,7 +621,7 @@ module _ (pr : List ℕ) (n : ℕ) (small : n < 32) where
             unstarted = next-none t next (x .started) c ∙ a .unstarted;
           }
 
-      ran : (s : Due) → InProcessor s (begin-processor (f .table) t next) → Ran (begun n t next x) s (begin f t new next outgoing)
+      ran : (s : Due) → InProcessor s (begin-processor (f .table) t next) → Ran (begun n t next x) s (begin f t taken next outgoing)
       ran s y =
           let z : (is-task n (next-task next) ≡ true) × (x .started ≡ Never → started-next n t next (x .started) ≡ s) = begin-runs (f .table) t next x s y in
           let a : Awaiting x f = k .awaits (inr (ap (λ (p : Phase). is-task n (up-next p)) e ∙ z .0)) in
@@ -632,7 +632,7 @@ module _ (pr : List ℕ) (n : ℕ) (small : n < 32) where
             started = z .1 (a .unstarted);
           }
 
-      copied : (s : Due) → InCopyOut s (begin-copyout (f .table) t outgoing) → Ran (begun n t next x) s (begin f t new next outgoing)
+      copied : (s : Due) → InCopyOut s (begin-copyout (f .table) t outgoing) → Ran (begun n t next x) s (begin f t taken next outgoing)
       copied s y =
           let z : InOutgoing s outgoing × ((a : ℕ) × (s ≡ Tick a)) = begin-copies (f .table) t outgoing s y in
           let a : Ran x s f = k .runs s (subst (RunsAt s) (sym e) (z .0)) in
@@ -643,13 +643,13 @@ module _ (pr : List ℕ) (n : ℕ) (small : n < 32) where
             started = ap (started-next n t next) (a .started ∙ z .1 .1) ∙ next-stays t next (z .1 .0) ∙ sym (z .1 .1);
           }
 
-  pub g-knows : (present : ℕ) (tasks : present < 2 ^ 32) (f : State) (t new : ℕ) (p : Phase) (x : Tally) → f .phase ≡ p → Parted present tasks f p → Knows x f
-      → Knows (tally n x (begin-events t p (step-g f t new p .phase) ++ start-events t p (step-g f t new p .phase))) (step-g f t new p)
-  g-knows present tasks f t new (Within i) x e h k = unfold step-g begin-events start-events tally in k
-  g-knows present tasks f t new (Between next outgoing) x e h k = unfold step-g in go (wanted next outgoing (f .jobs .ready))
+  pub g-knows : (present : ℕ) (tasks : present < 2 ^ 32) (f : State) (t taken : ℕ) (p : Phase) (x : Tally) → f .phase ≡ p → Parted present tasks f p → Knows x f
+      → Knows (tally n x (begin-events t p (step-g f t taken p .phase) ++ start-events t p (step-g f t taken p .phase))) (step-g f t taken p)
+  g-knows present tasks f t taken (Within i) x e h k = unfold step-g begin-events start-events tally in k
+  g-knows present tasks f t taken (Between next outgoing) x e h k = unfold step-g in go (wanted next outgoing (f .jobs .ready))
     where
       b : State
-      b = begin f t new next outgoing
+      b = begin f t taken next outgoing
 
       opens : Opened (begin-processor (f .table) t next) (step-e b t (b .phase) .phase)
       opens = unfold begin in e-opens b t (begin-processor (f .table) t next) refl
@@ -661,5 +661,5 @@ module _ (pr : List ℕ) (n : ℕ) (small : n < 32) where
           Knows (tally n x (begin-events t (Between next outgoing) (g .phase) ++ start-events t (Between next outgoing) (g .phase))) g
       go true =
           subst (λ (y : Tally). Knows y (step-e b t (b .phase))) (sym (opened-tally n (f .table) t next outgoing (step-e b t (b .phase) .phase) x opens))
-          (e-knows t b (begun n t next x) (begin-knows present tasks f t new next outgoing x e h k))
+          (e-knows t b (begun n t next x) (begin-knows present tasks f t taken next outgoing x e h k))
       go false = subst (λ (y : Tally). Knows y f) (sym (stays (f .phase) e)) k

@@ -27,14 +27,14 @@ situation-of (Within i) = Open (processor-task (i .processor))
 
 -- ---- the situation, step by step
 
-pub c-situation : (d : State) (new : ℕ) (p : Phase) → situation-of (with-candidates d new p) ≡ situation-of p
+pub c-situation : (d : State) (taken : ℕ) (p : Phase) → situation-of (with-candidates d taken p) ≡ situation-of p
 unfolding with-candidates
-c-situation d new (Between next outgoing) = refl
-c-situation d new (Within i) = refl
+c-situation d taken (Between next outgoing) = refl
+c-situation d taken (Within i) = refl
 
-pub d-situation : (d : State) (new : ℕ) → situation-of (step-d d new (d .phase) .phase) ≡ situation-of (d .phase)
+pub d-situation : (d : State) (taken : ℕ) → situation-of (step-d d taken (d .phase) .phase) ≡ situation-of (d .phase)
 unfolding cancel
-d-situation d new = d-cases (λ x. situation-of (x .phase) ≡ situation-of (d .phase)) d new refl (λ i n fate e s b. rw e)
+d-situation d taken = d-cases (λ x. situation-of (x .phase) ≡ situation-of (d .phase)) d taken refl (λ i n fate e s b. rw e)
 
 choose-situation : (d : State) (t : ℕ) (i : Interval) (q : MaybeTask) → situation-of (choose d t i q .phase) ≡ Open (processor-task (i .processor))
 unfolding choose
@@ -48,11 +48,11 @@ pub situation-e : (d : State) (t set : ℕ) → situation-of (at-e d t set .phas
 unfolding at-e step-c
 situation-e d t set =
     let b : State = at-b d t .state in
-    let new : ℕ = new-at d t set in
-    let late : ℕ = late-at d t set in
-    let c : State = step-c b t new late in
-    let x : State = step-d c new (c .phase) in
-    e-situation x t ∙ d-situation c new ∙ c-situation b new (b .phase)
+    let taken : ℕ = new-at d t set in
+    let deferred : ℕ = late-at d t set in
+    let c : State = step-c b t taken deferred in
+    let x : State = step-d c taken (c .phase) in
+    e-situation x t ∙ d-situation c taken ∙ c-situation b taken (b .phase)
 
 module _ (pr : List ℕ) where
   -- the claim on a release of task n, marked or not, where rs are the intervals that begin after it
@@ -160,16 +160,16 @@ module _ (pr : List ℕ) where
 
     module _ (small : n < 32) where
       -- a marked release
-      not-outranked : (d : State) (new c : ℕ) (q : MaybeTask) → member n new ≡ true → member n (d .marked) ≡ true
-          → Best (d .table .priority) (intersection new (d .marked)) q → outranks d c q ≡ false → getD (d .table .priority) c 0 ≤ getD (d .table .priority) n 0
-      not-outranked d new c NoTask h m b e = clash (member n (intersection new (d .marked))) (intersection-in new (d .marked) n small h m) (b n small)
-      not-outranked d new c (Task q) h m b e =
-          omega (arith, b .2 n small (intersection-in new (d .marked) n small h m), ltb-false (getD (d .table .priority) q 0) (getD (d .table .priority) c 0) e)
+      not-outranked : (d : State) (taken c : ℕ) (q : MaybeTask) → member n taken ≡ true → member n (d .marked) ≡ true
+          → Best (d .table .priority) (intersection taken (d .marked)) q → outranks d c q ≡ false → getD (d .table .priority) c 0 ≤ getD (d .table .priority) n 0
+      not-outranked d taken c NoTask h m b e = clash (member n (intersection taken (d .marked))) (intersection-in taken (d .marked) n small h m) (b n small)
+      not-outranked d taken c (Task q) h m b e =
+          omega (arith, b .2 n small (intersection-in taken (d .marked) n small h m), ltb-false (getD (d .table .priority) q 0) (getD (d .table .priority) c 0) e)
 
-      d-marked : (d : State) (new : ℕ) (i : Interval) (c : CopyIn) → i .copyin ≡ c → d .phase ≡ Within i → d .table .priority ≡ pr → NewIn d new i
-          → member n new ≡ true → member n (d .marked) ≡ true → Old pr n (cancel-by d new i c)
+      d-marked : (d : State) (taken : ℕ) (i : Interval) (c : CopyIn) → i .copyin ≡ c → d .phase ≡ Within i → d .table .priority ≡ pr → NewIn d taken i
+          → member n taken ≡ true → member n (d .marked) ≡ true → Old pr n (cancel-by d taken i c)
       unfolding cancel-by cancel
-      d-marked d new i c s e t f h m = go c s
+      d-marked d taken i c s e t f h m = go c s
         where
           r : member n (d .jobs .ready) ≡ true
           r = f .ready n small h
@@ -182,20 +182,20 @@ module _ (pr : List ℕ) where
 
           -- what the engine holds gives way, or it is not lower
           held : (c fate : ℕ) → (getD pr c 0 ≤ getD pr n 0 → Bound pr n (d .jobs .ready) (i .candidates) (i .copyin))
-              → Old pr n (cancel d i c fate (outranks d c (highest-of d (intersection new (d .marked)))))
+              → Old pr n (cancel d i c fate (outranks d c (highest-of d (intersection taken (d .marked)))))
           held c fate k =
-              by-test (outranks d c (highest-of d (intersection new (d .marked))))
+              by-test (outranks d c (highest-of d (intersection taken (d .marked))))
               (λ b. rw b (record { table = t; ready = λ y. insert-other c (d .jobs .ready) n small r; fate = rival (insert c (d .jobs .ready)) (insert-other c (d .jobs .ready) n small r) }))
-              (λ b. rw b (stays (k (rw t at (not-outranked d new c (highest-of d (intersection new (d .marked))) h m (best-of d (intersection new (d .marked))) b)))))
+              (λ b. rw b (stays (k (rw t at (not-outranked d taken c (highest-of d (intersection taken (d .marked))) h m (best-of d (intersection taken (d .marked))) b)))))
 
-          go : (c : CopyIn) → i .copyin ≡ c → Old pr n (cancel-by d new i c)
+          go : (c : CopyIn) → i .copyin ≡ c → Old pr n (cancel-by d taken i c)
           go Unchosen s = stays (rw s tt)
           go NoneChosen s = stays (rw s (rival (d .jobs .ready) r))
           go (Copying c until) s = held c 2 (λ l. rw s l)
           go (Loaded c) s = held c 3 (λ l. rw s l)
           go (Cancelled c fate) s = stays (rw s (rival (d .jobs .ready) r))
 
-      module _ (d : State) (t set : ℕ) (cs : List Call) (tab : d .table .priority ≡ pr) (taken : member n (new-at d t set) ≡ true) where
+      module _ (d : State) (t set : ℕ) (cs : List Call) (tab : d .table .priority ≡ pr) (n-taken : member n (new-at d t set) ≡ true) where
         c : State
         c = step-c (at-b d t .state) t (new-at d t set) (late-at d t set)
 
@@ -205,7 +205,7 @@ module _ (pr : List ℕ) where
 
         ready-c : member n (c .jobs .ready) ≡ true
         unfolding c step-c
-        ready-c = union-right (at-b d t .state .jobs .ready) (new-at d t set) n small taken
+        ready-c = union-right (at-b d t .state .jobs .ready) (new-at d t set) n small n-taken
 
         marked-c : member n (d .marked) ≡ true → member n (c .marked) ≡ true
         unfolding c step-c
@@ -248,11 +248,11 @@ module _ (pr : List ℕ) where
         old-c : member n (d .marked) ≡ true → (i : Interval) → c .phase ≡ Within i → Old pr n (at-e d t set)
         unfolding at-e c
         old-c m i e =
-            let new : ℕ = new-at d t set in
-            let late : ℕ = late-at d t set in
-            e-waiting pr n (Bound pr n) (NotLower pr n) (rule-old pr n small) small t (step-d c new (c .phase))
-            (subst (λ (p : Phase). Old pr n (step-d c new p)) (sym e)
-            (unfold step-d in d-marked c new i (i .copyin) refl e tab-c (subst (NewAt c new) e (c-new (at-b d t .state) t new late)) taken (marked-c m)))
+            let taken : ℕ = new-at d t set in
+            let deferred : ℕ = late-at d t set in
+            e-waiting pr n (Bound pr n) (NotLower pr n) (rule-old pr n small) small t (step-d c taken (c .phase))
+            (subst (λ (p : Phase). Old pr n (step-d c taken p)) (sym e)
+            (unfold step-d in d-marked c taken i (i .copyin) refl e tab-c (subst (NewAt c taken) e (c-new (at-b d t .state) t taken deferred)) n-taken (marked-c m)))
 
         amid : (i : Interval) → c .phase ≡ Within i → (m : Bool) → member n (d .marked) ≡ m
             → Then pr n (Second m) (intervals (tail-of d t set ++ history (at-g d t set) cs))
@@ -274,12 +274,12 @@ module _ (pr : List ℕ) where
     Ready d = member n (d .jobs .ready) ≡ true
 
     -- steps d to f leave a state in which none is open
-    pub open-no-more : (c : State) (t new : ℕ) (p : Phase) (next : Next) (outgoing : Outgoing) → c .phase ≡ p → p ≡ Between next outgoing
-        → let x : State = step-d c new p in let e : State = step-e x t (x .phase) in
+    pub open-no-more : (c : State) (t taken : ℕ) (p : Phase) (next : Next) (outgoing : Outgoing) → c .phase ≡ p → p ≡ Between next outgoing
+        → let x : State = step-d c taken p in let e : State = step-e x t (x .phase) in
         (step-b (fresh-stage e) t (e .phase) .state ≡ c) × (e .phase ≡ Between next outgoing)
     unfolding step-d step-e step-b
-    open-no-more c t new (Between next′ outgoing′) next outgoing e f = rw e (refl, f)
-    open-no-more c t new (Within i) next outgoing e f = absurd (let z : _≡_ {A = ℕ} 0 1 = cc in omega arith)
+    open-no-more c t taken (Between next′ outgoing′) next outgoing e f = rw e (refl, f)
+    open-no-more c t taken (Within i) next outgoing e f = absurd (let z : _≡_ {A = ℕ} 0 1 = cc in omega arith)
 
     wanted-ready : (next : Next) (outgoing : Outgoing) (ready : ℕ) → member n ready ≡ true → wanted next outgoing ready ≡ true
     wanted-ready (LoadedNext k) outgoing ready h = refl
@@ -292,11 +292,11 @@ module _ (pr : List ℕ) where
     begins-tick t next outgoing q (Between x y) ys o = absurd o
     begins-tick t next outgoing q (Within j) ys o = refl
 
-    begins-so : (f : State) (t new : ℕ) (next : Next) (outgoing : Outgoing) (ys : List Event) → Ready f
-        → begin-tick (begin-events t (Between next outgoing) (step-g f t new (Between next outgoing) .phase) ++ ys) ≡ Tick t
+    begins-so : (f : State) (t taken : ℕ) (next : Next) (outgoing : Outgoing) (ys : List Event) → Ready f
+        → begin-tick (begin-events t (Between next outgoing) (step-g f t taken (Between next outgoing) .phase) ++ ys) ≡ Tick t
     unfolding step-g begin
-    begins-so f t new next outgoing ys r =
-        let b : State = begin f t new next outgoing in
+    begins-so f t taken next outgoing ys r =
+        let b : State = begin f t taken next outgoing in
         rw (wanted-ready next outgoing (f .jobs .ready) r)
         (begins-tick t next outgoing (begin-processor (f .table) t next) (step-e b t (b .phase) .phase) ys (e-opens b t (begin-processor (f .table) t next) refl))
 
@@ -314,14 +314,14 @@ module _ (pr : List ℕ) where
         b : State
         b = at-b d t .state
 
-        new : ℕ
-        new = new-at d t set
+        taken : ℕ
+        taken = new-at d t set
 
-        late : ℕ
-        late = late-at d t set
+        deferred : ℕ
+        deferred = late-at d t set
 
         c : State
-        c = step-c b t new late
+        c = step-c b t taken deferred
 
         f : State
         f = at-f d t set .state
@@ -330,22 +330,22 @@ module _ (pr : List ℕ) where
         rest = start-events t (f .phase) (at-g d t set .phase) ++ h
 
         shut-c : c .phase ≡ Between next outgoing
-        shut-c = unfold step-c with-candidates in ap (with-candidates b new) e
+        shut-c = unfold step-c with-candidates in ap (with-candidates b taken) e
 
         left-so : (f ≡ c) × (at-e d t set .phase ≡ Between next outgoing)
-        left-so = unfold at-f at-e in open-no-more c t new (c .phase) next outgoing refl shut-c
+        left-so = unfold at-f at-e in open-no-more c t taken (c .phase) next outgoing refl shut-c
 
         shut-f : f .phase ≡ Between next outgoing
         shut-f = ap (λ (x : State). x .phase) (left-so .0) ∙ shut-c
 
         ready-f : Ready f
-        ready-f = ap (λ (x : State). member n (x .jobs .ready)) (left-so .0) ∙ (unfold step-c in union-right (b .jobs .ready) new n small m)
+        ready-f = ap (λ (x : State). member n (x .jobs .ready)) (left-so .0) ∙ (unfold step-c in union-right (b .jobs .ready) taken n small m)
 
         after-defers : List Event
         after-defers = giving-events-in (b .phase) (at-e d t set .phase) ++ (end-events t (at-e d t set .phase) (f .phase) ++ (begin-events t (f .phase) (at-g d t set .phase) ++ rest))
 
-        none-defers : begin-tick (defer-events 32 late t ++ after-defers) ≡ begin-tick after-defers
-        none-defers = by-defers (λ zs. begin-tick zs ≡ begin-tick after-defers) 32 late t (λ n l m es k. unfold first in k) after-defers refl
+        none-defers : begin-tick (defer-events 32 deferred t ++ after-defers) ≡ begin-tick after-defers
+        none-defers = by-defers (λ zs. begin-tick zs ≡ begin-tick after-defers) 32 deferred t (λ n l m es k. unfold first in k) after-defers refl
 
         none-gives : giving-events-in (b .phase) (at-e d t set .phase) ≡ []
         none-gives = unfold giving-events-in in ap (λ (p : Phase). giving-events-in p (at-e d t set .phase)) e
@@ -385,25 +385,25 @@ module _ (pr : List ℕ) where
   unfolding begin-events Kept
   kept-shut t next outgoing q ys e k = rw e (rw e at k)
 
-  kept-begins : (f : State) (t new : ℕ) (p : Phase) (ys : List Event) → f .phase ≡ p → Kept (situation-of (step-g f t new p .phase)) ys
-      → Kept (situation-of p) (begin-events t p (step-g f t new p .phase) ++ ys)
+  kept-begins : (f : State) (t taken : ℕ) (p : Phase) (ys : List Event) → f .phase ≡ p → Kept (situation-of (step-g f t taken p .phase)) ys
+      → Kept (situation-of p) (begin-events t p (step-g f t taken p .phase) ++ ys)
   unfolding step-g begin-events
-  kept-begins f t new (Within i) ys e k = subst (λ (x : Phase). Kept (situation-of x) ys) e k
-  kept-begins f t new (Between next outgoing) ys e k = go (wanted next outgoing (f .jobs .ready)) k
+  kept-begins f t taken (Within i) ys e k = subst (λ (x : Phase). Kept (situation-of x) ys) e k
+  kept-begins f t taken (Between next outgoing) ys e k = go (wanted next outgoing (f .jobs .ready)) k
     where
       b : State
-      b = begin f t new next outgoing
+      b = begin f t taken next outgoing
 
       go : (w : Bool) → Kept (situation-of (cond w (step-e b t (b .phase)) f .phase)) ys → Kept NoneOpen (begin-events t (Between next outgoing) (cond w (step-e b t (b .phase)) f .phase) ++ ys)
       go true k = kept-opens t next outgoing (step-e b t (b .phase) .phase) ys k
       go false k = kept-shut t next outgoing (f .phase) ys e k
 
-  kept-takes : (new marked t : ℕ) (s : Situation) (ys : List Event)
-      → ((n : ℕ) → n < 32 → member n new ≡ true → Waits n (member n marked) s (intervals ys) × AtOnce t s (begin-tick ys))
-      → Kept s ys → Kept s (take-events 32 new marked t ++ ys)
+  kept-takes : (taken marked t : ℕ) (s : Situation) (ys : List Event)
+      → ((n : ℕ) → n < 32 → member n taken ≡ true → Waits n (member n marked) s (intervals ys) × AtOnce t s (begin-tick ys))
+      → Kept s ys → Kept s (take-events 32 taken marked t ++ ys)
   unfolding Kept each first
-  kept-takes new marked t s ys w h =
-      by-takes (λ zs. Kept s zs × (intervals zs ≡ intervals ys) × (begin-tick zs ≡ begin-tick ys)) 32 new marked t
+  kept-takes taken marked t s ys w h =
+      by-takes (λ zs. Kept s zs × (intervals zs ≡ intervals ys) × (begin-tick zs ≡ begin-tick ys)) 32 taken marked t
       (λ n l m es k.
       let x : Waits n (member n marked) s (intervals ys) × AtOnce t s (begin-tick ys) = w n l m in
       (((subst (Waits n (member n marked) s) (sym (k .1)) (x .0), subst (AtOnce t s) (sym (k .2)) (x .1)), k .0), k .1, k .2)) ys (h, refl, refl) .0

@@ -97,26 +97,26 @@ module _ (n : ℕ) where
     one-this k t m false true ys e = refl
     one-this k t m false false ys e = refl
 
-    takes-others : (k new marked t : ℕ) (b : Bool) (ys : List Event) → k ≤ n → pending-in n b (take-events k new marked t ++ ys) ≡ pending-in n b ys
+    takes-others : (k taken marked t : ℕ) (b : Bool) (ys : List Event) → k ≤ n → pending-in n b (take-events k taken marked t ++ ys) ≡ pending-in n b ys
     unfolding pending-in
-    takes-others k new marked t b ys l = by-takes (As b ys) k new marked t (λ j m x es e. rw (ne-eqb n j (omega arith)) e) ys refl
+    takes-others k taken marked t b ys l = by-takes (As b ys) k taken marked t (λ j m x es e. rw (ne-eqb n j (omega arith)) e) ys refl
 
-    takes-this : (k new marked t : ℕ) (b : Bool) (ys : List Event) → n < k → pending-in n b (take-events k new marked t ++ ys) ≡ pending-in n (b || member n new) ys
+    takes-this : (k taken marked t : ℕ) (b : Bool) (ys : List Event) → n < k → pending-in n b (take-events k taken marked t ++ ys) ≡ pending-in n (b || member n taken) ys
     unfolding take-events
-    takes-this zero new marked t b ys l = absurd (not-suc-le-zero l)
-    takes-this (suc k) new marked t b ys l =
-        ap (pending-in n b) (append-assoc (take-events k new marked t) (cond (member k new) (Takes k t (member k marked) ∷ []) []) ys)
+    takes-this zero taken marked t b ys l = absurd (not-suc-le-zero l)
+    takes-this (suc k) taken marked t b ys l =
+        ap (pending-in n b) (append-assoc (take-events k taken marked t) (cond (member k taken) (Takes k t (member k marked) ∷ []) []) ys)
         ∙ by-test (eqb n k)
-        (λ e. takes-others k new marked t b (cond (member k new) (Takes k t (member k marked) ∷ []) [] ++ ys) (omega (arith, eqb-true n k e))
-        ∙ one-this k t (member k marked) (member k new) b ys e ∙ ap (λ (j : ℕ). pending-in n (b || member j new) ys) (sym (eqb-true n k e)))
-        (λ e. takes-this k new marked t b (cond (member k new) (Takes k t (member k marked) ∷ []) [] ++ ys) (omega (arith, eqb-false n k e))
-        ∙ one-other k t (member k marked) (member k new) (b || member n new) ys e)
+        (λ e. takes-others k taken marked t b (cond (member k taken) (Takes k t (member k marked) ∷ []) [] ++ ys) (omega (arith, eqb-true n k e))
+        ∙ one-this k t (member k marked) (member k taken) b ys e ∙ ap (λ (j : ℕ). pending-in n (b || member j taken) ys) (sym (eqb-true n k e)))
+        (λ e. takes-this k taken marked t b (cond (member k taken) (Takes k t (member k marked) ∷ []) [] ++ ys) (omega (arith, eqb-false n k e))
+        ∙ one-other k t (member k marked) (member k taken) (b || member n taken) ys e)
 
     happens-pending : (d : State) (t set : ℕ) (ys : List Event)
         → pending-in n (member n (d .jobs .pending)) (happens d t set ++ ys) ≡ pending-in n (member n (union (after-done (d .jobs .pending) (at-a d t .done)) (new-at d t set))) ys
     happens-pending d t set ys =
-        let new : ℕ = new-at d t set in
-        let rest : List Event = take-events 32 new (d .marked) t ++ (tail-of d t set ++ ys) in
+        let taken : ℕ = new-at d t set in
+        let rest : List Event = take-events 32 taken (d .marked) t ++ (tail-of d t set ++ ys) in
         let e : List Event = end-events t (at-a d t .state .phase) (at-b d t .state .phase) in
         let c : List Event = completion-events (at-a d t .done) in
         let p : ℕ = d .jobs .pending in
@@ -127,9 +127,9 @@ module _ (n : ℕ) where
         ∙ skips-finishes (member n p) (c ++ (e ++ rest))
         ∙ completes-pending p (at-a d t .done) (e ++ rest)
         ∙ skips-ends (member n s) rest
-        ∙ takes-this 32 new (d .marked) t (member n s) (tail-of d t set ++ ys) small
-        ∙ tail-pending d t set (member n s || member n new) ys
-        ∙ ap (λ (b : Bool). pending-in n b ys) (sym (united s new n small))
+        ∙ takes-this 32 taken (d .marked) t (member n s) (tail-of d t set ++ ys) small
+        ∙ tail-pending d t set (member n s || member n taken) ys
+        ∙ ap (λ (b : Bool). pending-in n b ys) (sym (united s taken n small))
       where
         comes : (t : ℕ) (zs : List Event) → pending-in n (member n (d .jobs .pending)) (Comes t ∷ zs) ≡ pending-in n (member n (d .jobs .pending)) zs
         comes t zs = unfold pending-in in refl

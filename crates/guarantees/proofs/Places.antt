@@ -6,6 +6,7 @@ use borrow.Author.Tests.{eqb-true, not-true}
 use lib.Dec.{eqb}
 use Rattle.sets.specs.Sets.{member, intersection, difference, remove, bit, size}
 use Rattle.sets.proofs.Laws.{left, united, inserted, removed, same-task, member-task, size-union-apart, remove-out, union-out, insert-out, by-test, right, intersection-right, difference-left, size-remove, union-small, remove-small}
+use Rattle.guarantees.proofs.Frames.{at-c, at-d}
 use Rattle.guarantees.proofs.Highest.{Best}
 use Rattle.guarantees.specs.Queries.{total, is-completion}
 use Rattle.rules.specs.Instant.{step-a, step-b, step-c, step-d, step-e, step-g, promoted, next-of, without-promoted, close, close-stage, over, with-candidates, cancel, choose, begin, begin-processor, begin-copyout, copying-out, wanted, taken, deferred, completed, without-done, ended, copyin-at, copyout-at, processor-at, awaiting-copyout, resting, after-done, settled, at-a, at-b, at-e, at-f, at-g, new-at, late-at, fresh-stage}
@@ -245,16 +246,16 @@ module _ (present : ℕ) (tasks : present < 2 ^ 32) where
           }
 
   -- c
-  c-stage : (d : State) (new k : ℕ) (p : Phase) → stage k (with-candidates d new p) ≡ stage k p
+  c-stage : (d : State) (taken k : ℕ) (p : Phase) → stage k (with-candidates d taken p) ≡ stage k p
   unfolding with-candidates
-  c-stage d new k (Between next outgoing) = refl
-  c-stage d new k (Within i) = refl
+  c-stage d taken k (Between next outgoing) = refl
+  c-stage d taken k (Within i) = refl
 
-  c-known : (d : State) (new : ℕ) (p : Phase) → Sub (d .marked) present → phase-known present p → phase-known present (with-candidates d new p)
+  c-known : (d : State) (taken : ℕ) (p : Phase) → Sub (d .marked) present → phase-known present p → phase-known present (with-candidates d taken p)
   unfolding with-candidates
-  c-known d new (Between next outgoing) m h = h
-  c-known d new (Within i) m h =
-      (h .0, h .1, h .2, λ k l x. ⊎-elim (λ y. h .3 k l y) (λ y. m k l (intersection-right new (d .marked) k y)) (union-out (i .candidates) (intersection new (d .marked)) k x))
+  c-known d taken (Between next outgoing) m h = h
+  c-known d taken (Within i) m h =
+      (h .0, h .1, h .2, λ k l x. ⊎-elim (λ y. h .3 k l y) (λ y. m k l (intersection-right taken (d .marked) k y)) (union-out (i .candidates) (intersection taken (d .marked)) k x))
 
   release-bit : (p r n : Bool) (s : ℕ) → bit p ≡ bit r + s → (n ≡ true → p ≡ false) → bit (p || n) ≡ bit (r || n) + s
   release-bit true r true s h f = absurd (true≢false (f refl))
@@ -263,22 +264,22 @@ module _ (present : ℕ) (tasks : present < 2 ^ 32) where
   release-bit false true n s h f = absurd (omega arith)
   release-bit false false n s h f = omega arith
 
-  c-moves : (d : State) (t new late : ℕ) → Parted d (d .phase) → Sub new present → Sub late present → ((k : ℕ) → member k new ≡ true → member k (d .jobs .pending) ≡ false)
-      → Moves d (d .phase) (step-c d t new late) (step-c d t new late .phase) 0 (size new)
+  c-moves : (d : State) (t taken deferred : ℕ) → Parted d (d .phase) → Sub taken present → Sub deferred present → ((k : ℕ) → member k taken ≡ true → member k (d .jobs .pending) ≡ false)
+      → Moves d (d .phase) (step-c d t taken deferred) (step-c d t taken deferred .phase) 0 (size taken)
   unfolding step-c
-  c-moves d t new late h n u f = record {
+  c-moves d t taken deferred h n u f = record {
     parted = record {
-      few = union-small (d .jobs .pending) new;
+      few = union-small (d .jobs .pending) taken;
       marks = h .marks;
-      pending = λ k l m. ⊎-elim (λ x. h .pending k l x) (λ x. n k l x) (union-out (d .jobs .pending) new k m);
-      ready = λ k l m. ⊎-elim (λ x. h .ready k l x) (λ x. n k l x) (union-out (d .jobs .ready) new k m);
-      waits = λ k l m. ⊎-elim (λ x. h .waits k l (difference-left (d .waiting .tasks) new k x)) (λ x. u k l x) (union-out (difference (d .waiting .tasks) new) late k m);
-      known = c-known d new (d .phase) (h .marks) (h .known);
+      pending = λ k l m. ⊎-elim (λ x. h .pending k l x) (λ x. n k l x) (union-out (d .jobs .pending) taken k m);
+      ready = λ k l m. ⊎-elim (λ x. h .ready k l x) (λ x. n k l x) (union-out (d .jobs .ready) taken k m);
+      waits = λ k l m. ⊎-elim (λ x. h .waits k l (difference-left (d .waiting .tasks) taken k x)) (λ x. u k l x) (union-out (difference (d .waiting .tasks) taken) deferred k m);
+      known = c-known d taken (d .phase) (h .marks) (h .known);
       parts = λ k l.
-          rw (united (d .jobs .pending) new k l, united (d .jobs .ready) new k l, c-stage d new k (d .phase))
-          (release-bit (member k (d .jobs .pending)) (member k (d .jobs .ready)) (member k new) (stage k (d .phase)) (h .parts k l) (f k));
+          rw (united (d .jobs .pending) taken k l, united (d .jobs .ready) taken k l, c-stage d taken k (d .phase))
+          (release-bit (member k (d .jobs .pending)) (member k (d .jobs .ready)) (member k taken) (stage k (d .phase)) (h .parts k l) (f k));
     };
-    sizes = omega (arith, size-union-apart (d .jobs .pending) new f);
+    sizes = omega (arith, size-union-apart (d .jobs .pending) taken f);
   }
 
   -- with the sets that step c is handed
@@ -327,9 +328,9 @@ module _ (present : ℕ) (tasks : present < 2 ^ 32) where
         sizes = refl;
       }
 
-  pub d-moves : (d : State) (new : ℕ) → Parted d (d .phase) → Moves d (d .phase) (step-d d new (d .phase)) (step-d d new (d .phase) .phase) 0 0
-  d-moves d new h =
-      d-cases (λ x. Moves d (d .phase) x (x .phase) 0 0) d new (record { parted = h; sizes = refl })
+  pub d-moves : (d : State) (taken : ℕ) → Parted d (d .phase) → Moves d (d .phase) (step-d d taken (d .phase)) (step-d d taken (d .phase) .phase) 0 0
+  d-moves d taken h =
+      d-cases (λ x. Moves d (d .phase) x (x .phase) 0 0) d taken (record { parted = h; sizes = refl })
       (λ i c fate e s b. subst (λ (p : Phase). Moves d p (cancel d i c fate true) (cancel d i c fate true .phase) 0 0) (sym e) (d-cancel d i c fate s (subst (Parted d) e h)))
 
   -- e
@@ -389,13 +390,13 @@ module _ (present : ℕ) (tasks : present < 2 ^ 32) where
   g-copyout-known table t NoneOutgoing h = h
   g-copyout-known table t (AwaitsCopyOut n start) h = h
 
-  pub g-moves : (f : State) (t new : ℕ) (p : Phase) → f .phase ≡ p → Parted f p → Moves f p (step-g f t new p) (step-g f t new p .phase) 0 0
+  pub g-moves : (f : State) (t taken : ℕ) (p : Phase) → f .phase ≡ p → Parted f p → Moves f p (step-g f t taken p) (step-g f t taken p .phase) 0 0
   unfolding step-g begin
-  g-moves f t new (Within i) e h = back f (Within i) e h
-  g-moves f t new (Between next outgoing) e h = go (wanted next outgoing (f .jobs .ready))
+  g-moves f t taken (Within i) e h = back f (Within i) e h
+  g-moves f t taken (Between next outgoing) e h = go (wanted next outgoing (f .jobs .ready))
     where
       b : State
-      b = begin f t new next outgoing
+      b = begin f t taken next outgoing
 
       b-parted : Parted b (b .phase)
       b-parted =
@@ -406,7 +407,7 @@ module _ (present : ℕ) (tasks : present < 2 ^ 32) where
             ready = h .ready;
             waits = h .waits;
             known =
-                (tt, g-processor-known (f .table) t next (h .known .0), g-copyout-known (f .table) t outgoing (h .known .1), λ k l m. h .marks k l (intersection-right new (f .marked) k m));
+                (tt, g-processor-known (f .table) t next (h .known .0), g-copyout-known (f .table) t outgoing (h .known .1), λ k l m. h .marks k l (intersection-right taken (f .marked) k m));
             parts = λ k l. omega (arith, h .parts k l, g-processor k (f .table) t next, g-copyout k (f .table) t outgoing);
           }
 
@@ -431,13 +432,11 @@ module _ (present : ℕ) (tasks : present < 2 ^ 32) where
   unfolding at-e new-at late-at
   to-e d t set f h =
       let b : State = at-b d t .state in
-      let new : ℕ = new-at d t set in
-      let late : ℕ = late-at d t set in
-      let c : State = step-c b t new late in
-      let x : State = step-d c new (c .phase) in
-      let e : State = step-e x t (x .phase) in
-      let l1 : Moves b (b .phase) c (c .phase) 0 (size new) = c-takes b t set f h in
-      let l2 : Moves c (c .phase) x (x .phase) 0 0 = d-moves c new (l1 .parted) in
+      let c : State = at-c d t set in
+      let x : State = at-d d t set in
+      let e : State = at-e d t set in
+      let l1 : Moves b (b .phase) c (c .phase) 0 (size (new-at d t set)) = c-takes b t set f h in
+      let l2 : Moves c (c .phase) x (x .phase) 0 0 = d-moves c (new-at d t set) (l1 .parted) in
       let l3 : Moves x (x .phase) e (e .phase) 0 0 = e-moves x t (l2 .parted) in
       record { parted = l3 .parted; sizes = omega (arith, l1 .sizes, l2 .sizes, l3 .sizes) }
 

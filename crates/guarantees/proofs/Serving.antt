@@ -146,15 +146,15 @@ module _ (n : ℕ) where
       go (Finished m start) h = h
 
   -- c
-  c-started : (s : Bool) (d : State) (new : ℕ) (p : Phase) → phase-started s p → phase-started s (with-candidates d new p)
+  c-started : (s : Bool) (d : State) (taken : ℕ) (p : Phase) → phase-started s p → phase-started s (with-candidates d taken p)
   unfolding with-candidates
-  c-started s d new (Between next outgoing) h = h
-  c-started s d new (Within i) h = h
+  c-started s d taken (Between next outgoing) h = h
+  c-started s d taken (Within i) h = h
 
   -- d
-  d-started : (s : Bool) (d : State) (new : ℕ) → phase-started s (d .phase) → phase-started s (step-d d new (d .phase) .phase)
+  d-started : (s : Bool) (d : State) (taken : ℕ) → phase-started s (d .phase) → phase-started s (step-d d taken (d .phase) .phase)
   unfolding cancel
-  d-started s d new h = d-cases (λ x. phase-started s (x .phase)) d new h (λ i m fate e c b. subst (phase-started s) e h)
+  d-started s d taken h = d-cases (λ x. phase-started s (x .phase)) d taken h (λ i m fate e c b. subst (phase-started s) e h)
 
   -- e
   choose-started : (s : Bool) (d : State) (t : ℕ) (i : Interval) (q : MaybeTask) → phase-started s (Within i) → phase-started s (choose d t i q .phase)
@@ -201,14 +201,14 @@ module _ (n : ℕ) where
       (g-processor table t next s es
       (λ z f x. k z (subst (processor-started z) (sym (u .0)) x, subst (copyout-started z) (sym (u .1)) (g-copyout table t s z f outgoing h))))
 
-  g-serving : (d : State) (t new : ℕ) (s : Bool) (es : List Event) → phase-started s (d .phase)
-      → ((z : Bool) → phase-started z (step-g d t new (d .phase) .phase) → Serving z es) → Serving s (start-events t (d .phase) (step-g d t new (d .phase) .phase) ++ es)
-  g-serving d t new s es h =
-      g-cases (λ x. ((z : Bool) → phase-started z (x .phase) → Serving z es) → Serving s (start-events t (d .phase) (x .phase) ++ es)) d t new
+  g-serving : (d : State) (t taken : ℕ) (s : Bool) (es : List Event) → phase-started s (d .phase)
+      → ((z : Bool) → phase-started z (step-g d t taken (d .phase) .phase) → Serving z es) → Serving s (start-events t (d .phase) (step-g d t taken (d .phase) .phase) ++ es)
+  g-serving d t taken s es h =
+      g-cases (λ x. ((z : Bool) → phase-started z (x .phase) → Serving z es) → Serving s (start-events t (d .phase) (x .phase) ++ es)) d t taken
       (λ i e k. subst (λ (p : Phase). Serving s (start-events t p (d .phase) ++ es)) (sym e) (unfold start-events in k s h))
       (λ next outgoing e w k. subst (λ (p : Phase). Serving s (start-events t p p ++ es)) (sym e) (unfold start-events in k s h))
       (λ next outgoing e w k.
-      let b : State = begin d t new next outgoing in
+      let b : State = begin d t taken next outgoing in
       subst (λ (p : Phase). Serving s (start-events t p (step-e b t (b .phase) .phase) ++ es)) (sym e)
       (g-begins (d .table) t next outgoing (step-e b t (b .phase) .phase) s es
       (e-units (begin-processor (d .table) t next) (begin-copyout (d .table) t outgoing) b t (unfold begin in (refl, refl))) (subst (phase-started s) e h) k))
@@ -236,28 +236,28 @@ module _ (n : ℕ) where
       go-out (CopiedOut m) h = tt
 
   module _ (small : n < 32) where
-    takes-serving : (new marked t : ℕ) (s : Bool) (es : List Event) → Serving (cond (member n new) false s) es → Serving s (take-events 32 new marked t ++ es)
+    takes-serving : (taken marked t : ℕ) (s : Bool) (es : List Event) → Serving (cond (member n taken) false s) es → Serving s (take-events 32 taken marked t ++ es)
     unfolding take-events Serving
-    takes-serving new marked t s es h =
-        at-task n new (λ k. Takes k t (member k marked)) (λ k. take-events k new marked t) refl (λ k. refl) Serving
+    takes-serving taken marked t s es h =
+        at-task n taken (λ k. Takes k t (member k marked)) (λ k. take-events k taken marked t) refl (λ k. refl) Serving
         (λ x k e. quiet x (Takes k t (member k marked)) refl (rw e)) s false
         (λ m es z. (λ y. absurd (false≢true y), rw (same-task n) z)) 32 small es h
 
     -- a task whose release is taken is in no place
-    taken-started : (new : ℕ) (p : Phase) (s : Bool) → (member n new ≡ true → stage n p ≡ 0) → phase-started s p → phase-started (cond (member n new) false s) p
-    taken-started new p s f h = by-test (member n new) (λ e. rw e (nowhere p (f e) false)) (λ e. rw e h)
+    taken-started : (taken : ℕ) (p : Phase) (s : Bool) → (member n taken ≡ true → stage n p ≡ 0) → phase-started s p → phase-started (cond (member n taken) false s) p
+    taken-started taken p s f h = by-test (member n taken) (λ e. rw e (nowhere p (f e) false)) (λ e. rw e h)
 
     tail-serving : (d : State) (t set : ℕ) (s : Bool) (es : List Event) → phase-started s (at-b d t .state .phase)
         → ((z : Bool) → phase-started z (at-g d t set .phase) → Serving z es) → Serving s (tail-of d t set ++ es)
     unfolding at-g at-f at-e step-c
     tail-serving d t set s es h k =
-        let new : ℕ = new-at d t set in
-        let c : State = step-c (at-b d t .state) t new (late-at d t set) in
-        let x : State = step-d c new (c .phase) in
+        let taken : ℕ = new-at d t set in
+        let c : State = step-c (at-b d t .state) t taken (late-at d t set) in
+        let x : State = step-d c taken (c .phase) in
         let begun : List Event = begin-events t (at-f d t set .state .phase) (at-g d t set .phase) in
         let started : List Event = start-events t (at-f d t set .state .phase) (at-g d t set .phase) in
         let closed : List Event = end-events t (at-e d t set .phase) (at-f d t set .state .phase) in
-        let e : phase-started s (at-e d t set .phase) = e-started s x t (d-started s c new (c-started s (at-b d t .state) new (at-b d t .state .phase) h)) in
+        let e : phase-started s (at-e d t set .phase) = e-started s x t (d-started s c taken (c-started s (at-b d t .state) taken (at-b d t .state .phase) h)) in
         rw (tail-parts d t set es)
         (by-defers (Serving s) 32 (late-at d t set) t (λ j l m. quiet s (Defers j t) refl refl) _
         (by-gives (Serving s) (λ j. quiet s (GivesWay j) refl refl) (at-b d t .state .phase) (at-e d t set .phase) (closed ++ (begun ++ (started ++ es)))
@@ -269,14 +269,14 @@ module _ (n : ℕ) where
         → phase-started s (d .phase) → ((z : Bool) → phase-started z (at-g d t set .phase) → Serving z es) → Serving s (happens d t set ++ es)
     unfolding at-b at-a
     instant-serving d t set s es f h k =
-        let new : ℕ = new-at d t set in
-        let rest : List Event = take-events 32 new (d .marked) t ++ (tail-of d t set ++ es) in
+        let taken : ℕ = new-at d t set in
+        let rest : List Event = take-events 32 taken (d .marked) t ++ (tail-of d t set ++ es) in
         rw (happens-parts d t set es, front-parts d t rest)
         (quiet s (Comes t) refl refl _
         (a-serving (at-clock d t) t (d .phase) refl s (end-events t (at-a d t .state .phase) (at-b d t .state .phase) ++ rest) h
         (λ z p. by-ends (Serving z) t (quiet z (Ends t) refl refl) (at-a d t .state .phase) (at-b d t .state .phase) rest
-        (takes-serving new (d .marked) t z (tail-of d t set ++ es)
-        (tail-serving d t set (cond (member n new) false z) es (taken-started new (at-b d t .state .phase) z f (b-started z (at-a d t) t p)) k)))))
+        (takes-serving taken (d .marked) t z (tail-of d t set ++ es)
+        (tail-serving d t set (cond (member n taken) false z) es (taken-started taken (at-b d t .state .phase) z f (b-started z (at-a d t) t p)) k)))))
 
 -- ---- along the calls
 

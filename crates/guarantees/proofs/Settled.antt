@@ -81,25 +81,25 @@ unfolding choose
 chosen-open d t i NoTask x y f h b = absurd (eqb-false (d .jobs .ready) 0 h (empty (d .jobs .ready) f b))
 chosen-open d t i (Task q) x y f h b = rw (x, y)
 
-begun-opened : (f : State) (t new : ℕ) (next : Next) (outgoing : Outgoing) →
-    let b : State = begin f t new next outgoing in Opened (begin-processor (f .table) t next) (step-e b t (b .phase) .phase)
+begun-opened : (f : State) (t taken : ℕ) (next : Next) (outgoing : Outgoing) →
+    let b : State = begin f t taken next outgoing in Opened (begin-processor (f .table) t next) (step-e b t (b .phase) .phase)
 unfolding begin
-begun-opened f t new next outgoing = e-opens (begin f t new next outgoing) t (begin-processor (f .table) t next) refl
+begun-opened f t taken next outgoing = e-opens (begin f t taken next outgoing) t (begin-processor (f .table) t next) refl
 
-begun-open : (f : State) (t new : ℕ) (next : Next) (outgoing : Outgoing) → f .jobs .ready < 2 ^ 32 → wanted next outgoing (f .jobs .ready) ≡ true
-    → let b : State = begin f t new next outgoing in OpenAt (step-e b t (b .phase) .phase)
-begun-open f t new (LoadedNext n) outgoing h w =
-    let b : State = begin f t new (LoadedNext n) outgoing in
-    busy (begin-processor (f .table) t (LoadedNext n)) (step-e b t (b .phase) .phase) (begun-opened f t new (LoadedNext n) outgoing) refl
-begun-open f t new (PromotedNext n) outgoing h w =
-    let b : State = begin f t new (PromotedNext n) outgoing in
-    busy (begin-processor (f .table) t (PromotedNext n)) (step-e b t (b .phase) .phase) (begun-opened f t new (PromotedNext n) outgoing) refl
-begun-open f t new NoneNext (AwaitsCopyOut m s) h w = unfold begin step-e choose-if in refl
-begun-open f t new NoneNext NoneOutgoing h w =
+begun-open : (f : State) (t taken : ℕ) (next : Next) (outgoing : Outgoing) → f .jobs .ready < 2 ^ 32 → wanted next outgoing (f .jobs .ready) ≡ true
+    → let b : State = begin f t taken next outgoing in OpenAt (step-e b t (b .phase) .phase)
+begun-open f t taken (LoadedNext n) outgoing h w =
+    let b : State = begin f t taken (LoadedNext n) outgoing in
+    busy (begin-processor (f .table) t (LoadedNext n)) (step-e b t (b .phase) .phase) (begun-opened f t taken (LoadedNext n) outgoing) refl
+begun-open f t taken (PromotedNext n) outgoing h w =
+    let b : State = begin f t taken (PromotedNext n) outgoing in
+    busy (begin-processor (f .table) t (PromotedNext n)) (step-e b t (b .phase) .phase) (begun-opened f t taken (PromotedNext n) outgoing) refl
+begun-open f t taken NoneNext (AwaitsCopyOut m s) h w = unfold begin step-e choose-if in refl
+begun-open f t taken NoneNext NoneOutgoing h w =
     unfold begin step-e choose-if in
-    let b : State = begin f t new NoneNext NoneOutgoing in
+    let b : State = begin f t taken NoneNext NoneOutgoing in
     let i : Interval = record
-    { begin = t; work = Instant.work-of NoneNext; processor = Idle; copyout = NoCopyOut; copyin = Unchosen; candidates = intersection new (f .marked) } in
+    { begin = t; work = Instant.work-of NoneNext; processor = Idle; copyout = NoCopyOut; copyin = Unchosen; candidates = intersection taken (f .marked) } in
     chosen-open b t i (highest-of b (f .jobs .ready)) refl refl h (not-true (eqb (f .jobs .ready) 0) w) (best-of b (f .jobs .ready))
 
 pub unwanted : (next : Next) (outgoing : Outgoing) (ready : ℕ) → wanted next outgoing ready ≡ false → (next ≡ NoneNext) × (outgoing ≡ NoneOutgoing) × (ready ≡ 0)
@@ -112,27 +112,27 @@ rest-open : (ready : ℕ) (p : Phase) (q : Processor) → Opened q p → RestAt 
 rest-open ready (Between next outgoing) q e = absurd e
 rest-open ready (Within j) q e = tt
 
-g-settled : (f : State) (t new : ℕ) → f .jobs .ready < 2 ^ 32 → DecidedAt (f .phase) → OpenAt (f .phase) → Settled (step-g f t new (f .phase)) (step-g f t new (f .phase) .phase)
-g-settled f t new s h o =
-    g-cases (λ x. Settled x (x .phase)) f t new
+g-settled : (f : State) (t taken : ℕ) → f .jobs .ready < 2 ^ 32 → DecidedAt (f .phase) → OpenAt (f .phase) → Settled (step-g f t taken (f .phase)) (step-g f t taken (f .phase) .phase)
+g-settled f t taken s h o =
+    g-cases (λ x. Settled x (x .phase)) f t taken
     (λ i e. record { decided = h; open-yet = o; rests = subst (RestAt (f .jobs .ready)) (sym e) tt })
     (λ next outgoing e w. record { decided = h; open-yet = o; rests = subst (RestAt (f .jobs .ready)) (sym e) (unwanted next outgoing (f .jobs .ready) w) })
     (λ next outgoing e w.
-    let b : State = begin f t new next outgoing in
+    let b : State = begin f t taken next outgoing in
     record {
       decided = e-decided b t (b .phase) refl;
-      open-yet = begun-open f t new next outgoing s w;
-      rests = rest-open (step-e b t (b .phase) .jobs .ready) (step-e b t (b .phase) .phase) (begin-processor (f .table) t next) (begun-opened f t new next outgoing);
+      open-yet = begun-open f t taken next outgoing s w;
+      rests = rest-open (step-e b t (b .phase) .jobs .ready) (step-e b t (b .phase) .phase) (begin-processor (f .table) t next) (begun-opened f t taken next outgoing);
     })
 
 pub settled-after : (d : State) (t set : ℕ) → at-f d t set .state .jobs .ready < 2 ^ 32 → Settled (at-g d t set) (at-g d t set .phase)
 unfolding at-g at-f at-e
 settled-after d t set h =
     let b : Stage = at-b d t in
-    let new : ℕ = new-at d t set in
-    let late : ℕ = late-at d t set in
-    let c : State = step-c (b .state) t new late in
-    let x : State = step-d c new (c .phase) in
+    let taken : ℕ = new-at d t set in
+    let deferred : ℕ = late-at d t set in
+    let c : State = step-c (b .state) t taken deferred in
+    let x : State = step-d c taken (c .phase) in
     let e : State = at-e d t set in
     let s : Stage = fresh-stage e in
     let f : State = at-f d t set .state in

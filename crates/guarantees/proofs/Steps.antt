@@ -35,23 +35,23 @@ settles i o =
     (right (resting (i .processor)) (not (copying-out (i .copyout)) && settled (i .copyin)) o)
 
 -- what is taken at an instant is in the sets
-pub record NewIn (d : State) (new : ℕ) (i : Interval) : Type 0 where
-  pub ready : Sub new (d .jobs .ready)
-  pub candidates : (k : ℕ) → k < 32 → member k new ≡ true → member k (d .marked) ≡ true → member k (i .candidates) ≡ true
+pub record NewIn (d : State) (taken : ℕ) (i : Interval) : Type 0 where
+  pub ready : Sub taken (d .jobs .ready)
+  pub candidates : (k : ℕ) → k < 32 → member k taken ≡ true → member k (d .marked) ≡ true → member k (i .candidates) ≡ true
 
 abbrev pub NewAt : State → ℕ → Phase → Type 0
-NewAt d new (Between next outgoing) = Unit {0}
-NewAt d new (Within i) = NewIn d new i
+NewAt d taken (Between next outgoing) = Unit {0}
+NewAt d taken (Within i) = NewIn d taken i
 
-pub c-new : (d : State) (t new late : ℕ) → NewAt (step-c d t new late) new (step-c d t new late .phase)
+pub c-new : (d : State) (t taken deferred : ℕ) → NewAt (step-c d t taken deferred) taken (step-c d t taken deferred .phase)
 unfolding step-c
-c-new d t new late = go (d .phase)
+c-new d t taken deferred = go (d .phase)
   where
-    go : (p : Phase) → NewAt (step-c d t new late) new (with-candidates d new p)
+    go : (p : Phase) → NewAt (step-c d t taken deferred) taken (with-candidates d taken p)
     go (Between next outgoing) = unfold with-candidates in tt
     go (Within i) = unfold with-candidates in record {
-      ready = λ k l h. union-right (d .jobs .ready) new k l h;
-      candidates = λ k l h m. union-right (i .candidates) (intersection new (d .marked)) k l (intersection-in new (d .marked) k l h m);
+      ready = λ k l h. union-right (d .jobs .ready) taken k l h;
+      candidates = λ k l h m. union-right (i .candidates) (intersection taken (d .marked)) k l (intersection-in taken (d .marked) k l h m);
     }
 
 -- the end of a phase leaves the task that the processor has

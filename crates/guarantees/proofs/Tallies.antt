@@ -94,32 +94,32 @@ module _ (n : ℕ) where
   take-other k t m true x e = rw e
   take-other k t m false x e = refl
 
-  pub takes-others : (k new marks t : ℕ) (x : Tally) → ((j : ℕ) → j < k → member j new ≡ true → eqb n j ≡ false) → tally n x (take-events k new marks t) ≡ x
+  pub takes-others : (k taken marks t : ℕ) (x : Tally) → ((j : ℕ) → j < k → member j taken ≡ true → eqb n j ≡ false) → tally n x (take-events k taken marks t) ≡ x
   unfolding take-events
-  takes-others zero new marks t x h = unfold tally in refl
-  takes-others (suc k) new marks t x h =
-      tally-append n (take-events k new marks t) (cond (member k new) (Takes k t (member k marks) ∷ []) []) x
-      ∙ ap (λ (y : Tally). tally n y (cond (member k new) (Takes k t (member k marks) ∷ []) [])) (takes-others k new marks t x (λ j l. h j (omega arith)))
-      ∙ go (member k new) refl
+  takes-others zero taken marks t x h = unfold tally in refl
+  takes-others (suc k) taken marks t x h =
+      tally-append n (take-events k taken marks t) (cond (member k taken) (Takes k t (member k marks) ∷ []) []) x
+      ∙ ap (λ (y : Tally). tally n y (cond (member k taken) (Takes k t (member k marks) ∷ []) [])) (takes-others k taken marks t x (λ j l. h j (omega arith)))
+      ∙ go (member k taken) refl
     where
-      go : (b : Bool) → member k new ≡ b → tally n x (cond b (Takes k t (member k marks) ∷ []) []) ≡ x
+      go : (b : Bool) → member k taken ≡ b → tally n x (cond b (Takes k t (member k marks) ∷ []) []) ≡ x
       go true e = take-other k t (member k marks) true x (h k (omega arith) e)
       go false e = unfold tally in refl
 
-  pub takes-this : (k new marks t : ℕ) (x : Tally) → n < k → member n new ≡ true → tally n x (take-events k new marks t) ≡ tally-by n x (Takes n t (member n marks))
+  pub takes-this : (k taken marks t : ℕ) (x : Tally) → n < k → member n taken ≡ true → tally n x (take-events k taken marks t) ≡ tally-by n x (Takes n t (member n marks))
   unfolding take-events
-  takes-this zero new marks t x l m = absurd (not-suc-le-zero l)
-  takes-this (suc k) new marks t x l m =
-      tally-append n (take-events k new marks t) (cond (member k new) (Takes k t (member k marks) ∷ []) []) x
+  takes-this zero taken marks t x l m = absurd (not-suc-le-zero l)
+  takes-this (suc k) taken marks t x l m =
+      tally-append n (take-events k taken marks t) (cond (member k taken) (Takes k t (member k marks) ∷ []) []) x
       ∙ by-test (eqb n k)
       (λ e.
       let z : n ≡ k = eqb-true n k e in
-      ap (λ (y : Tally). tally n y (cond (member k new) (Takes k t (member k marks) ∷ []) [])) (takes-others k new marks t x (λ j l m. ne-eqb n j (omega arith)))
-      ∙ subst (λ (j : ℕ). tally n x (cond (member j new) (Takes j t (member j marks) ∷ []) []) ≡ tally-by n x (Takes n t (member n marks))) z
+      ap (λ (y : Tally). tally n y (cond (member k taken) (Takes k t (member k marks) ∷ []) [])) (takes-others k taken marks t x (λ j l m. ne-eqb n j (omega arith)))
+      ∙ subst (λ (j : ℕ). tally n x (cond (member j taken) (Takes j t (member j marks) ∷ []) []) ≡ tally-by n x (Takes n t (member n marks))) z
       (rw m (unfold tally in refl)))
       (λ e.
-      ap (λ (y : Tally). tally n y (cond (member k new) (Takes k t (member k marks) ∷ []) [])) (takes-this k new marks t x (omega (arith, eqb-false n k e)) m)
-      ∙ take-other k t (member k marks) (member k new) (tally-by n x (Takes n t (member n marks))) e)
+      ap (λ (y : Tally). tally n y (cond (member k taken) (Takes k t (member k marks) ∷ []) [])) (takes-this k taken marks t x (omega (arith, eqb-false n k e)) m)
+      ∙ take-other k t (member k marks) (member k taken) (tally-by n x (Takes n t (member n marks))) e)
 
   one-defers : (k t : ℕ) (b : Bool) (x : Tally) → tally n x (cond b (Defers k t ∷ []) []) ≡ with-held x (cond b (cond (eqb n k) (Tick t) (x .held)) (x .held))
   unfolding tally
@@ -128,15 +128,15 @@ module _ (n : ℕ) where
 
   -- the release of the task waits from now on, if it is among them
   abbrev held-below : ℕ → ℕ → ℕ → Due → Due
-  held-below k late t h = cond (ltb n k && member n late) (Tick t) h
+  held-below k deferred t h = cond (ltb n k && member n deferred) (Tick t) h
 
-  held-step : (k late t : ℕ) (h : Due) → cond (member k late) (cond (eqb n k) (Tick t) (held-below k late t h)) (held-below k late t h) ≡ held-below (suc k) late t h
-  held-step k late t h =
+  held-step : (k deferred t : ℕ) (h : Due) → cond (member k deferred) (cond (eqb n k) (Tick t) (held-below k deferred t h)) (held-below k deferred t h) ≡ held-below (suc k) deferred t h
+  held-step k deferred t h =
       by-test (eqb n k)
       (λ e.
       let z : n ≡ k = eqb-true n k e in
-      rw (e, le-ltb n k (omega arith), lt-ltb n (suc k) (omega arith)) (subst (λ (j : ℕ). cond (member j late) (Tick t) h ≡ cond (member n late) (Tick t) h) z refl))
-      (λ e. rw (e, same-below (eqb-false n k e)) (go (member k late) (held-below (suc k) late t h)))
+      rw (e, le-ltb n k (omega arith), lt-ltb n (suc k) (omega arith)) (subst (λ (j : ℕ). cond (member j deferred) (Tick t) h ≡ cond (member n deferred) (Tick t) h) z refl))
+      (λ e. rw (e, same-below (eqb-false n k e)) (go (member k deferred) (held-below (suc k) deferred t h)))
     where
       go : (b : Bool) (w : Due) → cond b w w ≡ w
       go true w = refl
@@ -148,17 +148,17 @@ module _ (n : ℕ) where
           (λ e. e ∙ sym (lt-ltb n (suc k) (omega (arith, ltb-true n k e))))
           (λ e. e ∙ sym (le-ltb n (suc k) (omega (arith, ltb-false n k e))))
 
-  defers-below : (k late t : ℕ) (x : Tally) → tally n x (defer-events k late t) ≡ with-held x (held-below k late t (x .held))
+  defers-below : (k deferred t : ℕ) (x : Tally) → tally n x (defer-events k deferred t) ≡ with-held x (held-below k deferred t (x .held))
   unfolding defer-events
-  defers-below zero late t x = unfold tally in ap (λ (b : Bool). with-held x (cond (b && member n late) (Tick t) (x .held))) (sym (le-ltb n 0 (omega arith)))
-  defers-below (suc k) late t x =
-      tally-append n (defer-events k late t) (cond (member k late) (Defers k t ∷ []) []) x
-      ∙ ap (λ (y : Tally). tally n y (cond (member k late) (Defers k t ∷ []) [])) (defers-below k late t x)
-      ∙ one-defers k t (member k late) (with-held x (held-below k late t (x .held)))
-      ∙ ap (with-held x) (held-step k late t (x .held))
+  defers-below zero deferred t x = unfold tally in ap (λ (b : Bool). with-held x (cond (b && member n deferred) (Tick t) (x .held))) (sym (le-ltb n 0 (omega arith)))
+  defers-below (suc k) deferred t x =
+      tally-append n (defer-events k deferred t) (cond (member k deferred) (Defers k t ∷ []) []) x
+      ∙ ap (λ (y : Tally). tally n y (cond (member k deferred) (Defers k t ∷ []) [])) (defers-below k deferred t x)
+      ∙ one-defers k t (member k deferred) (with-held x (held-below k deferred t (x .held)))
+      ∙ ap (with-held x) (held-step k deferred t (x .held))
 
-  pub defers-tally : n < 32 → (late t : ℕ) (x : Tally) → tally n x (defer-events 32 late t) ≡ with-held x (cond (member n late) (Tick t) (x .held))
-  defers-tally small late t x = defers-below 32 late t x ∙ ap (λ (b : Bool). with-held x (cond (b && member n late) (Tick t) (x .held))) (lt-ltb n 32 small)
+  pub defers-tally : n < 32 → (deferred t : ℕ) (x : Tally) → tally n x (defer-events 32 deferred t) ≡ with-held x (cond (member n deferred) (Tick t) (x .held))
+  defers-tally small deferred t x = defers-below 32 deferred t x ∙ ap (λ (b : Bool). with-held x (cond (b && member n deferred) (Tick t) (x .held))) (lt-ltb n 32 small)
 
   -- d
   pub gives-tally : (p q : Phase) (x : Tally) → tally n x (giving-events-in p q) ≡ x

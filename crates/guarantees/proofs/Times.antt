@@ -12,7 +12,7 @@ use Rattle.guarantees.proofs.Highest.{Best}
 use Rattle.rules.specs.Instant.{step-a, step-b, step-c, step-d, step-e, step-g, close, over, with-candidates, cancel, choose, begin, begin-processor, begin-copyout, copying-out, wanted, taken, deferred, completed, after-done, without-done, ended, copyin-at, copyout-at, processor-at, at-a, at-b, at-e, at-f, at-g, new-at, late-at, fresh-stage}
 use Rattle.rules.specs.With.{at-clock, later}
 use Rattle.rules.specs.Order.{highest-of, outranks}
-use Rattle.guarantees.proofs.Frames.{Frame, b-frame, c-table, d-frame, table-b, table-e, pending-b}
+use Rattle.guarantees.proofs.Frames.{Frame, at-c, at-d, b-frame, c-table, d-frame, table-b, table-e, pending-b}
 use Rattle.guarantees.proofs.Settled.{Decided, DecidedAt, OpenAt, RestAt}
 use Rattle.guarantees.proofs.Places.{Parted}
 use Rattle.guarantees.proofs.Steps.{Sub, best-of}
@@ -113,16 +113,16 @@ module _ (table : Table) (tasks : table .present < 2 ^ 32) (t : ℕ) (P : ℕ �
     b-times z h = b-cases (λ x. Times P (x .phase)) z t (λ i e o. h) (λ next outgoing e. h) (λ i e o. tt)
 
     -- c
-    c-times : (d : State) (new : ℕ) (p : Phase) → Times P p → Times P (with-candidates d new p)
+    c-times : (d : State) (taken : ℕ) (p : Phase) → Times P p → Times P (with-candidates d taken p)
     unfolding with-candidates
-    c-times d new (Between next outgoing) h = tt
-    c-times d new (Within i) h = h
+    c-times d taken (Between next outgoing) h = tt
+    c-times d taken (Within i) h = h
 
     -- d
-    d-times : (d : State) (new : ℕ) → Times P (d .phase) → Times P (step-d d new (d .phase) .phase)
+    d-times : (d : State) (taken : ℕ) → Times P (d .phase) → Times P (step-d d taken (d .phase) .phase)
     unfolding cancel
-    d-times d new h =
-        d-cases (λ x. Times P (x .phase)) d new h (λ i n u e s b. (subst (Times P) e h .0, subst (Times P) e h .1, tt))
+    d-times d taken h =
+        d-cases (λ x. Times P (x .phase)) d taken h (λ i n u e s b. (subst (Times P) e h .0, subst (Times P) e h .1, tt))
 
     -- e
     choose-times : (d : State) (i : Interval) (q : MaybeTask) → d .table ≡ table → Sub (d .jobs .ready) (table .present) → Best (d .table .priority) (d .jobs .ready) q
@@ -147,13 +147,13 @@ module _ (table : Table) (tasks : table .present < 2 ^ 32) (t : ℕ) (P : ℕ �
     g-copyout NoneOutgoing k = tt
     g-copyout (AwaitsCopyOut n start) k = s .copyout n k
 
-    g-times : (f : State) (new : ℕ) → f .table ≡ table → Parted (table .present) tasks f (f .phase) → Times P (f .phase) → Times P (step-g f t new (f .phase) .phase)
+    g-times : (f : State) (taken : ℕ) → f .table ≡ table → Parted (table .present) tasks f (f .phase) → Times P (f .phase) → Times P (step-g f t taken (f .phase) .phase)
     unfolding begin
-    g-times f new x k h =
-        g-cases (λ y. Times P (y .phase)) f t new (λ i e. h) (λ next outgoing e w. h)
+    g-times f taken x k h =
+        g-cases (λ y. Times P (y .phase)) f t taken (λ i e. h) (λ next outgoing e w. h)
         (λ next outgoing e w.
         let n : next-known (table .present) next × outgoing-known (table .present) outgoing = subst (phase-known (table .present)) e (k .known) in
-        e-times (begin f t new next outgoing) x (k .ready) (
+        e-times (begin f t taken next outgoing) x (k .ready) (
           subst (λ (y : Table). processor-times P (begin-processor y t next)) (sym x) (g-processor next (n .0)),
           subst (λ (y : Table). copyout-times P (begin-copyout y t outgoing)) (sym x) (g-copyout outgoing (n .1)),
           tt,
@@ -168,10 +168,8 @@ module _ (table : Table) (tasks : table .present < 2 ^ 32) (t : ℕ) (P : ℕ �
         let d0 : State = at-clock d t in
         let a : Stage = at-a d t in
         let b : State = at-b d t .state in
-        let new : ℕ = new-at d t set in
-        let late : ℕ = late-at d t set in
-        let c : State = step-c b t new late in
-        let y : State = step-d c new (c .phase) in
+        let c : State = at-c d t set in
+        let y : State = at-d d t set in
         let e : State = at-e d t set in
         let z : Stage = fresh-stage e in
         let ff : State = at-f d t set .state in
@@ -181,7 +179,7 @@ module _ (table : Table) (tasks : table .present < 2 ^ 32) (t : ℕ) (P : ℕ �
         let ke : Parted pr tasks e (e .phase) = Places.to-e pr tasks d t set f kb .parted in
         let kf : Parted pr tasks ff (ff .phase) = Places.b-moves pr tasks z t (e .phase) refl ke .parted in
         let hb : Times P (b .phase) = b-times a (a-times d0 (d .phase) refl x k0 h) in
-        let he : Times P (e .phase) = e-times y (to-table b set (table-b d t ∙ x)) (ky .ready) (d-times c new (to-c b set hb)) in
+        let he : Times P (e .phase) = e-times y (to-table b set (table-b d t ∙ x)) (ky .ready) (d-times c (new-at d t set) (to-c b set hb)) in
         g-times ff (held-at d t set) (ap (λ (y : Frame). y .table) (b-frame z t) ∙ table-e d t set ∙ x) kf (b-times z he)
       where
         to-c : (b : State) (set : ℕ) → Times P (b .phase) → Times P (step-c b t (taken b set) (deferred b set) .phase)
@@ -191,9 +189,9 @@ module _ (table : Table) (tasks : table .present < 2 ^ 32) (t : ℕ) (P : ℕ �
             → let c : State = step-c b t (taken b set) (deferred b set) in
             let y : State = step-d c (taken b set) (c .phase) in Parted (table .present) tasks y (y .phase)
         to-y b set g k =
-            let new : ℕ = taken b set in
-            let c : State = step-c b t new (deferred b set) in
-            Places.d-moves (table .present) tasks c new (Places.c-takes (table .present) tasks b t set g k .parted) .parted
+            let taken : ℕ = taken b set in
+            let c : State = step-c b t taken (deferred b set) in
+            Places.d-moves (table .present) tasks c taken (Places.c-takes (table .present) tasks b t set g k .parted) .parted
 
         to-table : (b : State) (set : ℕ) → b .table ≡ table
             → let c : State = step-c b t (taken b set) (deferred b set) in
@@ -300,32 +298,32 @@ module _ (P : ℕ → Type 0) (t : ℕ) where
   b-still s h =
       b-cases Stays-still s t (λ i e o. h) (λ next outgoing e. h) (λ i e o. clash (over i) o (subst OpenAt e (h .open-yet)))
 
-  c-still : (d : State) (new late : ℕ) (p : Phase) → ((k : ℕ) → k < 32 → member k new ≡ false) → Still d p → Still (step-c d t new late) (with-candidates d new p)
+  c-still : (d : State) (taken deferred : ℕ) (p : Phase) → ((k : ℕ) → k < 32 → member k taken ≡ false) → Still d p → Still (step-c d t taken deferred) (with-candidates d taken p)
   unfolding with-candidates step-c
-  c-still d new late (Between next outgoing) n h = record {
+  c-still d taken deferred (Between next outgoing) n h = record {
     times = tt;
     decided = tt;
     open-yet = tt;
-    rests = (h .rests .0, h .rests .1, rw (h .rests .2) (empty (union 0 new) (union-small 0 new) (λ k l. rw (united 0 new k l, none k, n k l))));
+    rests = (h .rests .0, h .rests .1, rw (h .rests .2) (empty (union 0 taken) (union-small 0 taken) (λ k l. rw (united 0 taken k l, none k, n k l))));
   }
-  c-still d new late (Within i) n h = record { times = h .times; decided = h .decided; open-yet = h .open-yet; rests = tt }
+  c-still d taken deferred (Within i) n h = record { times = h .times; decided = h .decided; open-yet = h .open-yet; rests = tt }
 
-  not-outranked : (d : State) (new c : ℕ) (q : MaybeTask) → ((k : ℕ) → k < 32 → member k new ≡ false) → Best (d .table .priority) (intersection new (d .marked)) q → outranks d c q ≡ false
-  not-outranked d new c NoTask n b = refl
-  not-outranked d new c (Task q) n b = clash (member q new) (intersection-left new (d .marked) q (b .1)) (n q (b .0))
+  not-outranked : (d : State) (taken c : ℕ) (q : MaybeTask) → ((k : ℕ) → k < 32 → member k taken ≡ false) → Best (d .table .priority) (intersection taken (d .marked)) q → outranks d c q ≡ false
+  not-outranked d taken c NoTask n b = refl
+  not-outranked d taken c (Task q) n b = clash (member q taken) (intersection-left taken (d .marked) q (b .1)) (n q (b .0))
 
-  d-still : (d : State) (new : ℕ) → ((k : ℕ) → k < 32 → member k new ≡ false) → Stays-still d → Stays-still (step-d d new (d .phase))
-  d-still d new n h =
-      let q : MaybeTask = highest-of d (intersection new (d .marked)) in
-      d-cases Stays-still d new h (λ i c u e s b. clash (outranks d c q) b (not-outranked d new c q n (best-of d (intersection new (d .marked)))))
+  d-still : (d : State) (taken : ℕ) → ((k : ℕ) → k < 32 → member k taken ≡ false) → Stays-still d → Stays-still (step-d d taken (d .phase))
+  d-still d taken n h =
+      let q : MaybeTask = highest-of d (intersection taken (d .marked)) in
+      d-cases Stays-still d taken h (λ i c u e s b. clash (outranks d c q) b (not-outranked d taken c q n (best-of d (intersection taken (d .marked)))))
 
   e-still : (d : State) → Stays-still d → Stays-still (step-e d t (d .phase))
   e-still d h =
       e-cases Stays-still d t h (λ i e s u. clash (copying-out (i .copyout)) (subst (λ (c : CopyIn). Decided c (i .copyout)) s (subst DecidedAt e (h .decided))) u)
 
-  g-still : (f : State) (new : ℕ) → Stays-still f → Stays-still (step-g f t new (f .phase))
-  g-still f new h =
-      g-cases Stays-still f t new (λ i e. h) (λ next outgoing e w. h)
+  g-still : (f : State) (taken : ℕ) → Stays-still f → Stays-still (step-g f t taken (f .phase))
+  g-still f taken h =
+      g-cases Stays-still f t taken (λ i e. h) (λ next outgoing e w. h)
       (λ next outgoing e w. clash (wanted next outgoing (f .jobs .ready)) w (unwanted next outgoing (f .jobs .ready) (subst (RestAt (f .jobs .ready)) e (h .rests))))
     where
       unwanted : (next : Next) (outgoing : Outgoing) (ready : ℕ) → (next ≡ NoneNext) × (outgoing ≡ NoneOutgoing) × (ready ≡ 0) → wanted next outgoing ready ≡ false
@@ -336,17 +334,15 @@ module _ (P : ℕ → Type 0) (t : ℕ) where
   instant-still d set z m h =
       let a : Stage = at-a d t in
       let b : State = at-b d t .state in
-      let new : ℕ = new-at d t set in
-      let late : ℕ = late-at d t set in
-      let c : State = step-c b t new late in
-      let y : State = step-d c new (c .phase) in
+      let c : State = at-c d t set in
+      let y : State = at-d d t set in
       let e : State = at-e d t set in
       let s : Stage = fresh-stage e in
       let f : State = at-f d t set .state in
       let hb : Still b (b .phase) = b-still a (a-still (at-clock d t) (d .phase) refl z (record { times = h .times; decided = h .decided; open-yet = h .open-yet; rests = h .rests })) in
-      let hc : Still c (c .phase) = to-c b new late m hb in
-      let he : Still e (e .phase) = e-still y (d-still c new m hc) in
+      let hc : Still c (c .phase) = to-c b (new-at d t set) (late-at d t set) m hb in
+      let he : Still e (e .phase) = e-still y (d-still c (new-at d t set) m hc) in
       g-still f (held-at d t set) (b-still s he)
     where
-      to-c : (b : State) (new late : ℕ) → ((k : ℕ) → k < 32 → member k new ≡ false) → Still b (b .phase) → Still (step-c b t new late) (step-c b t new late .phase)
-      to-c b new late m h = unfold step-c in c-still b new late (b .phase) m h
+      to-c : (b : State) (taken deferred : ℕ) → ((k : ℕ) → k < 32 → member k taken ≡ false) → Still b (b .phase) → Still (step-c b t taken deferred) (step-c b t taken deferred .phase)
+      to-c b taken deferred m h = unfold step-c in c-still b taken deferred (b .phase) m h

@@ -1,5 +1,5 @@
 -- The entry of a job done tells the truth: along the calls, the state knows of each task's last job what the walk of Tally finds.
-use Rattle.guarantees.specs.Types.{_≡_, refl, sym, ap, _∙_, subst, Bool, true, false, cond, false≢true, List, _∷_, _++_, append-assoc, inr, ⊎-elim, ℕ, _<_, Table, Jobs, CopyOut, NoCopyOut, CopyingOut, CopiedOut, Interval, Phase, Between, Within, State, NoJob, Job, Never, Tick, Call, JobEntry, Occurred, Served, Refused}
+use Rattle.guarantees.specs.Types.{_≡_, refl, sym, ap, _∙_, subst, Bool, true, false, cond, false≢true, List, _∷_, _++_, append-assoc, inr, ⊎-elim, ℕ, _<_, Table, Jobs, Clock, At, CopyOut, NoCopyOut, CopyingOut, CopiedOut, Interval, Phase, Between, Within, State, NoJob, Job, Never, Tick, Call, JobEntry, Occurred, Served, Refused}
 use native.Mathlib.Omega.{arith}
 use lib.Dec.{eqb}
 use lib.ListN.{getD, replicate}
@@ -37,8 +37,9 @@ module _ (table : Table) (marks : ℕ) (fair : Fair table marks) (n : ℕ) (smal
   B = Bounded (table .priority) n small
 
   -- another clock, or other marks
-  clock-knows : (d : State) (t : ℕ) (x : Tally) → K x d → K x (at-clock d t)
-  clock-knows d t x k = record {
+  still-knows : (d : State) (c : Clock) (m : ℕ) (x : Tally) → K x d
+      → K x (record { table = d .table; marked = m; clock = c; half = d .half; jobs = d .jobs; waiting = d .waiting; phase = d .phase })
+  still-knows d c m x k = record {
     table = k .table;
     at = k .at;
     releases = k .releases;
@@ -48,16 +49,11 @@ module _ (table : Table) (marks : ℕ) (fair : Fair table marks) (n : ℕ) (smal
     runs = λ s r. let a : Ran (table .priority) n small x s d = k .runs s r in record { release = a .release; executed = a .executed; count = a .count; started = a .started };
   }
 
+  clock-knows : (d : State) (t : ℕ) (x : Tally) → K x d → K x (at-clock d t)
+  clock-knows d t = still-knows d (At t) (d .marked)
+
   quiet-knows : (d : State) (m : ℕ) (x : Tally) → K x d → K x (with-marks d m)
-  quiet-knows d m x k = record {
-    table = k .table;
-    at = k .at;
-    releases = k .releases;
-    counts = k .counts;
-    holds = k .holds;
-    awaits = λ w. let a : Awaiting (table .priority) n small x d = k .awaits w in record { release = a .release; unexecuted = a .unexecuted; count = a .count; unstarted = a .unstarted };
-    runs = λ s r. let a : Ran (table .priority) n small x s d = k .runs s r in record { release = a .release; executed = a .executed; count = a .count; started = a .started };
-  }
+  quiet-knows d m = still-knows d (d .clock) m
 
   module _ (d : State) (t set : ℕ) (x : Tally) (g : Good table marks fair d) (known : Sub set (table .present)) (bound : B d) (k : K x d) where
     abbrev pr : List ℕ
@@ -103,12 +99,12 @@ module _ (table : Table) (marks : ℕ) (fair : Fair table marks) (n : ℕ) (smal
     unfolding at-e
     knows-e =
         let b : State = at-b d t .state in
-        let new : ℕ = new-at d t set in
-        let late : ℕ = late-at d t set in
-        let c : State = step-c b t new late in
-        e-knows pr n small t (step-d c new (c .phase)) after-c
-        (d-knows pr n small new c after-c
-        (c-knows pr n small (table .present) (fair .present) b t new late (d .marked) (tally n (tally n x ended-a) ends-b) parted-b
+        let taken : ℕ = new-at d t set in
+        let deferred : ℕ = late-at d t set in
+        let c : State = step-c b t taken deferred in
+        e-knows pr n small t (step-d c taken (c .phase)) after-c
+        (d-knows pr n small taken c after-c
+        (c-knows pr n small (table .present) (fair .present) b t taken deferred (d .marked) (tally n (tally n x ended-a) ends-b) parted-b
         (λ j m. unfold new-at in taken-not-pending b set j m) knows-b))
 
     pub parted-e : Parted (table .present) (fair .present) (at-e d t set) (at-e d t set .phase)

@@ -21,20 +21,20 @@ module _ (f : Event → ℕ) where
   unfolding total
   skip ys e z es h = omega (arith, z, h)
 
-  takes-total : (v : ℕ) → ((n t : ℕ) (m : Bool) → f (Takes n t m) ≡ v) → (k new marked t : ℕ) → total f (take-events k new marked t) ≡ v * count k (λ n. member n new)
+  takes-total : (v : ℕ) → ((n t : ℕ) (m : Bool) → f (Takes n t m) ≡ v) → (k taken marked t : ℕ) → total f (take-events k taken marked t) ≡ v * count k (λ n. member n taken)
   unfolding take-events total count
-  takes-total v h zero new marked t = omega arith
-  takes-total v h (suc k) new marked t =
-      total-append (take-events k new marked t) (cond (member k new) (Takes k t (member k marked) ∷ []) [])
-      ∙ go (member k new) (total f (take-events k new marked t)) (count k (λ n. member n new)) (takes-total v h k new marked t)
+  takes-total v h zero taken marked t = omega arith
+  takes-total v h (suc k) taken marked t =
+      total-append (take-events k taken marked t) (cond (member k taken) (Takes k t (member k marked) ∷ []) [])
+      ∙ go (member k taken) (total f (take-events k taken marked t)) (count k (λ n. member n taken)) (takes-total v h k taken marked t)
     where
       go : (b : Bool) (x y : ℕ) → x ≡ v * y → x + total f (cond b (Takes k t (member k marked) ∷ []) []) ≡ v * (y + cond b 1 0)
       go true x y e = omega (arith, h k t (member k marked))
       go false x y e = omega arith
 
 module _ (d : State) (t set : ℕ) (h : List Event) where
-  abbrev new : ℕ
-  new = new-at d t set
+  abbrev taken : ℕ
+  taken = new-at d t set
 
   abbrev given : List Event
   given = giving-events-in (at-b d t .state .phase) (at-e d t set .phase)
@@ -70,8 +70,8 @@ module _ (d : State) (t set : ℕ) (h : List Event) where
   begins-of =
       let ys : List Event = tail-of d t set ++ h in
       ap (total is-begin) (happens-parts d t set h)
-      ∙ before-releases is-begin (λ u. refl) (λ n u. refl) (λ n u. refl) (λ n. refl) (λ n u. refl) (λ u. refl) (take-events 32 new (d .marked) t ++ ys)
-      ∙ by-takes (As is-begin ys) 32 new (d .marked) t (λ n l m. skip is-begin ys (Takes n t (member n (d .marked))) refl) ys refl
+      ∙ before-releases is-begin (λ u. refl) (λ n u. refl) (λ n u. refl) (λ n. refl) (λ n u. refl) (λ u. refl) (take-events 32 taken (d .marked) t ++ ys)
+      ∙ by-takes (As is-begin ys) 32 taken (d .marked) t (λ n l m. skip is-begin ys (Takes n t (member n (d .marked))) refl) ys refl
       ∙ ap (total is-begin) (tail-parts d t set h)
       ∙ by-defers (As is-begin (given ++ (closed ++ (begun ++ (started ++ h))))) 32 (late-at d t set) t (λ n l m. skip is-begin (given ++ (closed ++ (begun ++ (started ++ h)))) (Defers n t) refl) (given ++ (closed ++ (begun ++ (started ++ h)))) refl
       ∙ by-gives (As is-begin (closed ++ (begun ++ (started ++ h)))) (λ n. skip is-begin (closed ++ (begun ++ (started ++ h))) (GivesWay n) refl) (at-b d t .state .phase) (at-e d t set .phase) (closed ++ (begun ++ (started ++ h))) refl
@@ -87,11 +87,11 @@ module _ (d : State) (t set : ℕ) (h : List Event) where
   takes-of =
       let ys : List Event = tail-of d t set ++ h in
       ap (total is-take) (happens-parts d t set h)
-      ∙ before-releases is-take (λ u. refl) (λ n u. refl) (λ n u. refl) (λ n. refl) (λ n u. refl) (λ u. refl) (take-events 32 new (d .marked) t ++ ys)
+      ∙ before-releases is-take (λ u. refl) (λ n u. refl) (λ n u. refl) (λ n. refl) (λ n u. refl) (λ u. refl) (take-events 32 taken (d .marked) t ++ ys)
       ∙ omega (
         arith,
-        total-append is-take (take-events 32 new (d .marked) t) ys,
-        takes-total is-take 1 (λ n t m. refl) 32 new (d .marked) t,
+        total-append is-take (take-events 32 taken (d .marked) t) ys,
+        takes-total is-take 1 (λ n t m. refl) 32 taken (d .marked) t,
         after-releases is-take (λ n u. refl) (λ n. refl) (λ u. refl) (λ u r l. refl) (λ n u. refl),
       )
 
@@ -100,7 +100,7 @@ module _ (d : State) (t set : ℕ) (h : List Event) where
       let e : List Event = end-events t (at-a d t .state .phase) (at-b d t .state .phase) in
       let c : List Event = completion-events (at-a d t .done) in
       let ys : List Event = tail-of d t set ++ h in
-      let rest : List Event = take-events 32 new (d .marked) t ++ ys in
+      let rest : List Event = take-events 32 taken (d .marked) t ++ ys in
       let f : List Event = finish-events-in t (d .phase) ++ (c ++ (e ++ rest)) in
       ap (total is-completion) (happens-parts d t set h ∙ front-parts d t rest)
       ∙ skip is-completion (c ++ (e ++ rest)) (Comes t) refl (processor-events-in t (d .phase) ++ f)
@@ -110,6 +110,6 @@ module _ (d : State) (t set : ℕ) (h : List Event) where
         arith,
         total-append is-completion c (e ++ rest),
         by-ends (As is-completion rest) t (skip is-completion rest (Ends t) refl) (at-a d t .state .phase) (at-b d t .state .phase) rest refl,
-        by-takes (As is-completion ys) 32 new (d .marked) t (λ n l m. skip is-completion ys (Takes n t (member n (d .marked))) refl) ys refl,
+        by-takes (As is-completion ys) 32 taken (d .marked) t (λ n l m. skip is-completion ys (Takes n t (member n (d .marked))) refl) ys refl,
         after-releases is-completion (λ n u. refl) (λ n. refl) (λ u. refl) (λ u r l. refl) (λ n u. refl),
       )

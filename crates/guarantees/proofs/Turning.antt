@@ -123,28 +123,28 @@ module _ (present : ℕ) (tasks : present < 4294967296) (n : ℕ) (small : n < 3
     abbrev P : View → List Event → Type 0
     P x es = T (record { now = Tick t; place = x .place; held = x .held }) es
 
-    takes-turning : (new marked p : ℕ) (w : Bool) (ys : List Event) → (member n new ≡ true → p ≡ 0)
-        → T (record { now = Tick t; place = cond (member n new) 1 p; held = cond (member n new) false w }) ys
-        → T (record { now = Tick t; place = p; held = w }) (take-events 32 new marked t ++ ys)
+    takes-turning : (taken marked p : ℕ) (w : Bool) (ys : List Event) → (member n taken ≡ true → p ≡ 0)
+        → T (record { now = Tick t; place = cond (member n taken) 1 p; held = cond (member n taken) false w }) ys
+        → T (record { now = Tick t; place = p; held = w }) (take-events 32 taken marked t ++ ys)
     unfolding take-events Turning
-    takes-turning new marked p w ys f h =
-        at-task n new (λ k. Takes k t (member k marked)) (λ k. take-events k new marked t) refl (λ k. refl) P
+    takes-turning taken marked p w ys f h =
+        at-task n taken (λ k. Takes k t (member k marked)) (λ k. take-events k taken marked t) refl (λ k. refl) P
         (λ x k e es y. ((refl, λ z. absurd (true≢false (sym z ∙ e))), rw e y)) (record { now = Never; place = p; held = w }) (record { now = Never; place = 1; held = false })
-        (λ m es y. ((refl, λ z. f m), rw (same-task n) y)) 32 small ys (go (member n new) h)
+        (λ m es y. ((refl, λ z. f m), rw (same-task n) y)) 32 small ys (go (member n taken) h)
       where
         go : (b : Bool) → T (record { now = Tick t; place = cond b 1 p; held = cond b false w }) ys
             → P (cond b (record { now = Never; place = 1; held = false }) (record { now = Never; place = p; held = w })) ys
         go true h = h
         go false h = h
 
-    defers-turning : (late p : ℕ) (w : Bool) (ys : List Event) → (member n late ≡ true → (p ≡ 0 → ⊥) × (w ≡ false))
-        → T (record { now = Tick t; place = p; held = cond (member n late) true w }) ys
-        → T (record { now = Tick t; place = p; held = w }) (defer-events 32 late t ++ ys)
+    defers-turning : (deferred p : ℕ) (w : Bool) (ys : List Event) → (member n deferred ≡ true → (p ≡ 0 → ⊥) × (w ≡ false))
+        → T (record { now = Tick t; place = p; held = cond (member n deferred) true w }) ys
+        → T (record { now = Tick t; place = p; held = w }) (defer-events 32 deferred t ++ ys)
     unfolding defer-events Turning
-    defers-turning late p w ys f h =
-        at-task n late (λ k. Defers k t) (λ k. defer-events k late t) refl (λ k. refl) P
+    defers-turning deferred p w ys f h =
+        at-task n deferred (λ k. Defers k t) (λ k. defer-events k deferred t) refl (λ k. refl) P
         (λ x k e es y. ((refl, λ z. absurd (true≢false (sym z ∙ e))), rw e y)) (record { now = Never; place = p; held = w }) (record { now = Never; place = p; held = true })
-        (λ m es y. ((refl, λ z. f m), rw (same-task n) y)) 32 small ys (go (member n late) h)
+        (λ m es y. ((refl, λ z. f m), rw (same-task n) y)) 32 small ys (go (member n deferred) h)
       where
         go : (b : Bool) → T (record { now = Tick t; place = p; held = cond b true w }) ys
             → P (cond b (record { now = Never; place = p; held = true }) (record { now = Never; place = p; held = w })) ys
@@ -155,14 +155,14 @@ module _ (present : ℕ) (tasks : present < 4294967296) (n : ℕ) (small : n < 3
     abbrev spots : Phase → ℕ
     spots p = executing p + 2 * leaving p
 
-    c-spots : (d : State) (new : ℕ) (p : Phase) → spots (with-candidates d new p) ≡ spots p
+    c-spots : (d : State) (taken : ℕ) (p : Phase) → spots (with-candidates d taken p) ≡ spots p
     unfolding with-candidates
-    c-spots d new (Between next outgoing) = refl
-    c-spots d new (Within i) = refl
+    c-spots d taken (Between next outgoing) = refl
+    c-spots d taken (Within i) = refl
 
-    d-spots : (d : State) (new : ℕ) → spots (step-d d new (d .phase) .phase) ≡ spots (d .phase)
+    d-spots : (d : State) (taken : ℕ) → spots (step-d d taken (d .phase) .phase) ≡ spots (d .phase)
     unfolding cancel
-    d-spots d new = d-cases (λ x. spots (x .phase) ≡ spots (d .phase)) d new refl (λ i k u e s b. rw e)
+    d-spots d taken = d-cases (λ x. spots (x .phase) ≡ spots (d .phase)) d taken refl (λ i k u e s b. rw e)
 
     choose-spots : (d : State) (i : Interval) (q : MaybeTask) → spots (choose d t i q .phase) ≡ spots (Within i)
     unfolding choose
@@ -176,9 +176,9 @@ module _ (present : ℕ) (tasks : present < 4294967296) (n : ℕ) (small : n < 3
     unfolding at-e step-c
     spots-e d set =
         let b : State = at-b d t .state in
-        let new : ℕ = new-at d t set in
-        let c : State = step-c b t new (late-at d t set) in
-        e-spots (step-d c new (c .phase)) ∙ d-spots c new ∙ c-spots b new (b .phase)
+        let taken : ℕ = new-at d t set in
+        let c : State = step-c b t taken (late-at d t set) in
+        e-spots (step-d c taken (c .phase)) ∙ d-spots c taken ∙ c-spots b taken (b .phase)
 
     -- g
     begun-place : (a b c : Bool) (x : ℕ) → bit c ≡ x + (bit a + bit b) → cond a 2 (cond b 3 (bit c + bit b + 0)) ≡ bit c + bit a + 2 * bit b
@@ -228,14 +228,14 @@ module _ (present : ℕ) (tasks : present < 4294967296) (n : ℕ) (small : n < 3
     unfolding begin-events
     shut-turning c w next outgoing q ys e k = rw e (rw e at k)
 
-    g-turning : (c w : Bool) (f : State) (new : ℕ) (p : Phase) (ys : List Event) → f .phase ≡ p → member n (f .jobs .pending) ≡ c → Parted present tasks f p
-        → T (Seen c w (step-g f t new p .phase)) ys → T (Seen c w p) (begin-events t p (step-g f t new p .phase) ++ ys)
+    g-turning : (c w : Bool) (f : State) (taken : ℕ) (p : Phase) (ys : List Event) → f .phase ≡ p → member n (f .jobs .pending) ≡ c → Parted present tasks f p
+        → T (Seen c w (step-g f t taken p .phase)) ys → T (Seen c w p) (begin-events t p (step-g f t taken p .phase) ++ ys)
     unfolding step-g begin-events
-    g-turning c w f new (Within i) ys e x h k = subst (λ (p : Phase). T (Seen c w p) ys) e k
-    g-turning c w f new (Between next outgoing) ys e x h k = go (wanted next outgoing (f .jobs .ready)) k
+    g-turning c w f taken (Within i) ys e x h k = subst (λ (p : Phase). T (Seen c w p) ys) e k
+    g-turning c w f taken (Between next outgoing) ys e x h k = go (wanted next outgoing (f .jobs .ready)) k
       where
         b : State
-        b = begin f t new next outgoing
+        b = begin f t taken next outgoing
 
         go : (z : Bool) → T (Seen c w (cond z (step-e b t (b .phase)) f .phase)) ys
             → T (Seen c w (Between next outgoing)) (begin-events t (Between next outgoing) (cond z (step-e b t (b .phase)) f .phase) ++ ys)
@@ -266,14 +266,14 @@ module _ (present : ℕ) (tasks : present < 4294967296) (n : ℕ) (small : n < 3
       abbrev placed-b : ℕ
       placed-b = bit (member n (B .jobs .pending)) + executing (B .phase) + 2 * leaving (B .phase)
 
-      abbrev new : ℕ
-      new = taken B set
+      abbrev taken-now : ℕ
+      taken-now = taken B set
 
-      abbrev late : ℕ
-      late = deferred B set
+      abbrev deferred-now : ℕ
+      deferred-now = deferred B set
 
       -- a release is set waiting behind a pending job
-      deferred-behind : member n late ≡ true → cond (member n new) 1 placed-b ≡ 0 → ⊥
+      deferred-behind : member n deferred-now ≡ true → cond (member n taken-now) 1 placed-b ≡ 0 → ⊥
       deferred-behind m z =
           go (member n (B .jobs .pending)) (member n (B .waiting .tasks)) (member n set) (executing (B .phase)) (2 * leaving (B .phase))
           (sym (deferred-member B set n small) ∙ m)
@@ -285,18 +285,18 @@ module _ (present : ℕ) (tasks : present < 4294967296) (n : ℕ) (small : n < 3
           go false false true x y m z = omega arith
           go false false false x y m z = false≢true m
 
-      placed-e : cond (member n new) 1 placed-b ≡ bit (member n (G .jobs .pending)) + executing (at-e d t set .phase) + 2 * leaving (at-e d t set .phase)
+      placed-e : cond (member n taken-now) 1 placed-b ≡ bit (member n (G .jobs .pending)) + executing (at-e d t set .phase) + 2 * leaving (at-e d t set .phase)
       placed-e =
-          go (member n new) (nowhere B set h) ∙ omega (arith, spots-e d set, ap bit (sym pending-is))
+          go (member n taken-now) (nowhere B set h) ∙ omega (arith, spots-e d set, ap bit (sym pending-is))
         where
-          pending-is : member n (G .jobs .pending) ≡ (member n (B .jobs .pending) || member n new)
-          pending-is = ap (member n) (pending-g d t set) ∙ (unfold new-at in united (B .jobs .pending) new n small)
+          pending-is : member n (G .jobs .pending) ≡ (member n (B .jobs .pending) || member n taken-now)
+          pending-is = ap (member n) (pending-g d t set) ∙ (unfold new-at in united (B .jobs .pending) taken-now n small)
 
           go : (x : Bool) → (x ≡ true → placed-b ≡ 0) → cond x 1 placed-b ≡ bit (member n (B .jobs .pending) || x) + executing (B .phase) + 2 * leaving (B .phase)
           go true z = by-test (member n (B .jobs .pending)) (λ p. absurd (omega (arith, z refl, ap bit p))) (λ p. rw p (omega (arith, z refl)))
           go false z = by-test (member n (B .jobs .pending)) (λ p. rw p refl) (λ p. rw p refl)
 
-      held-e : cond (member n late) true (cond (member n new) false (member n (B .waiting .tasks))) ≡ member n (G .waiting .tasks)
+      held-e : cond (member n deferred-now) true (cond (member n taken-now) false (member n (B .waiting .tasks))) ≡ member n (G .waiting .tasks)
       held-e = moves B set n small ∙ ap (member n) (sym (waits-g d t set))
 
       parted-f : Parted present tasks (at-f d t set .state) (at-f d t set .state .phase)
@@ -329,9 +329,9 @@ module _ (present : ℕ) (tasks : present < 4294967296) (n : ℕ) (small : n < 3
           → T (Seen (member n (B .jobs .pending)) (member n (B .waiting .tasks)) (B .phase)) (take-events 32 (new-at d t set) (d .marked) t ++ (tail-of d t set ++ ys))
       unfolding new-at late-at
       tail-turning ys k =
-          takes-turning new (d .marked) placed-b (member n (B .waiting .tasks)) (tail-of d t set ++ ys) (nowhere B set h)
+          takes-turning taken-now (d .marked) placed-b (member n (B .waiting .tasks)) (tail-of d t set ++ ys) (nowhere B set h)
           (rw (tail-parts d t set ys)
-          (defers-turning late (cond (member n new) 1 placed-b) (cond (member n new) false (member n (B .waiting .tasks))) _
+          (defers-turning deferred-now (cond (member n taken-now) 1 placed-b) (cond (member n taken-now) false (member n (B .waiting .tasks))) _
           (λ m. (deferred-behind m, free B set n small m))
           (rw (placed-e, held-e) (rest-turning ys k))))
 

@@ -126,32 +126,32 @@ module _ (pr : List ℕ) (n : ℕ) where
           let z : Left (s .state) (i .copyin) (promoted (s .state) i (i .copyin)) = closed (s .state) i (i .copyin) (settles i o) h (ready-at (s .state) e h) (fate-at (s .state) e h) in
           record { table = h .table; ready = z .0; fate = z .1 })
 
-      pub c-waiting : (t new late : ℕ) (d : State) → Waiting d → Waiting (step-c d t new late)
+      pub c-waiting : (t taken deferred : ℕ) (d : State) → Waiting d → Waiting (step-c d t taken deferred)
       unfolding step-c
-      c-waiting t new late d h = record {
+      c-waiting t taken deferred d h = record {
         table = h .table;
-        ready = λ e. union-left (d .jobs .ready) new n small (h .ready (same (d .phase) ∙ e));
+        ready = λ e. union-left (d .jobs .ready) taken n small (h .ready (same (d .phase) ∙ e));
         fate = go (d .phase) (h .fate);
       }
         where
-          same : (p : Phase) → is-task n (up-next p) ≡ is-task n (up-next (with-candidates d new p))
+          same : (p : Phase) → is-task n (up-next p) ≡ is-task n (up-next (with-candidates d taken p))
           same (Between next outgoing) = unfold with-candidates in refl
           same (Within i) = unfold with-candidates in refl
 
-          go : (p : Phase) → Fate (d .jobs .ready) p → Fate (union (d .jobs .ready) new) (with-candidates d new p)
+          go : (p : Phase) → Fate (d .jobs .ready) p → Fate (union (d .jobs .ready) taken) (with-candidates d taken p)
           go (Between next outgoing) f = unfold with-candidates in f
           go (Within i) f = unfold with-candidates in
-              rule .more (d .jobs .ready) (i .candidates) (union (d .jobs .ready) new) (union (i .candidates) (intersection new (d .marked))) (i .copyin)
-              (λ k l m. union-left (d .jobs .ready) new k l m) (λ k l m. union-left (i .candidates) (intersection new (d .marked)) k l m) f
+              rule .more (d .jobs .ready) (i .candidates) (union (d .jobs .ready) taken) (union (i .candidates) (intersection taken (d .marked))) (i .copyin)
+              (λ k l m. union-left (d .jobs .ready) taken k l m) (λ k l m. union-left (i .candidates) (intersection taken (d .marked)) k l m) f
 
-      pub d-waiting : (new : ℕ) (d : State) → NewAt d new (d .phase) → Waiting d → Waiting (step-d d new (d .phase))
+      pub d-waiting : (taken : ℕ) (d : State) → NewAt d taken (d .phase) → Waiting d → Waiting (step-d d taken (d .phase))
       unfolding cancel
-      d-waiting new d new-in h =
-          d-cases Waiting d new h
+      d-waiting taken d new-in h =
+          d-cases Waiting d taken h
           (λ i c fate e s b. record {
             table = h .table;
             ready = λ x. by-test (eqb n c) (λ y. insert-same c (d .jobs .ready) n small y) (λ y. insert-other c (d .jobs .ready) n small (ready-at d e h (ap (is-task n) (held-is (i .copyin) c s) ∙ y)));
-            fate = go i c fate (subst (NewAt d new) e new-in) (as-loaded (d .jobs .ready) (i .candidates) (i .copyin) c s (fate-at d e h)) (highest-of d (intersection new (d .marked))) (best-at d (intersection new (d .marked)) h) b;
+            fate = go i c fate (subst (NewAt d taken) e new-in) (as-loaded (d .jobs .ready) (i .candidates) (i .copyin) c s (fate-at d e h)) (highest-of d (intersection taken (d .marked))) (best-at d (intersection taken (d .marked)) h) b;
           })
         where
           -- a copy-in that is under way gives way as a finished one does
@@ -159,12 +159,12 @@ module _ (pr : List ℕ) (n : ℕ) where
           as-loaded ready candidates k c s f =
               ⊎-elim (λ x. rule .load ready candidates c (x .0) (subst (F ready candidates) (x .1) f)) (λ x. subst (F ready candidates) x f) s
 
-          go : (i : Interval) (c fate : ℕ) → NewIn d new i → F (d .jobs .ready) (i .candidates) (Loaded c)
-              → (q : MaybeTask) → Best pr (intersection new (d .marked)) q → outranks d c q ≡ true → F (insert c (d .jobs .ready)) (i .candidates) (Cancelled c fate)
+          go : (i : Interval) (c fate : ℕ) → NewIn d taken i → F (d .jobs .ready) (i .candidates) (Loaded c)
+              → (q : MaybeTask) → Best pr (intersection taken (d .marked)) q → outranks d c q ≡ true → F (insert c (d .jobs .ready)) (i .candidates) (Cancelled c fate)
           go i c fate k f NoTask x b = absurd (false≢true b)
           go i c fate k f (Task q) x b =
-              let m : member q new ≡ true = intersection-left new (d .marked) q (x .1) in
-              rule .cancel (d .jobs .ready) (i .candidates) c fate q (x .0) (k .ready q (x .0) m) (k .candidates q (x .0) m (intersection-right new (d .marked) q (x .1)))
+              let m : member q taken ≡ true = intersection-left taken (d .marked) q (x .1) in
+              rule .cancel (d .jobs .ready) (i .candidates) c fate q (x .0) (k .ready q (x .0) m) (k .candidates q (x .0) m (intersection-right taken (d .marked) q (x .1)))
               (less (h .table) b) f
             where
               less : d .table .priority ≡ pr → outranks d c (Task q) ≡ true → getD pr q 0 < getD pr c 0
@@ -284,12 +284,12 @@ module _ (pr : List ℕ) (n : ℕ) where
     begun t p (Between y z) next outgoing x d e o h k = absurd o
     begun t p (Within j) next outgoing x d e o h k = subst (λ (p : Phase). Forth (intervals (begin-events t p (Within j))) d) (sym e) (refl, rw o h, λ y. k (rw o at y))
 
-    g-waiting : (t new : ℕ) (f : State) → W f → Forth (intervals (begin-events t (f .phase) (step-g f t new (f .phase) .phase))) (step-g f t new (f .phase))
+    g-waiting : (t taken : ℕ) (f : State) → W f → Forth (intervals (begin-events t (f .phase) (step-g f t taken (f .phase) .phase))) (step-g f t taken (f .phase))
     unfolding begin
-    g-waiting t new f h =
-        g-cases (λ x. Forth (intervals (begin-events t (f .phase) (x .phase))) x) f t new (λ i e. stays t f h) (λ next outgoing e w. stays t f h)
+    g-waiting t taken f h =
+        g-cases (λ x. Forth (intervals (begin-events t (f .phase) (x .phase))) x) f t taken (λ i e. stays t f h) (λ next outgoing e w. stays t f h)
         (λ next outgoing e w.
-        let b : State = begin f t new next outgoing in
+        let b : State = begin f t taken next outgoing in
         let r : processor-task (begin-processor (f .table) t next) ≡ next-task next = runs (f .table) t next in
         begun t (f .phase) (step-e b t (b .phase) .phase) next outgoing (begin-processor (f .table) t next) (step-e b t (b .phase)) e
         (e-opens b t (begin-processor (f .table) t next) refl)
@@ -306,10 +306,10 @@ module _ (pr : List ℕ) (n : ℕ) where
     pub from-c : (d : State) (t set : ℕ) → W (step-c (at-b d t .state) t (new-at d t set) (late-at d t set)) → W (at-e d t set)
     unfolding at-e
     from-c d t set h =
-        let new : ℕ = new-at d t set in
-        let late : ℕ = late-at d t set in
-        let c : State = step-c (at-b d t .state) t new late in
-        e-waiting pr n F Q rule small t (step-d c new (c .phase)) (d-waiting pr n F Q rule small new c (c-new (at-b d t .state) t new late) h)
+        let taken : ℕ = new-at d t set in
+        let deferred : ℕ = late-at d t set in
+        let c : State = step-c (at-b d t .state) t taken deferred in
+        e-waiting pr n F Q rule small t (step-d c taken (c .phase)) (d-waiting pr n F Q rule small taken c (c-new (at-b d t .state) t taken deferred) h)
 
     instant : (d : State) (t set : ℕ) → W d → Forth (intervals (begin-events t (at-f d t set .state .phase) (at-g d t set .phase))) (at-g d t set)
     unfolding at-b at-a

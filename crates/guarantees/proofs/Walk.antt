@@ -9,7 +9,7 @@ use Rattle.rules.specs.Instant.{at-g, occurred}
 use Rattle.rules.specs.Calls.{refusal, instant as instant-step, served as served-step, mark-refusal, with-mark, mark as mark-step, after-call}
 use Rattle.guarantees.proofs.Steps.{Sub}
 use Rattle.guarantees.specs.History.{Event, happens, by-call, after-calls, history}
-use Rattle.guarantees.specs.Entries.{told, answer-of, answers}
+use Rattle.guarantees.specs.Entries.{occurrence-of, answer-of, all-occurred}
 
 -- ---- the state after an instant, served or refused
 
@@ -89,7 +89,7 @@ unfolding by-call answer-of
 each-call d (Instant t set) =
     by-test (eqb (refusal d t set) 0)
     (λ e. inl (record { time = t; set = set; is = refl; no-row = e }))
-    (λ e. inr (same d (Instant t set) (refused d t set e) (rw e) (ap told (refused-answer d t set e))))
+    (λ e. inr (same d (Instant t set) (refused d t set e) (rw e) (ap occurrence-of (refused-answer d t set e))))
 each-call d (Mark n m) =
     by-test (eqb (mark-refusal d n m) 0)
     (λ e. inr (record { marks = with-mark d n m .marked; known = marks-known d n m (eqb m 1) (mark-known d n m e); leaves = mark-served d n m e; silent = refl; untold = refl }))
@@ -143,24 +143,24 @@ module _ (R : State → Type 0)
 module _ (P : State → List Occurred → List Event → Type 0)
     (none : (d : State) → P d [] [])
     (more : (d : State) (t set : ℕ) (cs : List Call) → eqb (refusal d t set) 0 ≡ true → let g : State = at-g d t set in
-    P g (answers g cs) (history g cs) → P d (occurred d t set ∷ answers g cs) (happens d t set ++ history g cs))
+    P g (all-occurred g cs) (history g cs) → P d (occurred d t set ∷ all-occurred g cs) (happens d t set ++ history g cs))
     (quiet : (d : State) (marks : ℕ) (os : List Occurred) (h : List Event) → P (with-marks d marks) os h → P d os h) where
-  told-served : (d : State) (t set : ℕ) (cs : List Call) → eqb (refusal d t set) 0 ≡ true → ((g : State) → P g (answers g cs) (history g cs))
-      → let g : State = after-call d (Instant t set) in P d (answer-of d (Instant t set) ++ answers g cs) (by-call d (Instant t set) ++ history g cs)
+  told-served : (d : State) (t set : ℕ) (cs : List Call) → eqb (refusal d t set) 0 ≡ true → ((g : State) → P g (all-occurred g cs) (history g cs))
+      → let g : State = after-call d (Instant t set) in P d (answer-of d (Instant t set) ++ all-occurred g cs) (by-call d (Instant t set) ++ history g cs)
   unfolding by-call answer-of
   told-served d t set cs e k = rw (e, served d t set e, served-answer d t set e) (more d t set cs e (k (at-g d t set)))
 
-  told-quiet : (d : State) (c : Call) (cs : List Call) → Quiet d c → ((g : State) → P g (answers g cs) (history g cs))
-      → let g : State = after-call d c in P d (answer-of d c ++ answers g cs) (by-call d c ++ history g cs)
+  told-quiet : (d : State) (c : Call) (cs : List Call) → Quiet d c → ((g : State) → P g (all-occurred g cs) (history g cs))
+      → let g : State = after-call d c in P d (answer-of d c ++ all-occurred g cs) (by-call d c ++ history g cs)
   told-quiet d c cs q k =
-      let g : State = with-marks d (q .marks) in rw (q .silent, q .untold, q .leaves) (quiet d (q .marks) (answers g cs) (history g cs) (k g))
+      let g : State = with-marks d (q .marks) in rw (q .silent, q .untold, q .leaves) (quiet d (q .marks) (all-occurred g cs) (history g cs) (k g))
 
-  pub walk-told : (cs : List Call) (d : State) → P d (answers d cs) (history d cs)
-  unfolding answers history
+  pub walk-told : (cs : List Call) (d : State) → P d (all-occurred d cs) (history d cs)
+  unfolding all-occurred history
   walk-told [] d = none d
   walk-told (c ∷ cs) d =
       ⊎-elim
-      (λ s. subst (λ (c : Call). P d (answer-of d c ++ answers (after-call d c) cs) (by-call d c ++ history (after-call d c) cs)) (sym (s .is))
+      (λ s. subst (λ (c : Call). P d (answer-of d c ++ all-occurred (after-call d c) cs) (by-call d c ++ history (after-call d c) cs)) (sym (s .is))
       (told-served d (s .time) (s .set) cs (s .no-row) (λ g. walk-told cs g)))
       (λ q. told-quiet d c cs q (λ g. walk-told cs g))
       (each-call d c)

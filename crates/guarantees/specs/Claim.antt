@@ -1,5 +1,5 @@
--- Demand 3: the claim about a whole list of instants and mark calls. What stands between quotation marks is the demand, or document 01, "The
--- dispatcher by instants", second paragraph; below each quotation stands what it says of a history (History, Queries).
+-- Demand 3: the claim about a whole list of instants and mark calls. What stands between quotation marks is the demand, or document 01,
+-- "The dispatcher by instants", second paragraph; below each quotation stands what it says of a history (History, Queries).
 use Rattle.guarantees.specs.Types.{_≡_, Bool, true, false, cond, List, _∷_, _++_, _⊎_, ℕ, _+_, _*_, _≤_, _<_, Table, MaybeTask, NoTask, Task, State, Due, Never, Tick, NoRefusal, Call}
 use lib.Dec.{leb}
 use lib.ListN.{getD, length}
@@ -69,8 +69,8 @@ pub record CopiedOut (U n t : ℕ) (after : List Event) : Type 0 where
 
 -- for the tasks of a table
 pub record Holds (table : Table) (history : List Event) : Type 0 where
-  -- "this holds of each job taken, whatever is released when"; "A job is marked if its task was at the release." 4/13: a job is counted from its
-  -- taking, which belongs to an interval as a release of that instant does; its mark cannot have changed since its release.
+  -- "this holds of each job taken, whatever is released when"; "A job is marked if its task was at the release." 4/13: a job is counted
+  -- from its taking, which belongs to an interval as a release of that instant does; its mark cannot have changed since its release.
   pub each-job : (before after : List Event) (n t : ℕ) (marked : Bool) → history ≡ before ++ (Takes n t marked ∷ after) →
       let at : Situation = situation NoneOpen before in InOrder (table .priority) n marked (met n at (intervals after))
   -- "If no interval is open and some job is loaded, promoted, ready or waiting for copy-out, an interval begins": a job that is taken while
@@ -89,7 +89,8 @@ pub record Holds (table : Table) (history : List Event) : Type 0 where
   -- and nothing else stops: the open interval executes the job, and its execution has started C ticks before and has not stopped since
   pub each-stop : (before after : List Event) (n u : ℕ) → history ≡ before ++ (Stops n u ∷ after) →
       let x : Latest = latest none-yet before in let y : Execution = execution not-yet before in
-      (s : ℕ) × (x .executed ≡ Task n) × (x .ended ≡ Never) × (y .started ≡ Tick s) × (y .stopped ≡ Never) × (u ≡ s + execution-length (table .columns) n)
+      (s : ℕ) × (x .executed ≡ Task n) × (x .ended ≡ Never) × (y .started ≡ Tick s) × (y .stopped ≡ Never) ×
+      (u ≡ s + execution-length (table .columns) n)
   -- "An interval ends at the later of its two units' ends (R6)": not before its execution has ended
   pub each-end : (before after : List Event) (n e : ℕ) → history ≡ before ++ (Ends e ∷ after) → latest none-yet before .executed ≡ Task n →
       (s : ℕ) × (execution not-yet before .stopped ≡ Tick s)
@@ -101,12 +102,14 @@ pub record Holds (table : Table) (history : List Event) : Type 0 where
       let x : Latest = latest none-yet before in (x .executed ≡ Task n) × (x .ended ≡ Tick b)
   -- and nothing else completes a job: the open interval copies it out, and has begun U ticks before
   pub each-completion : (before after : List Event) (n c : ℕ) → history ≡ before ++ (Completes n c ∷ after) →
-      let x : Latest = latest none-yet before in (b : ℕ) × (x .begun ≡ Tick b) × (x .out ≡ Task n) × (c ≡ b + copyout-length (table .columns) n)
+      let x : Latest = latest none-yet before in
+      (b : ℕ) × (x .begun ≡ Tick b) × (x .out ≡ Task n) × (c ≡ b + copyout-length (table .columns) n)
   -- a task has one pending job at a time, each taken, executed, copied out and completed once; 4/13: and one release that waits behind it
   pub each-task : (n : ℕ) → OneAtATime n history
   -- what occurs at an instant says its tick
   pub in-time : InTime history
-  -- "Where N jobs were taken, at most 3 × N intervals have begun"; "N is the number of releases taken in the list", at once or after waiting
+  -- "Where N jobs were taken, at most 3 × N intervals have begun"; "N is the number of releases taken in
+  -- the list", at once or after waiting
   pub at-most-three : total is-begin history ≤ 3 * total is-take history
 
 -- a job of task n that was taken, and what occurs from then on: it executes and completes

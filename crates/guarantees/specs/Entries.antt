@@ -1,5 +1,6 @@
--- That the entries tell the truth: of each job done (kind 16) and of each interval closed (kind 17) that the calls answer with, what it says is
--- what the history has of it. What stands between quotation marks is document 01; below each quotation stands what it says of a history.
+-- That the entries tell the truth: of each job done (kind 16) and of each interval closed (kind 17) that the calls answer with, what it
+-- says is what the history has of it. What stands between quotation marks is document 01; below each quotation stands what it says of a
+-- history.
 use Rattle.guarantees.specs.Types.{_≡_, Bool, false, cond, _&&_, List, [], _∷_, _++_, ℕ, _+_, _<_, MaybeTask, NoTask, Task, State, Never, Tick, Call, Instant, Mark, Answer, Refused, Served, Occurred, Done, NoJob, Job, Closing, Unclosed, BeforeReleases, AfterReleases, JobEntry, IntervalEntry}
 use lib.Dec.{eqb, ltb}
 use lib.ListN.{getD}
@@ -13,17 +14,17 @@ use Rattle.guarantees.specs.Intervals.{no-course, ended}
 -- ---- What calls answer
 
 -- what occurred, of an instant that is served
-abbrev pub told : Answer → List Occurred
-told (Refused r) = []
-told (Served o) = o ∷ []
+abbrev pub occurrence-of : Answer → List Occurred
+occurrence-of (Refused r) = []
+occurrence-of (Served o) = o ∷ []
 
 unfoldable pub answer-of : State → Call → List Occurred
-answer-of d (Instant t set) = told (instant d t set .answer)
+answer-of d (Instant t set) = occurrence-of (instant d t set .answer)
 answer-of d (Mark n m) = []
 
-unfoldable pub answers : State → List Call → List Occurred
-answers d [] = []
-answers d (c ∷ cs) = answer-of d c ++ answers (after-call d c) cs
+unfoldable pub all-occurred : State → List Call → List Occurred
+all-occurred d [] = []
+all-occurred d (c ∷ cs) = answer-of d c ++ all-occurred (after-call d c) cs
 
 -- ---- The releases of task n
 
@@ -58,7 +59,8 @@ module _ (priority : List ℕ) (n : ℕ) where
   lower-in [] = 0
   lower-in (r ∷ rs) = cond (is-lower r) 1 0 + lower-in rs
 
--- an entry of the instant at t, by what has occurred before it: "task (1), release, execution start, completion (8 each), blocked intervals (1)"
+-- an entry of the instant at t, by what has occurred before it: "task (1), release, execution start,
+-- completion (8 each), blocked intervals (1)"
 pub record TellsJob (priority : List ℕ) (history : List Event) (t : ℕ) (e : JobEntry) : Type 0 where
   -- the job is the last that was taken of its task, "one release that was taken";
   pub before : List Event
@@ -114,10 +116,10 @@ pub record EntriesTell (d : State) (calls : List Call) : Type 0 where
   pub each-job : (before after : List Call) (t set : ℕ) (o : Occurred) (e : JobEntry) → calls ≡ before ++ (Instant t set ∷ after)
       → instant (after-calls d before) t set .answer ≡ Served o → o .done ≡ Job e → TellsJob (d .table .priority) (history d before) t e
   -- "The record has kind 16 at step a": one entry for each job that completes, in their order
-  pub each-done : done (answers d calls) ≡ completions (history d calls)
+  pub each-done : done (all-occurred d calls) ≡ completions (history d calls)
   -- 4/13: at each point of the list, each release that was handed in was taken at once, set waiting or skipped, task by task
   pub each-release : (before after : List Call) (n : ℕ) → calls ≡ before ++ after → n < 32
-      → Balance n (handed-in n d before) (skips n (answers d before)) (history d before)
+      → Balance n (handed-in n d before) (skips n (all-occurred d before)) (history d before)
   -- and at each instant by its set and what waited
   pub each-instant : (before after : List Call) (n t set : ℕ) (o : Occurred) → calls ≡ before ++ (Instant t set ∷ after) → n < 32
       → instant (after-calls d before) t set .answer ≡ Served o
@@ -127,4 +129,4 @@ pub record EntriesTell (d : State) (calls : List Call) : Type 0 where
   pub each-mark : (before after : List Call) (n t set u : ℕ) (m : Bool) (xs ys : List Event) → calls ≡ before ++ (Instant t set ∷ after)
       → by-call (after-calls d before) (Instant t set) ≡ xs ++ (Takes n u m ∷ ys) → m ≡ marked-by n (member n (d .marked)) d before
   -- "kind 17 at the interval's end": one for each interval that ended, in their order, with all that it says
-  pub each-interval : closed (answers d calls) ≡ ended (d .table .priority) no-course (history d calls)
+  pub each-interval : closed (all-occurred d calls) ≡ ended (d .table .priority) no-course (history d calls)

@@ -54,15 +54,15 @@ end-events t (Between next outgoing) after = []
 end-events t (Within i) (Between next outgoing) = Ends t ∷ []
 end-events t (Within i) (Within j) = []
 
--- c. the new jobs of the tasks below a number
+-- c. the jobs that are taken, of the tasks below a number
 unfoldable pub take-events : ℕ → ℕ → ℕ → ℕ → List Event
-take-events zero new marked t = []
-take-events (suc k) new marked t = take-events k new marked t ++ cond (member k new) (Takes k t (member k marked) ∷ []) []
+take-events zero taken marked t = []
+take-events (suc k) taken marked t = take-events k taken marked t ++ cond (member k taken) (Takes k t (member k marked) ∷ []) []
 
 -- and the releases of tasks below a number that wait from now on
 unfoldable pub defer-events : ℕ → ℕ → ℕ → List Event
-defer-events zero late t = []
-defer-events (suc k) late t = defer-events k late t ++ cond (member k late) (Defers k t ∷ []) []
+defer-events zero deferred t = []
+defer-events (suc k) deferred t = defer-events k deferred t ++ cond (member k deferred) (Defers k t ∷ []) []
 
 -- d. a copy-in that had not given way before the step and has after it
 abbrev pub given-way : CopyIn → MaybeTask

@@ -24,7 +24,18 @@ pub record Course : Type 0 where
 -- "the first interval gives the processor half 0"
 abbrev pub no-course : Course
 no-course =
-    record { is-open = false; begin = 0; half = 2; task = NoTask; work = 0; copiedout = NoTask; chosen = NoTask; fate = 0; own = 0; next = 0 }
+    record {
+      is-open = false;
+      begin = 0;
+      half = 2;
+      task = NoTask;
+      work = 0;
+      copiedout = NoTask;
+      chosen = NoTask;
+      fate = 0;
+      own = 0;
+      next = 0;
+    }
 
 abbrev pub with-task : MaybeTask → ℕ → ℕ
 with-task NoTask s = s

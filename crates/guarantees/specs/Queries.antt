@@ -1,5 +1,6 @@
--- The questions that the claim asks of a history: what is open at a point of it, which intervals begin, when the next one ends or begins, when a
--- job starts to execute, stops and completes, and how many events of a kind there are. Each is a walk along the events, and names only the kinds of events that it asks for.
+-- The questions that the claim asks of a history: what is open at a point of it, which intervals begin, when the next one ends or begins,
+-- when a job starts to execute, stops and completes, and how many events of a kind there are. Each is a walk along the events, and names
+-- only the kinds of events that it asks for.
 use Rattle.guarantees.specs.Types.{Bool, false, cond, _&&_, _||_, List, [], _∷_, _++_, ℕ, _+_, MaybeTask, NoTask, Task, Due, Never, Tick}
 use lib.Dec.{eqb}
 use Rattle.guarantees.specs.History.{Event, Comes, Starts, Stops, Finishes, Completes, Ends, Takes, Defers, GivesWay, Begins}
@@ -184,9 +185,9 @@ last-instant = after (λ t e. cond (comes e) (details e .tick) t)
 
 -- ---- A job's intervals
 
--- of the intervals that begin after a job's release, "every one begun by the end of the list, the open one included", those up to the one that
--- executes it; "for a job not yet executed that is as far as it goes". A task has one pending job at a time, so that the first interval
--- that executes task n executes this job.
+-- of the intervals that begin after a job's release, "every one begun by the end of the list, the open one included", those up to the one
+-- that executes it; "for a job not yet executed that is as far as it goes". A task has one pending job at a time, so that the first
+-- interval that executes task n executes this job.
 unfoldable pub upto : ℕ → List MaybeTask → List MaybeTask
 upto n [] = []
 upto n (r ∷ rs) = r ∷ cond (is-task n r) [] (upto n rs)

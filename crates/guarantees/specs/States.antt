@@ -48,7 +48,8 @@ module _ (present : ℕ) where
 
   abbrev pub phase-known : Phase → Type 0
   phase-known (Between next outgoing) = next-known next × outgoing-known outgoing
-  phase-known (Within i) = copyin-known (i .copyin) × processor-known (i .processor) × copyout-known (i .copyout) × set-known (i .candidates)
+  phase-known (Within i) =
+      copyin-known (i .copyin) × processor-known (i .processor) × copyout-known (i .copyout) × set-known (i .candidates)
 
 -- the table has tasks below 32 alone, and every task that the state names is one of them
 pub record Named (table : Table) (d : State) : Type 0 where
@@ -64,7 +65,8 @@ pub record Named (table : Table) (d : State) : Type 0 where
 -- a time has room for every length of a task of the table
 pub record PlainTime (table : Table) (t : ℕ) : Type 0 where
   pub copyin : (n : ℕ) → Known (table .present) n → later t (copyin-length (table .columns) n) ≡ t + copyin-length (table .columns) n
-  pub execution : (n : ℕ) → Known (table .present) n → later t (execution-length (table .columns) n) ≡ t + execution-length (table .columns) n
+  pub execution : (n : ℕ) → Known (table .present) n →
+      later t (execution-length (table .columns) n) ≡ t + execution-length (table .columns) n
   pub copyout : (n : ℕ) → Known (table .present) n → later t (copyout-length (table .columns) n) ≡ t + copyout-length (table .columns) n
 
 -- each count has room for one more

@@ -1,5 +1,6 @@
 -- That the claim says something: it accepts the histories of document 01's plans A to F' and of one with a release that waits, and refuses
--- histories that are wrong in one point each. All are of the plans' tasks: 1 has the highest priority and is marked, then come 2 and 3, which are not.
+-- histories that are wrong in one point each. All are of the plans' tasks: 1 has the highest priority and is
+-- marked, then come 2 and 3, which are not.
 use mathlib.Core.Path.{_≡_}
 use mathlib.Core.Bool.{Bool, true, false}
 use mathlib.Core.List.{List, [], _∷_, _++_}
@@ -38,36 +39,39 @@ plans-table = record { present = 14; priority = three 1 2 3; columns = three 2 2
 -- ---- The plans: the calls, the empty sets at the due times among them, and the history, an instant a line
 
 unfoldable pub calls-a : List Call
-calls-a = Instant 0 8 ∷ Instant 2 4 ∷ Instant 3 2 ∷ Instant 7 0 ∷ Instant 9 0 ∷ Instant 11 0 ∷ Instant 12 0 ∷ Instant 13 0 ∷ Instant 16 0 ∷ Instant 17 0 ∷ []
+calls-a =
+    Instant 0 8 ∷ Instant 2 4 ∷ Instant 3 2 ∷ Instant 7 0 ∷ Instant 9 0 ∷
+    Instant 11 0 ∷ Instant 12 0 ∷ Instant 13 0 ∷ Instant 16 0 ∷ Instant 17 0 ∷ []
+
+-- what occurs from 7 on, in this plan and the next
+abbrev pub from-7 : List Event
+from-7 =
+    Comes 7 ∷ Stops 3 7 ∷ Ends 7 ∷ Begins 7 (Task 1) (Task 3) ∷
+    Comes 9 ∷ Starts 1 9 ∷ Completes 3 9 ∷
+    Comes 11 ∷ Finishes 2 ∷
+    Comes 12 ∷ Stops 1 12 ∷ Ends 12 ∷ Begins 12 (Task 2) (Task 1) ∷ Starts 2 12 ∷
+    Comes 13 ∷ Completes 1 13 ∷
+    Comes 16 ∷ Stops 2 16 ∷ Ends 16 ∷ Begins 16 NoTask (Task 2) ∷
+    Comes 17 ∷ Completes 2 17 ∷ Ends 17 ∷ []
 
 unfoldable pub history-a : List Event
 history-a =
     Comes 0 ∷ Takes 3 0 false ∷ Begins 0 NoTask NoTask ∷
     Comes 2 ∷ Finishes 3 ∷ Ends 2 ∷ Takes 2 2 false ∷ Begins 2 (Task 3) NoTask ∷ Starts 3 2 ∷
     Comes 3 ∷ Takes 1 3 true ∷ GivesWay 2 ∷
-    Comes 7 ∷ Stops 3 7 ∷ Ends 7 ∷ Begins 7 (Task 1) (Task 3) ∷
-    Comes 9 ∷ Starts 1 9 ∷ Completes 3 9 ∷
-    Comes 11 ∷ Finishes 2 ∷
-    Comes 12 ∷ Stops 1 12 ∷ Ends 12 ∷ Begins 12 (Task 2) (Task 1) ∷ Starts 2 12 ∷
-    Comes 13 ∷ Completes 1 13 ∷
-    Comes 16 ∷ Stops 2 16 ∷ Ends 16 ∷ Begins 16 NoTask (Task 2) ∷
-    Comes 17 ∷ Completes 2 17 ∷ Ends 17 ∷ []
+    from-7
 
 unfoldable pub calls-b : List Call
-calls-b = Instant 0 8 ∷ Instant 2 4 ∷ Instant 4 2 ∷ Instant 7 0 ∷ Instant 9 0 ∷ Instant 11 0 ∷ Instant 12 0 ∷ Instant 13 0 ∷ Instant 16 0 ∷ Instant 17 0 ∷ []
+calls-b =
+    Instant 0 8 ∷ Instant 2 4 ∷ Instant 4 2 ∷ Instant 7 0 ∷ Instant 9 0 ∷
+    Instant 11 0 ∷ Instant 12 0 ∷ Instant 13 0 ∷ Instant 16 0 ∷ Instant 17 0 ∷ []
 
 unfoldable pub history-b : List Event
 history-b =
     Comes 0 ∷ Takes 3 0 false ∷ Begins 0 NoTask NoTask ∷
     Comes 2 ∷ Finishes 3 ∷ Ends 2 ∷ Takes 2 2 false ∷ Begins 2 (Task 3) NoTask ∷ Starts 3 2 ∷
     Comes 4 ∷ Finishes 2 ∷ Takes 1 4 true ∷ GivesWay 2 ∷
-    Comes 7 ∷ Stops 3 7 ∷ Ends 7 ∷ Begins 7 (Task 1) (Task 3) ∷
-    Comes 9 ∷ Starts 1 9 ∷ Completes 3 9 ∷
-    Comes 11 ∷ Finishes 2 ∷
-    Comes 12 ∷ Stops 1 12 ∷ Ends 12 ∷ Begins 12 (Task 2) (Task 1) ∷ Starts 2 12 ∷
-    Comes 13 ∷ Completes 1 13 ∷
-    Comes 16 ∷ Stops 2 16 ∷ Ends 16 ∷ Begins 16 NoTask (Task 2) ∷
-    Comes 17 ∷ Completes 2 17 ∷ Ends 17 ∷ []
+    from-7
 
 unfoldable pub calls-c : List Call
 calls-c = Instant 0 2 ∷ Instant 2 0 ∷ Instant 5 0 ∷ Instant 6 0 ∷ []
@@ -135,7 +139,8 @@ history-f′ =
 -- a release of 1 waits from 3 on, while job 3 executes, and is taken at 11, in an interval in which the processor idles
 unfoldable pub calls-waiting : List Call
 calls-waiting =
-    Instant 0 8 ∷ Instant 2 2 ∷ Instant 3 2 ∷ Instant 4 0 ∷ Instant 7 0 ∷ Instant 9 0 ∷ Instant 10 0 ∷ Instant 11 0 ∷ Instant 13 0 ∷ Instant 16 0 ∷ Instant 17 0 ∷ []
+    Instant 0 8 ∷ Instant 2 2 ∷ Instant 3 2 ∷ Instant 4 0 ∷ Instant 7 0 ∷ Instant 9 0 ∷ Instant 10 0 ∷
+    Instant 11 0 ∷ Instant 13 0 ∷ Instant 16 0 ∷ Instant 17 0 ∷ []
 
 unfoldable pub history-waiting : List Event
 history-waiting =
@@ -575,8 +580,8 @@ OneEntry =
 unfoldable pub before-17 : List Event
 before-17 = take 36 history-waiting
 
--- it came at 3 and was taken at 11, and from its taking on no interval blocks it. Refused: the tick of its taking; that of the release before it; and
--- a count from 3 on, which has the interval in which job 3 executes.
+-- it came at 3 and was taken at 11, and from its taking on no interval blocks it. Refused: the tick of its taking; that of the release
+-- before it; and a count from 3 on, which has the interval in which job 3 executes.
 unfoldable pub WaitedEntry : Type 0
 WaitedEntry =
     Tells before-17 17 (job-1 3 13 17 0)

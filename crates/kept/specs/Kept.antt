@@ -1,4 +1,5 @@
--- A mark call on a dispatcher where it is kept promises of what stands there afterwards what the call by value promises of the state that it hands back.
+-- A mark call on a dispatcher where it is kept promises of what stands there afterwards what the call by value
+-- promises of the state that it hands back.
 use Rattle.dispatcher.specs.Types.{ℕ}
 use Rattle.dispatcher.specs.declared.Dispatcher.{Dispatcher}
 use Rattle.rules.specs.declared.MarkAnswer.{MarkAnswer}

@@ -1,4 +1,5 @@
--- The plans of document 01, plans for what finished copies do when a release comes (2/13), and an input for each of refusals 8, 9, 13 and 17.
+-- The plans of document 01, plans for what finished copies do when a release comes (2/13), and an input
+-- for each of refusals 8, 9, 13 and 17.
 use mathlib.Core.List.{List, [], _∷_, _++_}
 use Prim.Native.Nat.{ℕ}
 use Rattle.words.specs.Words.{bytesOf}
@@ -22,7 +23,8 @@ tasks = task 1 1 1 2 3 1 ++ (task 2 2 0 2 4 1 ++ task 3 3 0 2 5 2)
 unfoldable pub two-marked : List ℕ
 two-marked = task 1 1 1 2 3 1 ++ (task 2 2 1 2 4 1 ++ (task 3 3 0 2 5 2 ++ task 4 4 0 2 5 2))
 
--- ---- The records, an entry a line: the fields as document 01 prints them, from the bytes that it names and not by the definitions of the code
+-- ---- The records, an entry a line: the fields as document 01 prints them, from the bytes that it names
+-- and not by the definitions of the code
 
 -- no task, which is printed as a dash
 unfoldable pub none : ℕ

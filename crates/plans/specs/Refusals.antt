@@ -41,8 +41,10 @@ refusals =
     unopened (tasks ++ (1 ∷ 4 ∷ [])) 1 48 ∷
     unopened (task 1 9 2 1 0 1) 6 0 ∷
     -- calls: 16, 10, 14, 15 each alone, then with the next
-    answered tasks (Instant 0 2 ∷ Instant 1 512 ∷ Instant 0 0 ∷ Instant 3 0 ∷ Instant 1000000001 2 ∷ []) (0 ∷ 0 ∷ 0 ∷ 0 ∷ 2 ∷ 16 ∷ 14 ∷ 15 ∷ 10 ∷ []) [] ∷
+    answered tasks (Instant 0 2 ∷ Instant 1 512 ∷ Instant 0 0 ∷ Instant 3 0 ∷ Instant 1000000001 2 ∷ [])
+    (0 ∷ 0 ∷ 0 ∷ 0 ∷ 2 ∷ 16 ∷ 14 ∷ 15 ∷ 10 ∷ []) [] ∷
     answered tasks (Instant 1000000001 512 ∷ Instant 1000000002 0 ∷ Instant 1000000001 2 ∷ []) (0 ∷ 0 ∷ 16 ∷ 0 ∷ 0 ∷ 10 ∷ []) [] ∷
     -- mark calls: 16 before 6 before 17
-    answered tasks (Instant 0 2 ∷ Mark 9 2 ∷ Mark 255 0 ∷ Mark 1 2 ∷ Mark 1 1 ∷ Mark 2 1 ∷ []) (0 ∷ 0 ∷ 0 ∷ 0 ∷ 2 ∷ 16 ∷ 16 ∷ 6 ∷ 17 ∷ 0 ∷ []) [] ∷
+    answered tasks (Instant 0 2 ∷ Mark 9 2 ∷ Mark 255 0 ∷ Mark 1 2 ∷ Mark 1 1 ∷ Mark 2 1 ∷ [])
+    (0 ∷ 0 ∷ 0 ∷ 0 ∷ 2 ∷ 16 ∷ 16 ∷ 6 ∷ 17 ∷ 0 ∷ []) [] ∷
     []

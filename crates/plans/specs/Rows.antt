@@ -18,8 +18,8 @@ use Rattle.table.specs.Refusals.{refusal-number, refusal-place}
 
 -- ---- What is handed in
 
--- an input, with the length of the lent slice, each of whose bytes is 170; or opening bytes and calls; or these, and then a release of a task, at a
--- time, that is put into the state as one that waits, and further calls
+-- an input, with the length of the lent slice, each of whose bytes is 170; or opening bytes and calls; or these, and then a release of a
+-- task, at a time, that is put into the state as one that waits, and further calls
 pub data Given : Type 0 where
   OfFile : List ℕ → ℕ → Given
   OfCalls : List ℕ → List Call → Given
@@ -28,8 +28,8 @@ pub data Given : Type 0 where
 -- ---- What must come of it
 
 -- of a file its number (0 where there is no refusal), its value (the place, the length needed or the record's length) and what the
--- slice holds; of calls the opening's number and place and each call's answer, and the record's bytes of what they made happen; of those behind a
--- release that was put in, each answer, then the candidates for promotion of the interval that is open at the end, and these bytes
+-- slice holds; of calls the opening's number and place and each call's answer, and the record's bytes of what they made happen; of those
+-- behind a release that was put in, each answer, then the candidates for promotion of the interval that is open at the end, and these bytes
 pub record Result : Type 0 where
   pub numbers : List ℕ
   pub memory : List ℕ
@@ -40,7 +40,8 @@ pub record Row : Type 0 where
 
 -- ---- The definitions' answer
 
--- of an instant its number, and where it is served the set skipped and the next due time; its job and its interval stand in the record's bytes
+-- of an instant its number, and where it is served the set skipped and the next due time; its job and
+-- its interval stand in the record's bytes
 abbrev pub in-short : Answer → List ℕ
 in-short (Refused n) = answer-number (Refused n) ∷ []
 in-short (Served o) = answer-number (Served o) ∷ o .skipped ∷ due-values (o .due)
@@ -53,7 +54,8 @@ called d (Mark n m ∷ cs) = let s : MarkStep = mark d n m in mark-number (s .an
 -- the record of the jobs done and the intervals closed by the calls
 unfoldable pub called-moments : State → List Call → List Moment
 called-moments d [] = []
-called-moments d (Instant t set ∷ cs) = let s : Step = instant d t set in served-moment t (s .state) (s .answer) ++ called-moments (s .state) cs
+called-moments d (Instant t set ∷ cs) =
+    let s : Step = instant d t set in served-moment t (s .state) (s .answer) ++ called-moments (s .state) cs
 called-moments d (Mark n m ∷ cs) = called-moments (mark d n m .state) cs
 
 -- the state that calls hand back, and one with a release of task n, at t, as the only one that waits
@@ -74,7 +76,10 @@ found (OfFile s size) =
     record { numbers = outcome-number (w .outcome) ∷ outcome-value (w .outcome) ∷ []; memory = w .memory }
 found (OfCalls s cs) =
     let o : Opening = opening s in
-    record { numbers = refusal-number (o .refusal) ∷ refusal-place (o .refusal) ∷ called (o .state) cs; memory = record-bytes (called-moments (o .state) cs) }
+    record {
+      numbers = refusal-number (o .refusal) ∷ refusal-place (o .refusal) ∷ called (o .state) cs;
+      memory = record-bytes (called-moments (o .state) cs);
+    }
 found (OfPut s before n t cs) =
     let d : State = with-put (called-state (opening s .state) before) n t in
     record { numbers = called d cs ++ (candidates-in (called-state d cs .phase) ∷ []); memory = record-bytes (called-moments d cs) }
@@ -91,17 +96,20 @@ all-expected (r ∷ rs) = r .expected ∷ all-expected rs
 
 -- a file that runs: its input and its record's bytes and length, in a slice of two bytes more
 unfoldable pub recorded : List ℕ → List ℕ → ℕ → ℕ → Row
-recorded input bytes size lent = record { given = OfFile input lent; expected = record { numbers = 0 ∷ size ∷ []; memory = bytes ++ (170 ∷ 170 ∷ []) } }
+recorded input bytes size lent =
+    record { given = OfFile input lent; expected = record { numbers = 0 ∷ size ∷ []; memory = bytes ++ (170 ∷ 170 ∷ []) } }
 
 -- one that is refused: the slice's length, the number and the value; the slice is left as it was
 unfoldable pub refused : List ℕ → ℕ → ℕ → ℕ → Row
-refused input lent n value = record { given = OfFile input lent; expected = record { numbers = n ∷ value ∷ []; memory = replicate lent 170 } }
+refused input lent n value =
+    record { given = OfFile input lent; expected = record { numbers = n ∷ value ∷ []; memory = replicate lent 170 } }
 
 -- opening bytes and calls, with the numbers of the opening and the answers, and the record's bytes of what the calls made happen
 unfoldable pub answered : List ℕ → List Call → List ℕ → List ℕ → Row
 answered input calls numbers bytes = record { given = OfCalls input calls; expected = record { numbers = numbers; memory = bytes } }
 
--- opening bytes, calls, a task and the time of its release that is put in, and further calls, with their answers, the candidates and the bytes
+-- opening bytes, calls, a task and the time of its release that is put in, and further calls, with their
+-- answers, the candidates and the bytes
 unfoldable pub answered-behind : List ℕ → List Call → ℕ → ℕ → List Call → List ℕ → List ℕ → Row
 answered-behind input before n t calls numbers bytes =
     record { given = OfPut input before n t calls; expected = record { numbers = numbers; memory = bytes } }

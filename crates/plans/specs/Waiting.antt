@@ -47,8 +47,8 @@ record-chosen-at-once =
     job 2 5 11 16 0 ++
     interval 15 16 1 none 0 2 none 0 none
 
--- the release of 1 at 3 is taken at 12, while job 2 executes. Its job is blocked in that interval, 11 to 15, and not in 2 to 7, where job 3 executes and it
--- waits: 252 bytes
+-- the release of 1 at 3 is taken at 12, while job 2 executes. Its job is blocked in that interval, 11 to 15, and not in 2 to 7, where
+-- job 3 executes and it waits: 252 bytes
 unfoldable pub record-from-the-taking : List ℕ
 record-from-the-taking =
     interval 0 2 0 none 0 none 3 1 none ++
@@ -75,9 +75,10 @@ record-marks =
 
 -- ---- States that no calls make
 --
--- Where a job completes, the engine has just ended its copy-out and has not chosen yet. So in a run a release that waited finds no copy-in that could give
--- way, no interval ends at its taking, and a mark call finds the pending job before it. The definitions take a release that waits as one of the instant of
--- its taking all the same, and these rows say so: task 1 has no pending job, and a release of it that came at 1 is put in.
+-- Where a job completes, the engine has just ended its copy-out and has not chosen yet. So in a run a release that waited finds no copy-in
+-- that could give way, no interval ends at its taking, and a mark call finds the pending job before it. The definitions take a release that
+-- waits as one of the instant of its taking all the same, and these rows say so: task 1 has no pending job, and a release of it that came
+-- at 1 is put in.
 
 -- plan A from its second interval on, with job 1 released at 1: at 3 the release cancels the copy-in of 2, and is promoted
 unfoldable pub record-cancels : List ℕ
@@ -95,7 +96,8 @@ record-throws-out =
     interval 7 12 0 1 2 3 2 1 none ++
     job 1 1 9 13 1
 
--- the interval ends at step b of the instant of the taking, 7: the copy of 2 stays, and the release belongs to the next, the only one in which it is blocked
+-- the interval ends at step b of the instant of the taking, 7: the copy of 2 stays, and the release belongs to the
+-- next, the only one in which it is blocked
 unfoldable pub record-belongs-to-next : List ℕ
 record-belongs-to-next =
     interval 2 7 1 3 1 none 2 1 none ++
@@ -116,7 +118,8 @@ waiting =
     recorded (tasks ++ (release 0 3 ++ (release 2 1 ++ (release 3 1 ++ (release 9 2))))) record-from-the-taking 252 254 ∷
     -- 17 while a release waits and while its job is pending; not behind that
     answered tasks
-    (Instant 0 2 ∷ Instant 2 0 ∷ Instant 3 2 ∷ Mark 1 0 ∷ Mark 1 1 ∷ Instant 5 0 ∷ Mark 1 0 ∷ Instant 6 0 ∷ Mark 1 0 ∷ Instant 8 0 ∷ Instant 11 0 ∷ Instant 12 0 ∷ Mark 1 0 ∷ [])
+    (Instant 0 2 ∷ Instant 2 0 ∷ Instant 3 2 ∷ Mark 1 0 ∷ Mark 1 1 ∷ Instant 5 0 ∷ Mark 1 0 ∷ Instant 6 0 ∷ Mark 1 0 ∷
+    Instant 8 0 ∷ Instant 11 0 ∷ Instant 12 0 ∷ Mark 1 0 ∷ [])
     (0 ∷ 0 ∷ 0 ∷ 0 ∷ 2 ∷ 0 ∷ 0 ∷ 5 ∷ 0 ∷ 0 ∷ 5 ∷ 17 ∷ 17 ∷ 0 ∷ 0 ∷ 6 ∷ 17 ∷ 0 ∷ 0 ∷ 8 ∷ 17 ∷ 0 ∷ 0 ∷ 11 ∷ 0 ∷ 0 ∷ 12 ∷ 0 ∷ 0 ∷ 0 ∷ [])
     record-marks ∷
     -- a release that is put in
@@ -129,7 +132,8 @@ waiting =
     (Instant 5 0 ∷ Instant 7 0 ∷ Instant 9 0 ∷ Instant 11 0 ∷ Instant 12 0 ∷ Instant 13 0 ∷ [])
     (0 ∷ 0 ∷ 7 ∷ 0 ∷ 0 ∷ 9 ∷ 0 ∷ 0 ∷ 11 ∷ 0 ∷ 0 ∷ 12 ∷ 0 ∷ 0 ∷ 13 ∷ 0 ∷ 0 ∷ 16 ∷ 0 ∷ [])
     record-throws-out ∷
-    answered-behind tasks (Instant 0 8 ∷ Instant 2 4 ∷ Instant 4 0 ∷ []) 1 1 (Instant 7 0 ∷ []) (0 ∷ 0 ∷ 9 ∷ 2 ∷ []) (interval 2 7 1 3 1 none 2 1 none) ∷
+    answered-behind tasks (Instant 0 8 ∷ Instant 2 4 ∷ Instant 4 0 ∷ []) 1 1 (Instant 7 0 ∷ [])
+    (0 ∷ 0 ∷ 9 ∷ 2 ∷ []) (interval 2 7 1 3 1 none 2 1 none) ∷
     answered-behind tasks (Instant 0 8 ∷ Instant 2 4 ∷ Instant 4 0 ∷ []) 1 1
     (Instant 7 0 ∷ Instant 9 0 ∷ Instant 11 0 ∷ Instant 12 0 ∷ Instant 14 0 ∷ Instant 15 0 ∷ [])
     (0 ∷ 0 ∷ 9 ∷ 0 ∷ 0 ∷ 11 ∷ 0 ∷ 0 ∷ 12 ∷ 0 ∷ 0 ∷ 14 ∷ 0 ∷ 0 ∷ 15 ∷ 0 ∷ 0 ∷ 0 ∷ [])

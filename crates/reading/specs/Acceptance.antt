@@ -12,8 +12,8 @@ use Rattle.reading.specs.Types.{List, ℕ, Release, NoRefusal, Outcome, 
 use Rattle.reading.specs.Told.{told}
 use Rattle.reading.specs.Reading.{list-bytes, input-of, reading}
 
--- a list yields a record: the task entries open a dispatcher; with the list's release entries behind them they are an input that is accepted,
--- with just these releases; and the record of its run is these bytes
+-- a list yields a record: the task entries open a dispatcher; with the list's release entries behind them they are an input that is
+-- accepted, with just these releases; and the record of its run is these bytes
 pub record Yields (tasks : List ℕ) (rs : List Release) (bytes : List ℕ) : Type 0 where
   pub opens : opening tasks .refusal ≡ NoRefusal
   pub admissible : releases-of (input-of tasks rs) ≡ Releases rs
@@ -27,7 +27,8 @@ pub record NoList (tasks bytes : List ℕ) : Type 0 where
 
 -- what comes of the task entries, a record and a lent slice
 pub record Accepts (tasks bytes before : List ℕ) (outcome : Outcome) (after : List ℕ) : Type 0 where
-  -- "accepted if and only if some admissible release list yields it; that list .. is what comes back, in a lent slice"; 13 where that is too short
+  -- "accepted if and only if some admissible release list yields it; that list .. is what comes back, in a
+  -- lent slice"; 13 where that is too short
   pub if-yielded : (rs : List Release) → Yields tasks rs bytes → Wrote (written (list-bytes rs) before) outcome after
   pub only-if : (outcome-number outcome ≡ 0) ⊎ (outcome-number outcome ≡ 13)
       → (rs : List Release) × Yields tasks rs bytes × Wrote (written (list-bytes rs) before) outcome after

@@ -115,8 +115,8 @@ few = 512
 abbrev pub some : ℕ
 some = 2048
 
--- memory for reading: task entries that open a dispatcher; room for as many numbers as a file may have releases, or as the record can tell of; and
--- for the input that they make
+-- memory for reading: task entries that open a dispatcher; room for as many numbers as a file may have releases, or as the record can
+-- tell of; and for the input that they make
 pub record Lent (tasks stored keys input : List ℕ) : Type 0 where
   pub opens : opening tasks .refusal ≡ NoRefusal
   pub enough : (limits.releases ≤ length keys) ⊎ (length stored ≤ size 2 * length keys)

@@ -1,6 +1,6 @@
--- The releases that a record tells of: an entry of a job done has its task and its release's time, an entry of a release skipped its task and
--- its time. An interval tells of none. 4/13, "Support's reader must follow the new records": of a job whose release waited the entry has the time at which the release
--- came, so that it is told as it was listed.
+-- The releases that a record tells of: an entry of a job done has its task and its release's time, an entry of a release skipped its task
+-- and its time. An interval tells of none. 4/13, "Support's reader must follow the new records": of a job whose release waited the entry
+-- has the time at which the release came, so that it is told as it was listed.
 use lib.Dec.{leb}
 use lib.ListN.{length}
 use Rattle.entries.specs.Entries.{record-entry-at, record-entry-size}

@@ -15,9 +15,9 @@ use Rattle.guarantees.specs.History.{after-calls, history, EmptySets}
 use Rattle.guarantees.specs.Queries.{total, is-take}
 use Rattle.guarantees.specs.Claim.{AllCompleted}
 use Rattle.guarantees.specs.Releases.{Balance}
-use Rattle.guarantees.specs.Entries.{told, answer-of, handed-in, skips, done, closed}
+use Rattle.guarantees.specs.Entries.{occurrence-of, answer-of, handed-in, skips, done, closed}
 use Rattle.record.proofs.Lengths.{releases-skipped}
-use Rattle.guarantees.specs.Entries.{answers as occurred-by}
+use Rattle.guarantees.specs.Entries.{all-occurred}
 use Rattle.guarantees.proofs.Invariant.{mass, good-opened}
 use Rattle.record.specs.Types.{Release}
 use Rattle.run.specs.Files.{Releases, releases-of}
@@ -54,17 +54,17 @@ one-feed (c ∷ cs) (e ∷ es) d rs h g =
 
 -- ---- what the moments have is what the calls answer
 
-occurrence : (t : ℕ) (d : State) (a : Answer) (ms : List Moment) → occurrences (served-moment t d a ++ ms) ≡ told a ++ occurrences ms
+occurrence : (t : ℕ) (d : State) (a : Answer) (ms : List Moment) → occurrences (served-moment t d a ++ ms) ≡ occurrence-of a ++ occurrences ms
 unfolding occurrences
 occurrence t d (Refused n) ms = refl
 occurrence t d (Served o) ms = refl
 
-pub as-answered : (cs : List Call) (d : State) → occurrences (answers d cs) ≡ occurred-by d cs
-unfolding answers occurrences occurred-by answer-of
+pub as-answered : (cs : List Call) (d : State) → occurrences (answers d cs) ≡ all-occurred d cs
+unfolding answers occurrences all-occurred answer-of
 as-answered [] d = refl
 as-answered (Instant t set ∷ cs) d =
     occurrence t (instant d t set .state) (instant d t set .answer) (answers (after-call d (Instant t set)) cs)
-    ∙ ap (λ (os : List Occurred). told (instant d t set .answer) ++ os) (as-answered cs (after-call d (Instant t set)))
+    ∙ ap (λ (os : List Occurred). occurrence-of (instant d t set .answer) ++ os) (as-answered cs (after-call d (Instant t set)))
 as-answered (Mark n m ∷ cs) d = as-answered cs (after-call d (Mark n m))
 
 -- ---- the file's run
@@ -103,7 +103,7 @@ module _ (s : List ℕ) (rs : List Release) (a : Accepted s rs) where
   releases-so = omega (arith, fed .releases, ap size none-waits, size-none, none-waits-yet)
 
   -- what the record is made of, and what the feed answers
-  same : occurred-by (opened (head-of s .table) (head-of s .marked)) (fed .calls) ≡ occurrences (moments-of s rs)
+  same : all-occurred (opened (head-of s .table) (head-of s .marked)) (fed .calls) ≡ occurrences (moments-of s rs)
   same = sym (as-answered (fed .calls) d) ∙ ap occurrences (fed .gives)
 
   fed-claim : FedClaim (opened (head-of s .table) (head-of s .marked)) rs (moments-of s rs) (fed .calls)

@@ -1,5 +1,5 @@
--- Demand 3 for files: the claim about the run of every file that is accepted. What stands between quotation marks is document 01; beside each quotation
--- stands what it says of a run.
+-- Demand 3 for files: the claim about the run of every file that is accepted. What stands between quotation marks is document 01; beside
+-- each quotation stands what it says of a run.
 use mathlib.Core.Path.{_≡_}
 use Prim.Native.Nat.{_<_}
 use lib.ListN.{length, take}
@@ -24,12 +24,13 @@ use Rattle.record.specs.Writing.{Wrote, file, outcome-number, outcome-va
 
 -- ---- The calls that feed a file to the dispatcher by instants
 
--- "Feeding a file's releases and all due times, with no mark call": each call is an instant at the sooner of the next release and the next due
--- time, with the set released then, until no release is left and nothing is due
+-- "Feeding a file's releases and all due times, with no mark call": each call is an instant at the sooner of the next release and the next
+-- due time, with the set released then, until no release is left and nothing is due
 unfoldable pub Feeds : State → List Release → List Call → Type 0
 Feeds d rs [] = (rs ≡ []) × (due (d .phase) ≡ Never)
 Feeds d rs (c ∷ cs) =
-    (t : ℕ) × (sooner (first-time rs) (due (d .phase)) ≡ Tick t) × (c ≡ Instant t (released-at t rs)) × Feeds (after-call d c) (released-after t rs) cs
+    (t : ℕ) × (sooner (first-time rs) (due (d .phase)) ≡ Tick t) × (c ≡ Instant t (released-at t rs)) ×
+    Feeds (after-call d c) (released-after t rs) cs
 
 -- what calls answer: the instants that are served, with what occurred and the state that they hand back
 abbrev pub served-moment : ℕ → State → Answer → List Moment
@@ -105,7 +106,8 @@ pub record FileClaim (s : List ℕ) (rs : List Release) (d : State) : Type 0 whe
 
 -- for every input that is accepted
 unfoldable pub Demand3Files : Type 0
-Demand3Files = (s : List ℕ) (rs : List Release) → releases-of s ≡ Releases rs → let k : Head = head-of s in FileClaim s rs (opened (k .table) (k .marked))
+Demand3Files = (s : List ℕ) (rs : List Release) → releases-of s ≡ Releases rs →
+    let k : Head = head-of s in FileClaim s rs (opened (k .table) (k .marked))
 
 -- ---- The claim on a promise
 

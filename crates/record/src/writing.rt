@@ -77,11 +77,12 @@ fn run_over(s: &[u8], head: Head, budget: usize, out: &mut [u8], keep: bool) -> 
     go_on(s, from, out, keep)
 }
 
-// The record of a run, in a slice that is long enough, or the length needed. Where there is room for the longest record of so many releases,
-// the run is made once.
+// The record of a run, in a slice that is long enough, or the length needed. Where there is room for the longest record of
+// so many releases, the run is made once.
 fn write_run(s: &[u8], head: Head, out: &mut [u8]) -> Outcome
     requires { ⌜ Runs (now s) (start head) ⌝ }
-    ensures { λ r. ⌜ Wrote (written (run-bytes (now (s .entry)) (start head) (budget-at (now (s .entry)) (start head))) (now (out .entry))) r (now (out .exit)) ⌝ }
+    ensures { λ r. ⌜ Wrote (written (run-bytes (now (s .entry)) (start head) (budget-at (now (s .entry)) (start head))) (now (out .entry)))
+        r (now (out .exit)) ⌝ }
 {
     let n = (s.len() - head.end) / RELEASE_SIZE;
     let budget = limits::INSTANTS_EACH * n + limits::INSTANTS_EACH;

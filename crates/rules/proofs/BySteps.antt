@@ -18,33 +18,33 @@ keeps-done s t (Within i) = by-test (over i) (λ e. rw e) (λ e. rw e)
 
 -- ---- the state after steps b, f and g
 
-pub record Steps (d : State) (t set new late held : ℕ) (b f g : State) : Type 0 where
+pub record Steps (d : State) (t set taken-now deferred-now held : ℕ) (b f g : State) : Type 0 where
   pub b-is : b ≡ at-b d t .state
-  pub new-is : new ≡ taken b set
-  pub late-is : late ≡ deferred b set
-  pub f-is : f ≡ steps-c-to-f b t new late .state
-  pub held-is : held ≡ held-over (b .phase) new
+  pub taken-is : taken-now ≡ taken b set
+  pub deferred-is : deferred-now ≡ deferred b set
+  pub f-is : f ≡ steps-c-to-f b t taken-now deferred-now .state
+  pub held-is : held ≡ held-over (b .phase) taken-now
   pub g-is : g ≡ step-g f t held (f .phase)
 
-module _ {new late held : ℕ} {b f g : State} (d : State) (t set : ℕ) (h : Steps d t set new late held b f g) where
-  new-is-new : new ≡ new-at d t set
+module _ {taken-now deferred-now held : ℕ} {b f g : State} (d : State) (t set : ℕ) (h : Steps d t set taken-now deferred-now held b f g) where
+  taken-is-taken : taken-now ≡ new-at d t set
   unfolding new-at
-  new-is-new = h .new-is ∙ ap (λ x. taken x set) (h .b-is)
+  taken-is-taken = h .taken-is ∙ ap (λ x. taken x set) (h .b-is)
 
-  late-is-late : late ≡ late-at d t set
+  deferred-is-deferred : deferred-now ≡ late-at d t set
   unfolding late-at
-  late-is-late = h .late-is ∙ ap (λ x. deferred x set) (h .b-is)
+  deferred-is-deferred = h .deferred-is ∙ ap (λ x. deferred x set) (h .b-is)
 
-  pub is-f : steps-c-to-f b t new late ≡ at-f d t set
+  pub is-f : steps-c-to-f b t taken-now deferred-now ≡ at-f d t set
   unfolding at-f at-e steps-c-to-f
-  is-f = rw (h .b-is, new-is-new, late-is-late)
+  is-f = rw (h .b-is, taken-is-taken, deferred-is-deferred)
 
   pub is-g : g ≡ at-g d t set
   unfolding at-g
-  is-g = rw (h .g-is, h .f-is ∙ ap (λ (x : Stage). x .state) is-f, h .held-is, h .b-is, new-is-new)
+  is-g = rw (h .g-is, h .f-is ∙ ap (λ (x : Stage). x .state) is-f, h .held-is, h .b-is, taken-is-taken)
 
   pub is-occurred : {o : Occurred} {x y : Closed} → o .done ≡ at-b d t .done
-      → x ≡ at-b d t .closed → y ≡ steps-c-to-f b t new late .closed → o .closed ≡ closing x y
+      → x ≡ at-b d t .closed → y ≡ steps-c-to-f b t taken-now deferred-now .closed → o .closed ≡ closing x y
       → o .skipped ≡ skipped b set → o .due ≡ due (g .phase) → o ≡ occurred d t set
   unfolding occurred
   is-occurred p x y q r s =

@@ -5,7 +5,7 @@ use lib.Dec.{eqb}
 use Rattle.sets.specs.Sets.{union, intersection, difference, insert}
 use Rattle.sets.proofs.Laws.{by-test}
 use Rattle.rules.specs.Instant.{processor-at, copyout-at, copyin-at, ended, completed, after-done, without-done, step-a, resting, settled, processor-task, copyout-task, copyin-task, copyin-fate, without-promoted, next-of, awaiting-copyout, original, stamped, with-candidates, step-c, cancel, work-of, begin-processor, begin-copyout, begin, is-over, closed-with, entry-with}
-use Rattle.rules.specs.Registers.{Arrays, arrays, waits, as-task, as-processor, as-copyout, as-next, as-outgoing, processor-in, copyout-in, copyin-in, interval-in, phase-in, Memory, state-in}
+use Rattle.rules.specs.Registers.{Arrays, arrays, waits, as-task, as-processor, as-copyout, as-next, as-outgoing, processor-in, copyout-in, copyin-in, interval-in, phase-in, Memory, state-with, state-in}
 use Rattle.rules.specs.Steps.{CopyInAt, GivenWay}
 use Rattle.rules.proofs.Parts.{not-copying-out}
 
@@ -17,27 +17,19 @@ with-kept m a w = record { table = m .table; clock = m .clock; arrays = a; waiti
 
 -- the arrays after the releases of a set at a time are taken
 abbrev pub taken-arrays : ℕ → ℕ → WaitingReleases → Arrays → Arrays
-taken-arrays new t w a = arrays (stamped new (original w t) 0 (a .release)) (stamped new (λ k. 0) 0 (a .blocked))
+taken-arrays taken t w a = arrays (stamped taken (original w t) 0 (a .release)) (stamped taken (λ k. 0) 0 (a .blocked))
 
 -- and the waiting releases after that, with those of another set that wait from now on
 abbrev pub waits-after : ℕ → ℕ → ℕ → WaitingReleases → WaitingReleases
-waits-after new late t w = waits (union (difference (w .tasks) new) late) (stamped late (λ k. t) 0 (w .times))
+waits-after taken deferred t w = waits (union (difference (w .tasks) taken) deferred) (stamped deferred (λ k. t) 0 (w .times))
 
 abbrev pub taken-memory : ℕ → ℕ → ℕ → Memory → Memory
-taken-memory new late t m = with-kept m (taken-arrays new t (m .waiting) (m .arrays)) (waits-after new late t (m .waiting))
+taken-memory taken deferred t m = with-kept m (taken-arrays taken t (m .waiting) (m .arrays)) (waits-after taken deferred t (m .waiting))
 
 -- an open interval, by its units
 pub opened-with : (m : Memory) (r : Registers) (p : Processor) (o : CopyOut) (i : CopyIn)
     → eqb (r .copyin) 6 ≡ false → processor-in r ≡ p → copyout-in r ≡ o → copyin-in r ≡ i
-    → state-in m r ≡ record {
-      table = m .table;
-      marked = r .marked;
-      clock = m .clock;
-      half = r .half;
-      jobs = record { pending = r .pending; ready = r .ready; release = m .arrays .release; blocked = m .arrays .blocked };
-      waiting = m .waiting;
-      phase = Within (record { begin = r .begin; work = r .work; processor = p; copyout = o; copyin = i; candidates = r .candidates });
-    }
+    → state-in m r ≡ state-with m r (Within (record { begin = r .begin; work = r .work; processor = p; copyout = o; copyin = i; candidates = r .candidates }))
 unfolding state-in phase-in interval-in
 opened-with m r p o i e ep eo ei = simp (e, ep, eo, ei)
 
@@ -111,27 +103,39 @@ entry-by r t p fate task copiedout chosen promoted a b c d e = simp (a, b, c, d,
 
 pub closed-by : (m : Memory) (r : Registers) (p : MaybeTask) (out ready work n : ℕ)
     → as-outgoing out (r .task) (r .start) ≡ awaiting-copyout (processor-in r) → ready ≡ without-promoted (r .ready) p → as-next work n ≡ next-of (copyin-in r) p
-    → state-in m (record { marked = r .marked; pending = r .pending; ready = ready; candidates = r .candidates; begin = r .begin; start = r .start; until = r .until; outstart = r .start; outuntil = r .outuntil; inuntil = r .inuntil; half = r .half; work = work; processor = r .processor; task = n; copyout = out; outtask = r .task; copyin = 6; intask = r .intask }) ≡ closed-with (state-in m r) (interval-in r) p
+    → state-in m (record {
+      marked = r .marked;
+      pending = r .pending;
+      ready = ready;
+      candidates = r .candidates;
+      begin = r .begin;
+      start = r .start;
+      until = r .until;
+      outstart = r .start;
+      outuntil = r .outuntil;
+      inuntil = r .inuntil;
+      half = r .half;
+      work = work;
+      processor = r .processor;
+      task = n;
+      copyout = out;
+      outtask = r .task;
+      copyin = 6;
+      intask = r .intask;
+    })
+    ≡ closed-with (state-in m r) (interval-in r) p
 unfolding state-in phase-in interval-in closed-with
 closed-by m r p out ready work n o a b = simp (a, b, o)
 
 -- ---- c
 
-pub taken-with : (m : Memory) (r : Registers) (t new late pending ready marked candidates : ℕ)
-    → pending ≡ union (r .pending) new → ready ≡ union (r .ready) new → marked ≡ intersection new (r .marked) → candidates ≡ union (r .candidates) marked
-    → state-in (taken-memory new late t m) (record { marked = r .marked; pending = pending; ready = ready; candidates = candidates; begin = r .begin; start = r .start; until = r .until; outstart = r .outstart; outuntil = r .outuntil; inuntil = r .inuntil; half = r .half; work = r .work; processor = r .processor; task = r .task; copyout = r .copyout; outtask = r .outtask; copyin = r .copyin; intask = r .intask }) ≡ step-c (state-in m r) t new late
-unfolding state-in phase-in interval-in step-c with-candidates
-taken-with m r t new late pending ready marked candidates a b k c =
-    by-test (eqb (r .copyin) 6) (λ e. simp (e, a, b)) (λ e. simp (e, a, b, c, k))
-
--- ---- d
-
-abbrev with-given : Registers → ℕ → ℕ → Registers
-with-given r ready kind = record {
+-- other sets, and another kind of copy-in
+abbrev pub with-sets : Registers → ℕ → ℕ → ℕ → ℕ → Registers
+with-sets r pending ready candidates kind = record {
   marked = r .marked;
-  pending = r .pending;
+  pending = pending;
   ready = ready;
-  candidates = r .candidates;
+  candidates = candidates;
   begin = r .begin;
   start = r .start;
   until = r .until;
@@ -148,6 +152,18 @@ with-given r ready kind = record {
   intask = r .intask;
 }
 
+pub taken-with : (m : Memory) (r : Registers) (t taken deferred pending ready marked candidates : ℕ)
+    → pending ≡ union (r .pending) taken → ready ≡ union (r .ready) taken → marked ≡ intersection taken (r .marked) → candidates ≡ union (r .candidates) marked
+    → state-in (taken-memory taken deferred t m) (with-sets r pending ready candidates (r .copyin)) ≡ step-c (state-in m r) t taken deferred
+unfolding state-in phase-in interval-in step-c with-candidates
+taken-with m r t taken deferred pending ready marked candidates a b k c =
+    by-test (eqb (r .copyin) 6) (λ e. simp (e, a, b)) (λ e. simp (e, a, b, c, k))
+
+-- ---- d
+
+abbrev with-given : Registers → ℕ → ℕ → Registers
+with-given r ready kind = with-sets r (r .pending) ready (r .candidates) kind
+
 -- the copy-in gives way
 pub given-with : (m : Memory) (r : Registers) (ready kind : ℕ) → GivenWay (r .copyin) kind → ready ≡ insert (r .intask) (r .ready)
     → state-in m (with-given r ready kind) ≡ cancel (state-in m r) (interval-in r) (r .intask) (cond (eqb (r .copyin) 3) 3 2) true
@@ -159,12 +175,32 @@ given-with m r ready kind g e =
 
 -- ---- g
 
-pub begun-with : (m : Memory) (r : Registers) (t new kind until out outuntil half work candidates : ℕ)
+pub begun-with : (m : Memory) (r : Registers) (t taken kind until out outuntil half work candidates : ℕ)
     → as-processor kind (r .task) t until ≡ begin-processor (m .table) t (as-next (r .work) (r .task))
     → as-copyout out (r .outtask) (r .outstart) outuntil ≡ begin-copyout (m .table) t (as-outgoing (r .copyout) (r .outtask) (r .outstart))
     → half ≡ 1 - r .half
     → work ≡ work-of (as-next (r .work) (r .task))
-    → candidates ≡ intersection new (r .marked)
-    → state-in m (record { marked = r .marked; pending = r .pending; ready = r .ready; candidates = candidates; begin = t; start = t; until = until; outstart = r .outstart; outuntil = outuntil; inuntil = r .inuntil; half = half; work = work; processor = kind; task = r .task; copyout = out; outtask = r .outtask; copyin = 0; intask = r .intask }) ≡ begin (state-in m r) t new (as-next (r .work) (r .task)) (as-outgoing (r .copyout) (r .outtask) (r .outstart))
+    → candidates ≡ intersection taken (r .marked)
+    → state-in m (record {
+      marked = r .marked;
+      pending = r .pending;
+      ready = r .ready;
+      candidates = candidates;
+      begin = t;
+      start = t;
+      until = until;
+      outstart = r .outstart;
+      outuntil = outuntil;
+      inuntil = r .inuntil;
+      half = half;
+      work = work;
+      processor = kind;
+      task = r .task;
+      copyout = out;
+      outtask = r .outtask;
+      copyin = 0;
+      intask = r .intask;
+    })
+    ≡ begin (state-in m r) t taken (as-next (r .work) (r .task)) (as-outgoing (r .copyout) (r .outtask) (r .outstart))
 unfolding state-in phase-in interval-in begin
-begun-with m r t new kind until out outuntil half work candidates p o h x c = simp (p, o, h, x, c)
+begun-with m r t taken kind until out outuntil half work candidates p o h x c = simp (p, o, h, x, c)

@@ -111,30 +111,30 @@ none-some : {e : IntervalEntry} → NoInterval ≡ Span e → ⊥
 unfolding is-some
 none-some h = false≢true (ap is-some h)
 
-none-open : (d : State) (i : Interval) (t new late : ℕ) → step-e-f (steps-c-d (close d i) t new late) t .closed ≡ NoInterval
+none-open : (d : State) (i : Interval) (t taken-now deferred-now : ℕ) → step-e-f (steps-c-d (close d i) t taken-now deferred-now) t .closed ≡ NoInterval
 unfolding close closed-with steps-c-d step-c with-candidates step-d step-e step-b
-none-open d i t new late = refl
+none-open d i t taken-now deferred-now = refl
 
-once : (d : State) (t new late : ℕ) (p : Phase) (e : IntervalEntry) → step-b (fresh-stage d) t p .closed ≡ Span e
-    → step-e-f (steps-c-d (step-b (fresh-stage d) t p .state) t new late) t .closed ≡ NoInterval
+once : (d : State) (t taken-now deferred-now : ℕ) (p : Phase) (e : IntervalEntry) → step-b (fresh-stage d) t p .closed ≡ Span e
+    → step-e-f (steps-c-d (step-b (fresh-stage d) t p .state) t taken-now deferred-now) t .closed ≡ NoInterval
 unfolding step-b close-stage
-once d t new late (Between next outgoing) e h = absurd (none-some h)
-once d t new late (Within i) e h = by-test (over i) (λ o. rw o (none-open d i t new late)) (λ o. absurd (none-some (rw o at h)))
+once d t taken-now deferred-now (Between next outgoing) e h = absurd (none-some h)
+once d t taken-now deferred-now (Within i) e h = by-test (over i) (λ o. rw o (none-open d i t taken-now deferred-now)) (λ o. absurd (none-some (rw o at h)))
 
 -- ---- the states that the steps leave one after the other, and the sets in between
 
-pub record Left (d : State) (t set new late held : ℕ) (timed a b x f g : State) : Type 0 where
+pub record Left (d : State) (t set taken-now deferred-now held : ℕ) (timed a b x f g : State) : Type 0 where
   pub timed-is : timed ≡ at-clock d t
   pub a-is : a ≡ step-a timed t (timed .phase) .state
   pub b-is : b ≡ step-f a t .state
-  pub new-is : new ≡ taken b set
-  pub late-is : late ≡ deferred b set
-  pub held-is : held ≡ held-over (b .phase) new
-  pub x-is : x ≡ steps-c-d b t new late
+  pub taken-is : taken-now ≡ taken b set
+  pub deferred-is : deferred-now ≡ deferred b set
+  pub held-is : held ≡ held-over (b .phase) taken-now
+  pub x-is : x ≡ steps-c-d b t taken-now deferred-now
   pub f-is : f ≡ step-e-f x t .state
   pub g-is : g ≡ step-g f t held (f .phase)
 
-module _ {new late held : ℕ} {timed a b x f g : State} (d : State) (t set : ℕ) (h : Left d t set new late held timed a b x f g) where
+module _ {taken-now deferred-now held : ℕ} {timed a b x f g : State} (d : State) (t set : ℕ) (h : Left d t set taken-now deferred-now held timed a b x f g) where
   a-at : a ≡ at-a d t .state
   unfolding at-a
   a-at = h .a-is ∙ ap (λ (z : State). step-a z t (z .phase) .state) (h .timed-is)
@@ -151,15 +151,15 @@ module _ {new late held : ℕ} {timed a b x f g : State} (d : State) (t set : �
   unfolding at-b at-a
   done-at = ap (λ (z : State). step-a z t (z .phase) .done) (h .timed-is) ∙ sym (keeps-done (at-a d t) t (at-a d t .state .phase))
 
-  f-at : step-e-f x t ≡ steps-c-to-f b t new late
+  f-at : step-e-f x t ≡ steps-c-to-f b t taken-now deferred-now
   unfolding steps-c-to-f steps-c-to-e
   f-at = ap (λ (z : State). step-e-f z t) (h .x-is)
 
-  steps : Steps d t set new late held b f g
+  steps : Steps d t set taken-now deferred-now held b f g
   steps = record {
     b-is = h .b-is ∙ b-at;
-    new-is = h .new-is;
-    late-is = h .late-is;
+    taken-is = h .taken-is;
+    deferred-is = h .deferred-is;
     f-is = h .f-is ∙ ap (λ (z : Stage). z .state) f-at;
     held-is = h .held-is;
     g-is = h .g-is;
@@ -177,4 +177,4 @@ module _ {new late held : ℕ} {timed a b x f g : State} (d : State) (t set : �
 
   -- and at most one interval ended
   pub once-here : (e : IntervalEntry) → step-f a t .closed ≡ Span e → step-e-f x t .closed ≡ NoInterval
-  once-here e s = ap (λ (z : State). step-e-f z t .closed) (h .x-is ∙ ap (λ (z : State). steps-c-d z t new late) (h .b-is)) ∙ once a t new late (a .phase) e s
+  once-here e s = ap (λ (z : State). step-e-f z t .closed) (h .x-is ∙ ap (λ (z : State). steps-c-d z t taken-now deferred-now) (h .b-is)) ∙ once a t taken-now deferred-now (a .phase) e s

@@ -16,7 +16,7 @@ use Rattle.rules.specs.Registers.{as-task, as-processor, as-copyout, as-
 use Rattle.rules.specs.Steps.{CopyInAt, GivenWay, next-in, outgoing-in, ProcessorSet, NextSet, CopiesOut, CopyInSet, ProcessorTo}
 use Rattle.rules.specs.Kept.{Kept, kept, Whole, ByTask, Beside, beside, registers-in, memory-in, read, Becomes, copyout-ends}
 use Rattle.rules.proofs.Parts.{copyout-stays, none-completed, is-completed, job-completed, not-yet-completed, nothing-completed, not-copying-out, copyout-begins}
-use Rattle.rules.proofs.Fields.{none-ends, copies, ends-settled, not-ended, ended-with, begun-with, closed-by, given-with, taken-with}
+use Rattle.rules.proofs.Fields.{none-ends, copies, ends-settled, not-ended, ended-with, begun-with, closed-by, given-with, taken-with, with-sets}
 use Rattle.rules.proofs.Releases.{same-memory}
 
 -- for all lists of n numbers, number by number
@@ -53,7 +53,26 @@ by-numbers P h k w =
     (λ begin start until outstart outuntil inuntil last. by-length 6 (λ y. P (kept (begin ∷ start ∷ until ∷ outstart ∷ outuntil ∷ inuntil ∷ last ∷ []) y (k .codes)))
     (λ marked pending ready candidates present waiting. by-length 9 (λ z. P (kept (begin ∷ start ∷ until ∷ outstart ∷ outuntil ∷ inuntil ∷ last ∷ []) (marked ∷ pending ∷ ready ∷ candidates ∷ present ∷ waiting ∷ []) z))
     (λ half work processor task copyout outtask copyin intask timed. h
-    (record { marked = marked; pending = pending; ready = ready; candidates = candidates; begin = begin; start = start; until = until; outstart = outstart; outuntil = outuntil; inuntil = inuntil; half = half; work = work; processor = processor; task = task; copyout = copyout; outtask = outtask; copyin = copyin; intask = intask })
+    (record {
+      marked = marked;
+      pending = pending;
+      ready = ready;
+      candidates = candidates;
+      begin = begin;
+      start = start;
+      until = until;
+      outstart = outstart;
+      outuntil = outuntil;
+      inuntil = inuntil;
+      half = half;
+      work = work;
+      processor = processor;
+      task = task;
+      copyout = copyout;
+      outtask = outtask;
+      copyin = copyin;
+      intask = intask;
+    })
     (record { present = present; waiting = waiting; last = last; timed = timed }))
     (k .codes) (w .codes-whole)) (k .sets) (w .sets-whole)) (k .times) (w .times-whole)
 
@@ -141,43 +160,43 @@ both {f} {g} x y = record { whole = y .whole; state = y .state ∙ ap g (x .stat
 -- ---- g
 
 -- an interval has begun, with its copy-out, and the choice is to be made
-pub record Opened (b : Beside) (t new out : ℕ) (k k' : Kept) : Type 0 where
-  pub becomes : Becomes (λ d. begin d t new (next-in k) (outgoing-in k)) k b k' b
+pub record Opened (b : Beside) (t taken out : ℕ) (k k' : Kept) : Type 0 where
+  pub becomes : Becomes (λ d. begin d t taken (next-in k) (outgoing-in k)) k b k' b
   pub unchosen : getD (k' .codes) 6 0 ≡ 0
   pub copies : getD (k' .codes) 4 0 ≡ out
 
 -- what it begins with: its processor and its work, its copy-out, its half and its candidates
 abbrev Begins : Beside → ℕ → ℕ → ℕ → ℕ → ℕ → ℕ → ℕ → ℕ → ℕ → Kept → Kept → Type 0
-Begins b t new kind until works out outuntil half candidates k k' =
+Begins b t taken kind until works out outuntil half candidates k k' =
     as-processor kind (getD (k .codes) 3 0) t until ≡ begin-processor (memory-in k b .table) t (next-in k)
     → works ≡ work-of (next-in k)
     → as-copyout out (getD (k .codes) 5 0) (getD (k .times) 3 0) outuntil ≡ begin-copyout (memory-in k b .table) t (outgoing-in k)
     → half ≡ 1 - getD (k .codes) 0 0
-    → candidates ≡ intersection new (getD (k .sets) 0 0)
-    → Opened b t new out k k'
+    → candidates ≡ intersection taken (getD (k .sets) 0 0)
+    → Opened b t taken out k k'
 
-module _ (b : Beside) (t new kind until works : ℕ) where
+module _ (b : Beside) (t taken kind until works : ℕ) where
   begun-copying : (outuntil half candidates : ℕ) (k : Kept) → Whole k
-      → Begins b t new kind until works 1 outuntil half candidates k
+      → Begins b t taken kind until works 1 outuntil half candidates k
       (kept (set (set (set (set (k .times) 0 t) 1 t) 2 until) 4 outuntil) (set (k .sets) 3 candidates) (set (set (set (set (set (k .codes) 0 half) 6 0) 1 works) 2 kind) 4 1))
   begun-copying outuntil half candidates =
       by-numbers _ (λ r y. λ p x o h c. record {
         becomes = record {
           whole = record { times-whole = refl; sets-whole = refl; codes-whole = refl };
-          state = begun-with (memory-in (listed r y) b) r t new kind until 1 outuntil half works candidates p o h x c;
+          state = begun-with (memory-in (listed r y) b) r t taken kind until 1 outuntil half works candidates p o h x c;
         };
         unchosen = refl;
         copies = refl;
       })
 
   begun-free : (half candidates : ℕ) (k : Kept) → Whole k
-      → Begins b t new kind until works (getD (k .codes) 4 0) t half candidates k
+      → Begins b t taken kind until works (getD (k .codes) 4 0) t half candidates k
       (kept (set (set (set (set (k .times) 0 t) 1 t) 2 until) 4 t) (set (k .sets) 3 candidates) (set (set (set (set (k .codes) 0 half) 6 0) 1 works) 2 kind))
   begun-free half candidates =
       by-numbers _ (λ r y. λ p x o h c. record {
         becomes = record {
           whole = record { times-whole = refl; sets-whole = refl; codes-whole = refl };
-          state = begun-with (memory-in (listed r y) b) r t new kind until (r .copyout) t half works candidates p o h x c;
+          state = begun-with (memory-in (listed r y) b) r t taken kind until (r .copyout) t half works candidates p o h x c;
         };
         unchosen = refl;
         copies = refl;
@@ -191,36 +210,36 @@ pub work-stays : (half : ℕ) (k : Kept) → Whole k → getD (k .codes) 1 0 ≡
 work-stays half = by-numbers _ (λ r y. refl)
 
 -- with its processor set
-module _ (b : Beside) (t new half candidates : ℕ) (k : Kept) (w : Whole k) {times' codes' : List ℕ}
+module _ (b : Beside) (t taken half candidates : ℕ) (k : Kept) (w : Whole k) {times' codes' : List ℕ}
     (s : ProcessorSet (getD (k .codes) 1 0) (getD (k .codes) 3 0) t (b .columns) (set (set (k .times) 0 t) 1 t) (set (set (k .codes) 0 half) 6 0) times' codes')
-    (h : half ≡ 1 - getD (k .codes) 0 0) (c : candidates ≡ intersection new (getD (k .sets) 0 0)) where
+    (h : half ≡ 1 - getD (k .codes) 0 0) (c : candidates ≡ intersection taken (getD (k .sets) 0 0)) where
   pub opened-copying : (outuntil length : ℕ) → (getD (k .codes) 4 0 ≡ 0 → ⊥) → length ≡ copyout-length (b .columns) (getD (k .codes) 5 0) → outuntil ≡ later t length
-      → Opened b t new 1 k (kept (set times' 4 outuntil) (set (k .sets) 3 candidates) (set codes' 4 1))
+      → Opened b t taken 1 k (kept (set times' 4 outuntil) (set (k .sets) 3 candidates) (set codes' 4 1))
   opened-copying outuntil length ne l u =
-      subst (Opened b t new 1 k) (simp (s .times-are, s .codes-are))
-      (begun-copying b t new (s .kind) (s .until) (s .works) outuntil half candidates k w (s .is (memory-in k b .table) refl) (s .works-is)
+      subst (Opened b t taken 1 k) (simp (s .times-are, s .codes-are))
+      (begun-copying b t taken (s .kind) (s .until) (s .works) outuntil half candidates k w (s .is (memory-in k b .table) refl) (s .works-is)
       (copyout-begins (memory-in k b .table) (b .columns) t (getD (k .codes) 4 0) (getD (k .codes) 5 0) (getD (k .times) 3 0) length outuntil (ne-eqb _ _ ne) l u refl) h c)
 
   pub opened-free : getD (k .codes) 4 0 ≡ 0
-      → Opened b t new (getD (k .codes) 4 0) k (kept (set times' 4 t) (set (k .sets) 3 candidates) codes')
+      → Opened b t taken (getD (k .codes) 4 0) k (kept (set times' 4 t) (set (k .sets) 3 candidates) codes')
   opened-free e =
-      subst (Opened b t new (getD (k .codes) 4 0) k) (simp (s .times-are, s .codes-are))
-      (begun-free b t new (s .kind) (s .until) (s .works) half candidates k w (s .is (memory-in k b .table) refl) (s .works-is) (simp e) h c)
+      subst (Opened b t taken (getD (k .codes) 4 0) k) (simp (s .times-are, s .codes-are))
+      (begun-free b t taken (s .kind) (s .until) (s .works) half candidates k w (s .is (memory-in k b .table) refl) (s .works-is) (simp e) h c)
 
-pub in-interval : (b : Beside) (t new : ℕ) (k : Kept) → Whole k → (getD (k .codes) 6 0 ≡ 6 → ⊥) → Becomes (λ d. step-g d t new (d .phase)) k b k b
+pub in-interval : (b : Beside) (t taken : ℕ) (k : Kept) → Whole k → (getD (k .codes) 6 0 ≡ 6 → ⊥) → Becomes (λ d. step-g d t taken (d .phase)) k b k b
 unfolding step-g state-in phase-in
-in-interval b t new k w ne = record { whole = w; state = simp (ne-eqb _ _ ne) }
+in-interval b t taken k w ne = record { whole = w; state = simp (ne-eqb _ _ ne) }
 
-pub not-begun : (b : Beside) (t new : ℕ) (k : Kept) → Whole k → getD (k .codes) 6 0 ≡ 6 → false ≡ wanted (next-in k) (outgoing-in k) (getD (k .sets) 2 0)
-    → Becomes (λ d. step-g d t new (d .phase)) k b k b
+pub not-begun : (b : Beside) (t taken : ℕ) (k : Kept) → Whole k → getD (k .codes) 6 0 ≡ 6 → false ≡ wanted (next-in k) (outgoing-in k) (getD (k .sets) 2 0)
+    → Becomes (λ d. step-g d t taken (d .phase)) k b k b
 unfolding step-g state-in phase-in
-not-begun b t new k w e x = record { whole = w; state = simp (e, ← x) }
+not-begun b t taken k w e x = record { whole = w; state = simp (e, ← x) }
 
-pub begun-now : (b : Beside) (t new : ℕ) (k k' : Kept) → getD (k .codes) 6 0 ≡ 6 → true ≡ wanted (next-in k) (outgoing-in k) (getD (k .sets) 2 0)
-    → Becomes (λ d. let x : State = begin d t new (next-in k) (outgoing-in k) in step-e x t (x .phase)) k b k' b
-    → Becomes (λ d. step-g d t new (d .phase)) k b k' b
+pub begun-now : (b : Beside) (t taken : ℕ) (k k' : Kept) → getD (k .codes) 6 0 ≡ 6 → true ≡ wanted (next-in k) (outgoing-in k) (getD (k .sets) 2 0)
+    → Becomes (λ d. let x : State = begin d t taken (next-in k) (outgoing-in k) in step-e x t (x .phase)) k b k' b
+    → Becomes (λ d. step-g d t taken (d .phase)) k b k' b
 unfolding step-g state-in phase-in
-begun-now b t new k k' e x h = as-well h (simp (e, ← x))
+begun-now b t taken k k' e x h = as-well h (simp (e, ← x))
 
 -- ---- c and d
 
@@ -234,24 +253,24 @@ given-at b ready kind =
     })
 
 -- the releases of a set are taken, and those of another wait
-pub taken-at : (priority columns : List ℕ) (o o' : ByTask) (t new late before waiting pending ready marked candidates : ℕ) (k : Kept) → Whole k
-    → before ≡ difference (getD (k .sets) 5 0) new → waiting ≡ union before late
-    → pending ≡ union (getD (set (k .sets) 5 waiting) 1 0) new
-    → ready ≡ union (getD (set (set (k .sets) 5 waiting) 1 pending) 2 0) new
-    → marked ≡ intersection new (getD (set (set (set (k .sets) 5 waiting) 1 pending) 2 ready) 0 0)
+pub releases-taken : (priority columns : List ℕ) (o o' : ByTask) (t taken deferred before waiting pending ready marked candidates : ℕ) (k : Kept) → Whole k
+    → before ≡ difference (getD (k .sets) 5 0) taken → waiting ≡ union before deferred
+    → pending ≡ union (getD (set (k .sets) 5 waiting) 1 0) taken
+    → ready ≡ union (getD (set (set (k .sets) 5 waiting) 1 pending) 2 0) taken
+    → marked ≡ intersection taken (getD (set (set (set (k .sets) 5 waiting) 1 pending) 2 ready) 0 0)
     → candidates ≡ union (getD (set (set (set (k .sets) 5 waiting) 1 pending) 2 ready) 3 0) marked
-    → o' .release ≡ stamped new (original (waits (getD (k .sets) 5 0) (o .waits)) t) 0 (o .release)
-    → o' .blocked ≡ stamped new (λ k. 0) 0 (o .blocked)
-    → o' .waits ≡ stamped late (λ k. t) 0 (o .waits)
-    → Becomes (λ d. step-c d t new late) k (beside priority columns o)
+    → o' .release ≡ stamped taken (original (waits (getD (k .sets) 5 0) (o .waits)) t) 0 (o .release)
+    → o' .blocked ≡ stamped taken (λ k. 0) 0 (o .blocked)
+    → o' .waits ≡ stamped deferred (λ k. t) 0 (o .waits)
+    → Becomes (λ d. step-c d t taken deferred) k (beside priority columns o)
     (kept (k .times) (set (set (set (set (k .sets) 5 waiting) 1 pending) 2 ready) 3 candidates) (k .codes)) (beside priority columns o')
-taken-at priority columns o o' t new late before waiting pending ready marked candidates =
+releases-taken priority columns o o' t taken deferred before waiting pending ready marked candidates =
     by-numbers _ (λ r y. λ ed ew ep er em ec x z u. record {
       whole = record { times-whole = refl; sets-whole = refl; codes-whole = refl };
       state = same-memory (memory-in (listed r y) (beside priority columns o))
-          (record { marked = r .marked; pending = pending; ready = ready; candidates = candidates; begin = r .begin; start = r .start; until = r .until; outstart = r .outstart; outuntil = r .outuntil; inuntil = r .inuntil; half = r .half; work = r .work; processor = r .processor; task = r .task; copyout = r .copyout; outtask = r .outtask; copyin = r .copyin; intask = r .intask })
-          x z (ew ∙ ap (λ s. union s late) ed) u
-          ∙ taken-with (memory-in (listed r y) (beside priority columns o)) r t new late pending ready marked candidates ep er em ec;
+          (with-sets r pending ready candidates (r .copyin))
+          x z (ew ∙ ap (λ s. union s deferred) ed) u
+          ∙ taken-with (memory-in (listed r y) (beside priority columns o)) r t taken deferred pending ready marked candidates ep er em ec;
     })
 
 -- ---- a

@@ -13,9 +13,9 @@ use Rattle.rules.proofs.ByTask.{stamped-none}
 use Rattle.rules.proofs.Fields.{with-kept, taken-memory, taken-with}
 
 -- where the engine holds no job nothing changes
-pub stays : (d : State) (new : ℕ) (r : Registers) → is-held (r .copyin) ≡ false → d ≡ step-d d new (phase-in r)
+pub stays : (d : State) (taken : ℕ) (r : Registers) → is-held (r .copyin) ≡ false → d ≡ step-d d taken (phase-in r)
 unfolding cancel-by step-d interval-in phase-in
-stays d new r h =
+stays d taken r h =
     let k : ℕ = r .copyin in
     by-test (eqb k 6)
     (λ e. simp e)
@@ -32,11 +32,11 @@ stays d new r h =
     neither false b e = (refl, e)
 
 -- where it holds one, this gives way, or does not
-pub cancels : {by : MaybeTask} {b : Bool} (d : State) (new : ℕ) (r : Registers)
-    → is-held (r .copyin) ≡ true → by ≡ highest (d .table .priority) (intersection new (d .marked)) → b ≡ outranks d (r .intask) by
-    → step-d d new (phase-in r) ≡ cancel d (interval-in r) (r .intask) (cond (eqb (r .copyin) 3) 3 2) b
+pub cancels : {by : MaybeTask} {b : Bool} (d : State) (taken : ℕ) (r : Registers)
+    → is-held (r .copyin) ≡ true → by ≡ highest (d .table .priority) (intersection taken (d .marked)) → b ≡ outranks d (r .intask) by
+    → step-d d taken (phase-in r) ≡ cancel d (interval-in r) (r .intask) (cond (eqb (r .copyin) 3) 3 2) b
 unfolding cancel-by step-d interval-in phase-in
-cancels d new r h e q =
+cancels d taken r h e q =
     by-test (eqb (r .copyin) 3)
     (λ t. let z : r .copyin ≡ 3 = eqb-true (r .copyin) 3 t in rw (z, q, e))
     (λ f. let z : r .copyin ≡ 2 = eqb-true (r .copyin) 2 (other (eqb (r .copyin) 2) (eqb (r .copyin) 3) h f) in rw (z, q, e))
@@ -45,9 +45,9 @@ cancels d new r h e q =
     other true b h f = refl
     other false b h f = sym f ∙ h
 
-pub steps : {x y : State} (d : State) (t new late : ℕ) → x ≡ step-c d t new late → y ≡ step-d x new (x .phase) → y ≡ steps-c-d d t new late
+pub steps : {x y : State} (d : State) (t taken deferred : ℕ) → x ≡ step-c d t taken deferred → y ≡ step-d x taken (x .phase) → y ≡ steps-c-d d t taken deferred
 unfolding steps-c-d
-steps d t new late e f = rw (f, e)
+steps d t taken deferred e f = rw (f, e)
 
 -- ---- no release
 
@@ -108,9 +108,9 @@ none-taken m r t p q c w =
     ∙ taken-with m r t 0 0 (r .pending) (r .ready) 0 (r .candidates)
     (sym (union-none (r .pending) p)) (sym (union-none (r .ready) q)) (sym (intersection-none (r .marked))) (sym (union-none (r .candidates) c))
 
-pub none-released : (m : Memory) (r : Registers) (t new late : ℕ) → r .pending < 2 ^ 32 → r .ready < 2 ^ 32 → r .candidates < 2 ^ 32 → m .waiting .tasks < 2 ^ 32
-    → new ≡ 0 → late ≡ 0 → state-in m r ≡ steps-c-d (state-in m r) t new late
-none-released m r t new late p q c w e f =
+pub none-released : (m : Memory) (r : Registers) (t taken deferred : ℕ) → r .pending < 2 ^ 32 → r .ready < 2 ^ 32 → r .candidates < 2 ^ 32 → m .waiting .tasks < 2 ^ 32
+    → taken ≡ 0 → deferred ≡ 0 → state-in m r ≡ steps-c-d (state-in m r) t taken deferred
+none-released m r t taken deferred p q c w e f =
     steps (state-in m r) t 0 0 (none-taken m r t p q c w) (none-cancelled (state-in m r) (state-in m r .phase))
     ∙ sym (ap₂ (λ x y. steps-c-d (state-in m r) t x y) e f)
 

@@ -13,8 +13,8 @@ executed-in (Within i) = cond (over i) (processor-task (i .processor)) NoTask
 unfoldable pub blockable : State → ℕ
 blockable d = higher d (executed-in (d .phase)) (d .table .present)
 
--- In words: a task is in the set if and only if it is in the table, an interval is at its end whose processor executed a job, and its priority is
--- higher.
+-- In words: a task is in the set if and only if it is in the table, an interval is at its end whose processor
+-- executed a job, and its priority is higher.
 pub record CanBlock (d : State) (k : ℕ) : Type 0 where
   pub in-table : member k (d .table .present) ≡ true
   pub interval : Interval

@@ -16,7 +16,8 @@ fresh-stage d = record { state = d; done = NoJob; closed = NoInterval }
 -- the processor's own copy-in is followed by the execution
 unfoldable pub processor-at : Table → ℕ → Processor → Processor
 processor-at table t Idle = Idle
-processor-at table t (CopyingIn n until) = cond (eqb until t) (Executing n t (later t (execution-length (table .columns) n))) (CopyingIn n until)
+processor-at table t (CopyingIn n until) =
+    cond (eqb until t) (Executing n t (later t (execution-length (table .columns) n))) (CopyingIn n until)
 processor-at table t (Executing n start until) = cond (eqb until t) (Finished n start) (Executing n start until)
 processor-at table t (Finished n start) = Finished n start
 
@@ -63,7 +64,11 @@ unfoldable pub step-a : State → ℕ → Phase → Stage
 step-a d t (Between next outgoing) = fresh-stage d
 step-a d t (Within i) =
     let done : Done = completed (d .jobs) t (i .copyout) in
-    record { state = with-phase (with-jobs d (without-done (d .jobs) done)) (Within (ended (d .table) t i)); done = done; closed = NoInterval }
+    record {
+      state = with-phase (with-jobs d (without-done (d .jobs) done)) (Within (ended (d .table) t i));
+      done = done;
+      closed = NoInterval;
+    }
 
 -- ---- b. If an interval is open, its processor is finished or idle, its copy-in choice has been made and no copy is under way, it ends.
 
@@ -121,7 +126,8 @@ copyin-fate (Copying n until) = 0
 copyin-fate (Loaded n) = 1
 copyin-fate (Cancelled n fate) = fate
 
--- R4: where the copy-in was cancelled or thrown out, or none was chosen, the highest-priority marked job released in the interval and ready is promoted
+-- R4: where the copy-in was cancelled or thrown out, or none was chosen, the highest-priority marked job released
+-- in the interval and ready is promoted
 unfoldable pub promoted : State → Interval → CopyIn → MaybeTask
 promoted d i Unchosen = NoTask
 promoted d i NoneChosen = highest-of d (intersection (i .candidates) (d .jobs .ready))
@@ -208,8 +214,8 @@ unfoldable pub step-b : Stage → ℕ → Phase → Stage
 step-b s t (Between next outgoing) = s
 step-b s t (Within i) = close-stage s t i (over i)
 
--- ---- c. The releases of this instant are taken, wait or are skipped. Those that are taken belong to the open interval, else to the one that
--- step g begins.
+-- ---- c. The releases of this instant are taken, wait or are skipped. Those that are taken belong to the open
+-- interval, else to the one that step g begins.
 
 -- By the tasks with a pending job and those with a waiting release. "At the instant its job completes, step c takes the waiting one
 -- before that instant's own releases": a waiting release of a task with no pending job any more
@@ -256,38 +262,38 @@ original w t k = cond (member k (w .tasks)) (getD (w .times) k 0) t
 
 -- the marked ones are candidates for promotion in the interval that they belong to
 unfoldable pub with-candidates : State → ℕ → Phase → Phase
-with-candidates d new (Between next outgoing) = Between next outgoing
-with-candidates d new (Within i) = Within (record {
+with-candidates d taken (Between next outgoing) = Between next outgoing
+with-candidates d taken (Within i) = Within (record {
   begin = i .begin;
   work = i .work;
   processor = i .processor;
   copyout = i .copyout;
   copyin = i .copyin;
-  candidates = union (i .candidates) (intersection new (d .marked));
+  candidates = union (i .candidates) (intersection taken (d .marked));
 })
 
 -- with the tasks whose release is taken, and those whose release waits from now on; a waiting release that is taken waits no more
 unfoldable pub step-c : State → ℕ → ℕ → ℕ → State
 unfolding stamped
-step-c d t new late = record {
+step-c d t taken deferred = record {
   table = d .table;
   marked = d .marked;
   clock = d .clock;
   half = d .half;
   jobs = record {
-    pending = union (d .jobs .pending) new;
-    ready = union (d .jobs .ready) new;
-    release = stamped new (original (d .waiting) t) 0 (d .jobs .release);
-    blocked = stamped new (λ k. 0) 0 (d .jobs .blocked);
+    pending = union (d .jobs .pending) taken;
+    ready = union (d .jobs .ready) taken;
+    release = stamped taken (original (d .waiting) t) 0 (d .jobs .release);
+    blocked = stamped taken (λ k. 0) 0 (d .jobs .blocked);
   };
-  waiting = record { tasks = union (difference (d .waiting .tasks) new) late; times = stamped late (λ k. t) 0 (d .waiting .times) };
-  phase = with-candidates d new (d .phase);
+  waiting = record { tasks = union (difference (d .waiting .tasks) taken) deferred; times = stamped deferred (λ k. t) 0 (d .waiting .times) };
+  phase = with-candidates d taken (d .phase);
 }
 
 -- the releases that belong to the interval that step g begins
 abbrev pub held-over : Phase → ℕ → ℕ
-held-over (Between next outgoing) new = new
-held-over (Within i) new = 0
+held-over (Between next outgoing) taken = taken
+held-over (Within i) taken = 0
 
 -- ---- d. If a marked release was taken whose priority is higher than that of a copy-in under way on the engine, this copy-in is
 -- cancelled and its job is ready again (R3). A marked release that is taken also throws out a lower-priority copy-in that the engine has
@@ -299,15 +305,15 @@ cancel d i n fate false = d
 cancel d i n fate true = with-phase (with-ready d (insert n (d .jobs .ready))) (Within (with-copyin i (Cancelled n fate)))
 
 unfoldable pub cancel-by : State → ℕ → Interval → CopyIn → State
-cancel-by d new i Unchosen = d
-cancel-by d new i NoneChosen = d
-cancel-by d new i (Copying n until) = cancel d i n 2 (outranks d n (highest-of d (intersection new (d .marked))))
-cancel-by d new i (Loaded n) = cancel d i n 3 (outranks d n (highest-of d (intersection new (d .marked))))
-cancel-by d new i (Cancelled n fate) = d
+cancel-by d taken i Unchosen = d
+cancel-by d taken i NoneChosen = d
+cancel-by d taken i (Copying n until) = cancel d i n 2 (outranks d n (highest-of d (intersection taken (d .marked))))
+cancel-by d taken i (Loaded n) = cancel d i n 3 (outranks d n (highest-of d (intersection taken (d .marked))))
+cancel-by d taken i (Cancelled n fate) = d
 
 unfoldable pub step-d : State → ℕ → Phase → State
-step-d d new (Between next outgoing) = d
-step-d d new (Within i) = cancel-by d new i (i .copyin)
+step-d d taken (Between next outgoing) = d
+step-d d taken (Within i) = cancel-by d taken i (i .copyin)
 
 -- ---- e. If an interval is open, the engine is free and the choice has not been made, it is made: the highest-priority ready job
 -- begins copy-in, or none does (R2). It is made once an interval.
@@ -315,7 +321,8 @@ step-d d new (Within i) = cancel-by d new i (i .copyin)
 unfoldable pub choose : State → ℕ → Interval → MaybeTask → State
 choose d t i NoTask = with-phase d (Within (with-copyin i NoneChosen))
 choose d t i (Task n) =
-    with-phase (with-ready d (remove n (d .jobs .ready))) (Within (with-copyin i (Copying n (later t (copyin-length (d .table .columns) n)))))
+    with-phase (with-ready d (remove n (d .jobs .ready)))
+    (Within (with-copyin i (Copying n (later t (copyin-length (d .table .columns) n)))))
 
 unfoldable pub choose-if : State → ℕ → Interval → CopyIn → State
 choose-if d t i Unchosen = cond (copying-out (i .copyout)) d (choose d t i (highest-of d (d .jobs .ready)))
@@ -337,19 +344,19 @@ step-f d t = step-b (fresh-stage d) t (d .phase)
 
 -- steps c and d, with the tasks whose release is taken and those whose release waits
 unfoldable pub steps-c-d : State → ℕ → ℕ → ℕ → State
-steps-c-d d t new late =
-    let c : State = step-c d t new late in
-    step-d c new (c .phase)
+steps-c-d d t taken deferred =
+    let c : State = step-c d t taken deferred in
+    step-d c taken (c .phase)
 
 unfoldable pub steps-c-to-e : State → ℕ → ℕ → ℕ → State
 unfolding steps-c-d
-steps-c-to-e d t new late =
-    let x : State = steps-c-d d t new late in
+steps-c-to-e d t taken deferred =
+    let x : State = steps-c-d d t taken deferred in
     step-e x t (x .phase)
 
 -- what they leave, and the interval that ends at step f
 unfoldable pub steps-c-to-f : State → ℕ → ℕ → ℕ → Stage
-steps-c-to-f d t new late = step-f (steps-c-to-e d t new late) t
+steps-c-to-f d t taken deferred = step-f (steps-c-to-e d t taken deferred) t
 
 -- ---- g. If no interval is open and some job is loaded, promoted, ready or waiting for copy-out, an interval begins.
 
@@ -378,7 +385,7 @@ begin-copyout table t (AwaitsCopyOut n start) = CopyingOut n start (later t (cop
 
 -- R1: the halves swap
 unfoldable pub begin : State → ℕ → ℕ → Next → Outgoing → State
-begin d t new next outgoing =
+begin d t taken next outgoing =
     record {
       table = d .table;
       marked = d .marked;
@@ -392,16 +399,16 @@ begin d t new next outgoing =
         processor = begin-processor (d .table) t next;
         copyout = begin-copyout (d .table) t outgoing;
         copyin = Unchosen;
-        candidates = intersection new (d .marked);
+        candidates = intersection taken (d .marked);
       });
     }
 
 -- without a copy-out the choice is made now
 unfoldable pub step-g : State → ℕ → ℕ → Phase → State
 unfolding step-e
-step-g d t new (Within i) = d
-step-g d t new (Between next outgoing) =
-    let b : State = begin d t new next outgoing in
+step-g d t taken (Within i) = d
+step-g d t taken (Between next outgoing) =
+    let b : State = begin d t taken next outgoing in
     cond (wanted next outgoing (d .jobs .ready)) (step-e b t (b .phase)) d
 
 -- ---- The next due time: when the next phase ends

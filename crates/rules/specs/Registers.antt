@@ -92,13 +92,17 @@ waits tasks times = record { tasks = tasks; times = times }
 
 -- ---- The state
 
-unfoldable pub state-in : Memory → Registers → State
-state-in m r = record {
+-- with this phase
+abbrev pub state-with : Memory → Registers → Phase → State
+state-with m r p = record {
   table = m .table;
   marked = r .marked;
   clock = m .clock;
   half = r .half;
   jobs = record { pending = r .pending; ready = r .ready; release = m .arrays .release; blocked = m .arrays .blocked };
   waiting = m .waiting;
-  phase = phase-in r;
+  phase = p;
 }
+
+unfoldable pub state-in : Memory → Registers → State
+state-in m r = state-with m r (phase-in r)

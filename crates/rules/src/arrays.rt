@@ -37,7 +37,8 @@ pub fn take(
     times: &mut [u64; 32],
     counts: &mut [u8; 32],
 )
-    ensures { λ _. ⌜ now (times .exit) ≡ instant.stamped set (instant.original (waiting-releases waiting (now (waits .entry))) t) 0 (now (times .entry)) ⌝ }
+    ensures { λ _. ⌜ now (times .exit) ≡
+        instant.stamped set (instant.original (waiting-releases waiting (now (waits .entry))) t) 0 (now (times .entry)) ⌝ }
     ensures { λ _. ⌜ now (counts .exit) ≡ instant.stamped set (λ k. 0) 0 (now (counts .entry)) ⌝ }
 {
     let mut left = set;

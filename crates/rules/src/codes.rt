@@ -41,7 +41,8 @@ pub const EXECUTE: u8 = 1;
 
 pub const COPY_IN_AND_EXECUTE: u8 = 2;
 
-// The fate that an entry has where no copy-in was done or gave way. Else it is the copy-in's number less two: 1 done, 2 cancelled, 3 thrown out.
+// The fate that an entry has where no copy-in was done or gave way. Else it is the copy-in's number less
+// two: 1 done, 2 cancelled, 3 thrown out.
 pub const FATE_NONE: u8 = 0;
 
 // No task: the first number that is none.

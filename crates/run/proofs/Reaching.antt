@@ -208,9 +208,12 @@ in-state d rs ms {e} {d'} rs' h l = subst (λ (z : State). Leads d rs ms z rs') 
 module _ {rest : List ℕ} (d : Dispatcher) {budget : ℕ} {before : List ℕ} {k : Kept} {b : Beside} {left : ℕ} {out : List ℕ} {x : Piece} {out' : List ℕ}
     (g : Reached rest (state-of d) budget before k b (x .read) (x .size) left out)
     (ek : kept-of (x .state) ≡ k) (eb : beside-of (x .state) ≡ b) (eo : out' ≡ out) where
-  -- at the run's end
-  pub ends : x .ended ≡ true → x .left ≡ 0 → Stands (2 ^ 64 - 1) (next-time (read k b) (releases-at rest (x .read))) → Makes rest d budget before x out'
-  ends e none last = record {
+  -- the piece that is made there, with what is said of the end and of the budget
+  makes : (x .ended ≡ true → (x .left ≡ 0) × Stands (2 ^ 64 - 1) (next-time (state-of (x .state)) (releases-at rest (x .read))))
+      → (x .ended ≡ false → (x .left ≡ 0) ⊎ (length before < x .size + instant-most))
+      → (x .ended ≡ false → x .left + length (g .moments) ≡ budget)
+      → x .left + length (g .moments) ≤ budget → Makes rest d budget before x out'
+  makes ended-is stopped left-is few = record {
     moments = g .moments;
     leads = in-state (state-of d) (releases-at rest 0) (g .moments) (releases-at rest (x .read)) (state-is (x .state) ek eb) (g .leads);
     goes-on = along (state-of d) (releases-at rest 0) (g .moments) (state-of (x .state)) (releases-at rest (x .read))
@@ -219,28 +222,23 @@ module _ {rest : List ℕ} (d : Dispatcher) {budget : ℕ} {before : List ℕ} {
     size-is = g .size-is;
     fits = g .fits;
     holds = eo ∙ g .holds;
-    ended-is = λ h. (none, subst (λ (z : State). Stands (2 ^ 64 - 1) (next-time z (releases-at rest (x .read)))) (sym (state-is (x .state) ek eb)) last);
-    stopped = λ h. absurd (true≢false (sym e ∙ h));
-    left-is = λ h. absurd (true≢false (sym e ∙ h));
-    few = omega (arith, none, g .left-is);
+    ended-is = ended-is;
+    stopped = stopped;
+    left-is = left-is;
+    few = few;
   }
+
+  -- at the run's end
+  pub ends : x .ended ≡ true → x .left ≡ 0 → Stands (2 ^ 64 - 1) (next-time (read k b) (releases-at rest (x .read))) → Makes rest d budget before x out'
+  ends e none last =
+      makes
+      (λ h. (none, subst (λ (z : State). Stands (2 ^ 64 - 1) (next-time z (releases-at rest (x .read)))) (sym (state-is (x .state) ek eb)) last))
+      (λ h. absurd (true≢false (sym e ∙ h))) (λ h. absurd (true≢false (sym e ∙ h))) (omega (arith, none, g .left-is))
 
   -- or before it
   pub stops : x .ended ≡ false → x .left ≡ left → (x .left ≡ 0) ⊎ (length before < x .size + instant-most) → Makes rest d budget before x out'
-  stops e same why = record {
-    moments = g .moments;
-    leads = in-state (state-of d) (releases-at rest 0) (g .moments) (releases-at rest (x .read)) (state-is (x .state) ek eb) (g .leads);
-    goes-on = along (state-of d) (releases-at rest 0) (g .moments) (state-of (x .state)) (releases-at rest (x .read))
-        (in-state (state-of d) (releases-at rest 0) (g .moments) (releases-at rest (x .read)) (state-is (x .state) ek eb) (g .leads));
-    within = g .within;
-    size-is = g .size-is;
-    fits = g .fits;
-    holds = eo ∙ g .holds;
-    ended-is = λ h. absurd (true≢false (sym h ∙ e));
-    stopped = λ h. why;
-    left-is = λ h. ap (λ (n : ℕ). n + length (g .moments)) same ∙ g .left-is;
-    few = omega (arith, same, g .left-is);
-  }
+  stops e same why =
+      makes (λ h. absurd (true≢false (sym h ∙ e))) (λ h. why) (λ h. ap (λ (n : ℕ). n + length (g .moments)) same ∙ g .left-is) (omega (arith, same, g .left-is))
 
 -- ---- what whoever makes pieces may rely on
 

@@ -99,6 +99,10 @@ laid-length at e s l =
 pub put-length : (at : ℕ) (e s : List ℕ) → length (put-at at e s) ≡ length s
 put-length at e s = by-test (leb (at + length e) (length s)) (λ b. rw b (laid-length at e s (leb-true (at + length e) (length s) b))) (λ b. rw b)
 
+pub rest-put-length : (e : List ℕ) (at : ℕ) (s : List ℕ) (size : ℕ) (t : List ℕ) {s′ : List ℕ} → at ≤ length s
+    → Put e (take (length s - at) (drop at s)) size t → s′ ≡ take at s ++ (t ++ drop (length s - at) (drop at s)) → length s′ ≡ length s
+rest-put-length e at s size t l p h = ap length (h ∙ put-rest e at s size t l p) ∙ put-length at e s
+
 pub put-all-length : (at : ℕ) (es : List RecordEntry) (s : List ℕ) → length (put-all at es s) ≡ length s
 unfolding put-all
 put-all-length at [] s = refl

@@ -1,6 +1,6 @@
 -- The run of a file: its releases and all due times, instant by instant, with no mark call, until nothing is pending; and its record, in
--- the order in which things occur. No instant of a file's run is refused, so that nothing is said of refusals here: the moments are what the
--- calls answer that feed the file to a dispatcher (record/specs/FileClaim `gives-record`).
+-- the order in which things occur. No instant of a file's run is refused, so that nothing is said of refusals here: the moments are what
+-- the calls answer that feed the file to a dispatcher (record/specs/FileClaim `gives-record`).
 use Rattle.run.specs.Types.{true, false, List, [], _∷_, _++_, ℕ, zero, suc, Release, Head, State, RecordEntry, Due, Never, Tick, Occurred}
 use lib.Dec.{eqb}
 use lib.ListN.{length}

@@ -1,14 +1,6 @@
 -- The names that the definitions share. Those that lower crates declare are passed on to the crates above.
 pub use Rattle.rules.specs.Types.{Closed, NoInterval, Span, Table, Head, Refusal, NoRefusal, Alone, AtEntry, JobEntry, IntervalEntry, RecordEntry, JobDone, IntervalEnded, ReleaseSkipped, State, WaitingReleases, Stage, Interval, Phase, Between, Within}
-pub use Rattle.rules.specs.declared.Done.{Done}
-pub use Rattle.rules.specs.declared.Done.the-variants.{NoJob, Job}
-pub use Rattle.rules.specs.declared.Closing.{Closing}
-pub use Rattle.rules.specs.declared.Closing.the-variants.{Unclosed, BeforeReleases, AfterReleases}
-pub use Rattle.rules.specs.declared.Due.{Due}
-pub use Rattle.rules.specs.declared.Due.the-variants.{Never, Tick}
-pub use Rattle.rules.specs.declared.Occurred.{Occurred}
-pub use Rattle.rules.specs.declared.Answer.{Answer}
-pub use Rattle.rules.specs.declared.Answer.the-variants.{Refused, Served}
+pub use Rattle.dispatcher.specs.Types.{Done, NoJob, Job, Closing, Unclosed, BeforeReleases, AfterReleases, Due, Never, Tick, Occurred, Answer, Refused, Served}
 pub use Rattle.rules.specs.Calls.{Step}
 pub use Rattle.entries.specs.declared.TaskParameters.{TaskParameters}
 pub use Rattle.entries.specs.declared.Release.{Release}

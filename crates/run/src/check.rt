@@ -49,7 +49,8 @@ fn release_refusal(present: u32, last: Last, count: usize, r: Release) -> u8
 
 // The first refusal of the entries from `start` on.
 fn check_releases(s: &[u8], start: usize, present: u32) -> Refusal
-    ensures { λ r. ⌜ r ≡ files.refusal-of (files.releases-from (length (now (s .entry))) (now (s .entry)) start present Last.NoneBefore 0) ⌝ }
+    ensures { λ r. ⌜ r ≡ files.refusal-of
+        (files.releases-from (length (now (s .entry))) (now (s .entry)) start present Last.NoneBefore 0) ⌝ }
 {
     let mut at = start;
     let mut last = Last::NoneBefore;
@@ -81,7 +82,9 @@ fn check_releases(s: &[u8], start: usize, present: u32) -> Refusal
 
 // The releases behind a head that is not refused: the head, or their first refusal.
 pub fn check_behind(s: &[u8], head: Head) -> Head
-    ensures { λ r. ⌜ r ≡ files.head-unless head (files.refusal-of (files.releases-from (length (now (s .entry))) (now (s .entry)) (head .end) (head .table .present) Last.NoneBefore 0)) ⌝ }
+    ensures { λ r. ⌜ r ≡ files.head-unless head
+        (files.refusal-of (files.releases-from (length (now (s .entry))) (now (s .entry))
+        (head .end) (head .table .present) Last.NoneBefore 0)) ⌝ }
 {
     let table = head.table;
     let refusal = check_releases(s, head.end, table.present);

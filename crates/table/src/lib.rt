@@ -181,7 +181,8 @@ fn read_to(table: Table, marked: u32, at: usize) -> Head
     }
 }
 
-// The head of an input, up to its end or the first release entry, which is left to whoever reads on. A further kind of entry is an arm more.
+// The head of an input, up to its end or the first release entry, which is left to whoever reads on. A
+// further kind of entry is an arm more.
 pub fn head_of(s: &[u8]) -> Head
     ensures { λ r. ⌜ r ≡ heads.head-of (now (s .entry)) ⌝ }
 {

@@ -53,18 +53,33 @@ regroup p a b c d e f g = simp append-assoc
 returns : tie.Need-returns
 unfolding choice-bytes
 returns c =
-    let a = c .before .before .before .before .before .before .before .before .before .before .before .before .before .before .before .before .before .before .before .before .before .before .before .before .before .before .before .before .before .before .before .before .before .args in
+    let c2 = c .before .before in
+    let c7 = c2 .before .before .before .before .before in
+    let c11 = c7 .before .before .before .before in
+    let c16 = c11 .before .before .before .before .before in
+    let c21 = c16 .before .before .before .before .before in
+    let c25 = c21 .before .before .before .before in
+    let c30 = c25 .before .before .before .before .before in
+    let a = c30 .before .before .before .args in
     let old = a .out .now in
     let long : 17 ≤ length old = search needs in
     let size = length-take-le 17 old long in
-    let f1 = next (take 17 old) old old (a .e .half ∷ []) 17 (sym size) (c .before .before .before .before .before .before .before .before .before .before .before .before .before .before .before .before .before .before .before .before .before .before .before .before .before .before .before .before .before .before .put-byte .last .0) (c .before .before .before .before .before .before .before .before .before .before .before .before .before .before .before .before .before .before .before .before .before .before .before .before .before .before .before .before .before .before .put-byte .ensures) (up-to 17 old long) in
-    let f2 = next ((take 17 old) ++ (a .e .half ∷ [])) old (c .before .before .before .before .before .before .before .before .before .before .before .before .before .before .before .before .before .before .before .before .before .before .before .before .before .before .before .before .before .before .put-byte .last .0) (task-byte (a .e .task) ∷ []) 18 (simp (length-append, size)) (c .before .before .before .before .before .before .before .before .before .before .before .before .before .before .before .before .before .before .before .before .before .before .before .before .before .put-byte2 .last .0) (rw (c .before .before .before .before .before .before .before .before .before .before .before .before .before .before .before .before .before .before .before .before .before .before .before .before .before .before .task-byte .ensures) at (c .before .before .before .before .before .before .before .before .before .before .before .before .before .before .before .before .before .before .before .before .before .before .before .before .before .put-byte2 .ensures)) f1 in
-    let f3 = next (((take 17 old) ++ (a .e .half ∷ [])) ++ (task-byte (a .e .task) ∷ [])) old (c .before .before .before .before .before .before .before .before .before .before .before .before .before .before .before .before .before .before .before .before .before .before .before .before .before .put-byte2 .last .0) (a .e .work ∷ []) 19 (simp (length-append, size)) (c .before .before .before .before .before .before .before .before .before .before .before .before .before .before .before .before .before .before .before .before .before .put-byte3 .last .0) (c .before .before .before .before .before .before .before .before .before .before .before .before .before .before .before .before .before .before .before .before .before .put-byte3 .ensures) f2 in
-    let f4 = next ((((take 17 old) ++ (a .e .half ∷ [])) ++ (task-byte (a .e .task) ∷ [])) ++ (a .e .work ∷ [])) old (c .before .before .before .before .before .before .before .before .before .before .before .before .before .before .before .before .before .before .before .before .before .put-byte3 .last .0) (task-byte (a .e .copiedout) ∷ []) 20 (simp (length-append, size)) (c .before .before .before .before .before .before .before .before .before .before .before .before .before .before .before .before .put-byte4 .last .0) (rw (c .before .before .before .before .before .before .before .before .before .before .before .before .before .before .before .before .before .task-byte2 .ensures) at (c .before .before .before .before .before .before .before .before .before .before .before .before .before .before .before .before .put-byte4 .ensures)) f3 in
-    let f5 = next (((((take 17 old) ++ (a .e .half ∷ [])) ++ (task-byte (a .e .task) ∷ [])) ++ (a .e .work ∷ [])) ++ (task-byte (a .e .copiedout) ∷ [])) old (c .before .before .before .before .before .before .before .before .before .before .before .before .before .before .before .before .put-byte4 .last .0) (task-byte (a .e .chosen) ∷ []) 21 (simp (length-append, size)) (c .before .before .before .before .before .before .before .before .before .before .before .put-byte5 .last .0) (rw (c .before .before .before .before .before .before .before .before .before .before .before .before .task-byte3 .ensures) at (c .before .before .before .before .before .before .before .before .before .before .before .put-byte5 .ensures)) f4 in
-    let f6 = next ((((((take 17 old) ++ (a .e .half ∷ [])) ++ (task-byte (a .e .task) ∷ [])) ++ (a .e .work ∷ [])) ++ (task-byte (a .e .copiedout) ∷ [])) ++ (task-byte (a .e .chosen) ∷ [])) old (c .before .before .before .before .before .before .before .before .before .before .before .put-byte5 .last .0) (a .e .fate ∷ []) 22 (simp (length-append, size)) (c .before .before .before .before .before .before .before .put-byte6 .last .0) (c .before .before .before .before .before .before .before .put-byte6 .ensures) f5 in
-    let f7 = next (((((((take 17 old) ++ (a .e .half ∷ [])) ++ (task-byte (a .e .task) ∷ [])) ++ (a .e .work ∷ [])) ++ (task-byte (a .e .copiedout) ∷ [])) ++ (task-byte (a .e .chosen) ∷ [])) ++ (a .e .fate ∷ [])) old (c .before .before .before .before .before .before .before .put-byte6 .last .0) (task-byte (a .e .promoted) ∷ []) 23 (simp (length-append, size)) (c .before .before .put-byte7 .last .0) (rw (c .before .before .before .task-byte4 .ensures) at (c .before .before .put-byte7 .ensures)) f6 in
-    behind 17 (choice-bytes (a .e)) old (c .before .before .put-byte7 .last .0) long (subst (λ (x : List ℕ). Front x old (c .before .before .put-byte7 .last .0)) (regroup (take 17 old) _ _ _ _ _ _ _) f7)
+    let f1 = next (take 17 old) old old (a .e .half ∷ []) 17 (sym size) (c30 .put-byte .last .0) (c30 .put-byte .ensures) (up-to 17 old long) in
+    let f2 = next ((take 17 old) ++ (a .e .half ∷ [])) old (c30 .put-byte .last .0) (task-byte (a .e .task) ∷ []) 18 (simp (length-append, size)) (c25 .put-byte2 .last .0)
+    (rw (c25 .before .task-byte .ensures) at (c25 .put-byte2 .ensures)) f1 in
+    let f3 = next (((take 17 old) ++ (a .e .half ∷ [])) ++ (task-byte (a .e .task) ∷ [])) old (c25 .put-byte2 .last .0) (a .e .work ∷ []) 19 (simp (length-append, size))
+    (c21 .put-byte3 .last .0) (c21 .put-byte3 .ensures) f2 in
+    let f4 = next ((((take 17 old) ++ (a .e .half ∷ [])) ++ (task-byte (a .e .task) ∷ [])) ++ (a .e .work ∷ [])) old (c21 .put-byte3 .last .0) (task-byte (a .e .copiedout) ∷ []) 20
+    (simp (length-append, size)) (c16 .put-byte4 .last .0) (rw (c16 .before .task-byte2 .ensures) at (c16 .put-byte4 .ensures)) f3 in
+    let f5 = next (((((take 17 old) ++ (a .e .half ∷ [])) ++ (task-byte (a .e .task) ∷ [])) ++ (a .e .work ∷ [])) ++ (task-byte (a .e .copiedout) ∷ [])) old
+    (c16 .put-byte4 .last .0) (task-byte (a .e .chosen) ∷ []) 21 (simp (length-append, size)) (c11 .put-byte5 .last .0)
+    (rw (c11 .before .task-byte3 .ensures) at (c11 .put-byte5 .ensures)) f4 in
+    let f6 = next ((((((take 17 old) ++ (a .e .half ∷ [])) ++ (task-byte (a .e .task) ∷ [])) ++ (a .e .work ∷ [])) ++ (task-byte (a .e .copiedout) ∷ []))
+    ++ (task-byte (a .e .chosen) ∷ [])) old (c11 .put-byte5 .last .0) (a .e .fate ∷ []) 22 (simp (length-append, size)) (c7 .put-byte6 .last .0) (c7 .put-byte6 .ensures) f5 in
+    let f7 = next (((((((take 17 old) ++ (a .e .half ∷ [])) ++ (task-byte (a .e .task) ∷ [])) ++ (a .e .work ∷ [])) ++ (task-byte (a .e .copiedout) ∷ []))
+    ++ (task-byte (a .e .chosen) ∷ [])) ++ (a .e .fate ∷ [])) old (c7 .put-byte6 .last .0) (task-byte (a .e .promoted) ∷ []) 23 (simp (length-append, size))
+    (c2 .put-byte7 .last .0) (rw (c2 .before .task-byte4 .ensures) at (c2 .put-byte7 .ensures)) f6 in
+    behind 17 (choice-bytes (a .e)) old (c2 .put-byte7 .last .0) long (subst (λ (x : List ℕ). Front x old (c2 .put-byte7 .last .0)) (regroup (take 17 old) _ _ _ _ _ _ _) f7)
 
 pub put-choices-spec : {M : Type 1} → statement M
 put-choices-spec =

@@ -30,13 +30,18 @@ same-length c = search needs
 returns-2 : tie.Need-returns-2
 unfolding interval-bytes bytesOf choice-bytes
 returns-2 c =
-    let a = c .before .before .before .before .before .before .before .before .before .before .before .before .before .before .before .before .before .before .args in
+    let c2 = c .before .before in
+    let c6 = c2 .before .before .before .before in
+    let c10 = c6 .before .before .before .before in
+    let c14 = c10 .before .before .before .before in
+    let a = c14 .before .before .before .before .args in
     let old = a .out .now in
-    let f1 = next ([]) old old (17 ∷ []) 0 refl (c .before .before .before .before .before .before .before .before .before .before .before .before .before .before .put-byte .last .0) (c .before .before .before .before .before .before .before .before .before .before .before .before .before .before .put-byte .ensures) refl in
-    let f2 = next (17 ∷ []) old (c .before .before .before .before .before .before .before .before .before .before .before .before .before .before .put-byte .last .0) (bytesOf 8 (a .e .begin)) 1 refl (c .before .before .before .before .before .before .before .before .before .before .put-time .last .0) (c .before .before .before .before .before .before .before .before .before .before .put-time .ensures) f1 in
-    let f3 = next ((17 ∷ []) ++ (bytesOf 8 (a .e .begin))) old (c .before .before .before .before .before .before .before .before .before .before .put-time .last .0) (bytesOf 8 (a .e .end)) 9 refl (c .before .before .before .before .before .before .put-time2 .last .0) (c .before .before .before .before .before .before .put-time2 .ensures) f2 in
-    let f4 = next (((17 ∷ []) ++ (bytesOf 8 (a .e .begin))) ++ (bytesOf 8 (a .e .end))) old (c .before .before .before .before .before .before .put-time2 .last .0) (choice-bytes (a .e)) 17 refl (c .before .before .put-choices .last .0) (c .before .before .put-choices .ensures) f3 in
-    fits (interval-bytes (a .e)) old (c .before .before .put-choices .last .0) (search needs) f4
+    let f1 = next ([]) old old (17 ∷ []) 0 refl (c14 .put-byte .last .0) (c14 .put-byte .ensures) refl in
+    let f2 = next (17 ∷ []) old (c14 .put-byte .last .0) (bytesOf 8 (a .e .begin)) 1 refl (c10 .put-time .last .0) (c10 .put-time .ensures) f1 in
+    let f3 = next ((17 ∷ []) ++ (bytesOf 8 (a .e .begin))) old (c10 .put-time .last .0) (bytesOf 8 (a .e .end)) 9 refl (c6 .put-time2 .last .0) (c6 .put-time2 .ensures) f2 in
+    let f4 = next (((17 ∷ []) ++ (bytesOf 8 (a .e .begin))) ++ (bytesOf 8 (a .e .end))) old (c6 .put-time2 .last .0) (choice-bytes (a .e)) 17 refl (c2 .put-choices .last .0)
+    (c2 .put-choices .ensures) f3 in
+    fits (interval-bytes (a .e)) old (c2 .put-choices .last .0) (search needs) f4
 
 pub put-interval-spec : {M : Type 1} → statement M
 put-interval-spec =

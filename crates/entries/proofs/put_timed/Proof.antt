@@ -26,12 +26,15 @@ same-length c = search needs
 returns-2 : tie.Need-returns-2
 unfolding bytesOf
 returns-2 c =
-    let a = c .before .before .before .before .before .before .before .before .before .before .before .before .before .before .args in
+    let c2 = c .before .before in
+    let c6 = c2 .before .before .before .before in
+    let c10 = c6 .before .before .before .before in
+    let a = c10 .before .before .before .before .args in
     let old = a .out .now in
-    let f1 = next ([]) old old (a .kind ∷ []) 0 refl (c .before .before .before .before .before .before .before .before .before .before .put-byte .last .0) (c .before .before .before .before .before .before .before .before .before .before .put-byte .ensures) refl in
-    let f2 = next (a .kind ∷ []) old (c .before .before .before .before .before .before .before .before .before .before .put-byte .last .0) (a .task ∷ []) 1 refl (c .before .before .before .before .before .before .put-byte2 .last .0) (c .before .before .before .before .before .before .put-byte2 .ensures) f1 in
-    let f3 = next ((a .kind ∷ []) ++ (a .task ∷ [])) old (c .before .before .before .before .before .before .put-byte2 .last .0) (bytesOf 8 (a .time)) 2 refl (c .before .before .put-time .last .0) (c .before .before .put-time .ensures) f2 in
-    fits (a .kind ∷ a .task ∷ bytesOf 8 (a .time)) old (c .before .before .put-time .last .0) (search needs) f3
+    let f1 = next ([]) old old (a .kind ∷ []) 0 refl (c10 .put-byte .last .0) (c10 .put-byte .ensures) refl in
+    let f2 = next (a .kind ∷ []) old (c10 .put-byte .last .0) (a .task ∷ []) 1 refl (c6 .put-byte2 .last .0) (c6 .put-byte2 .ensures) f1 in
+    let f3 = next ((a .kind ∷ []) ++ (a .task ∷ [])) old (c6 .put-byte2 .last .0) (bytesOf 8 (a .time)) 2 refl (c2 .put-time .last .0) (c2 .put-time .ensures) f2 in
+    fits (a .kind ∷ a .task ∷ bytesOf 8 (a .time)) old (c2 .put-time .last .0) (search needs) f3
 
 pub put-timed-spec : {M : Type 1} → statement M
 put-timed-spec =

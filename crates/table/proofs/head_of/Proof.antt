@@ -154,16 +154,24 @@ entries-less c = search needs
 entries-again : tie.Need-entries-again Inv-loop μ-loop Inv-entries μ-entries
 unfolding with-task with-lengths
 entries-again c =
-    let v = c .before .before .before .before .before .before .before .before .before .before .before .before .before .before .before .entries in let s = c .before .before .before .before .before .before .before .before .before .before .before .before .before .before .before .before .before .before .args .s .now in
+    let c6 = c .before .before .before .before .before .before in
+    let c9 = c6 .before .before .before in
+    let c11 = c9 .before .before in
+    let c14 = c11 .before .before .before in
+    let v = c14 .before .entries in let s = c14 .before .before .before .before .args .s .now in
     let w = c .before .before .before .before .before .loop in
     let e = c .before .insert .ensures in
-    let whole = task-whole s (v .at) _ (sym (c .before .before .before .before .before .before .before .before .before .before .before .entry-at .ensures) ∙ c .before .before .before .before .before .before .before .before .before .entry2 .given .1) in (
+    let whole = task-whole s (v .at) _ (sym (c11 .entry-at .ensures) ∙ c9 .entry2 .given .1) in (
       omega (arith, whole),
       simp length-set (v .inv .1),
       rw e (insert-small _ _),
       rw (e, c .with-marked .ensures)
-          (turn-on s (v .at) (v .t) (v .marked) (v .inv .3) (c .before .before .before .before .before .before .before .before .before .before .before .before .before .before .if1 .left) _ _
-          (λ k. takes s (v .at) (v .t) (v .marked) k (before-release s (v .at) (c .before .before .before .before .before .before .before .before .before .before .before .before .before .before .if1 .left) (sym (c .before .before .before .before .before .before .before .before .before .before .before .before .before .is-release .ensures) ∙ c .before .before .before .before .before .before .before .before .before .before .before .before .if2 .left)) _ (sym (c .before .before .before .before .before .before .before .before .before .before .before .entry-at .ensures) ∙ c .before .before .before .before .before .before .before .before .before .entry2 .given .1) ((others-last (v .t) _ (sym (c .before .before .before .before .before .before .before .number-refused .ensures) ∙ c .before .before .before .before .before .before .if3 .left) (searched-all (v .t) _ (w .left) (c .before .before .before .before .loop-test .left) (w .inv))) ∙ sym (c .before .before .before .mark-or-length-refusal .ensures) ∙ c .before .before .if5 .left))),
+          (turn-on s (v .at) (v .t) (v .marked) (v .inv .3) (c14 .if1 .left) _ _
+          (λ k. takes s (v .at) (v .t) (v .marked) k (before-release s (v .at) (c14 .if1 .left) (sym (c11 .before .before .is-release .ensures) ∙ c11 .before .if2 .left)) _
+          (sym (c11 .entry-at .ensures) ∙ c9 .entry2 .given .1)
+          ((others-last (v .t) _ (sym (c6 .before .number-refused .ensures) ∙ c6 .if3 .left)
+          (searched-all (v .t) _ (w .left) (c .before .before .before .before .loop-test .left) (w .inv))) ∙ sym (c .before .before .before .mark-or-length-refusal .ensures)
+          ∙ c .before .before .if5 .left))),
       simp length-set (v .inv .4),
     )
 
@@ -171,36 +179,67 @@ returns : tie.Need-returns Inv-loop μ-loop Inv-entries μ-entries
 returns c = let v = c .before .before .entries in let s = c .before .before .before .before .before .args .s .now in c .read-to .ensures ∙ sym (at-end s (v .at) (v .t) (v .marked) (v .inv .3 .fuel) (behind-end s (v .at) (c .before .if1 .taken))) ∙ v .inv .3 .same
 
 returns-2 : tie.Need-returns-2 Inv-loop μ-loop Inv-entries μ-entries
-returns-2 c = let v = c .before .before .before .before .entries in let s = c .before .before .before .before .before .before .before .args .s .now in c .read-to2 .ensures ∙ sym (at-end s (v .at) (v .t) (v .marked) (v .inv .3 .fuel) (behind-release s (v .at) (sym (c .before .before .is-release .ensures) ∙ c .before .if2 .taken))) ∙ v .inv .3 .same
+returns-2 c =
+    let c7 = c .before .before .before .before .before .before .before in
+    let v = c .before .before .before .before .entries in let s = c7 .args .s .now in
+    c .read-to2 .ensures ∙ sym
+    (at-end s (v .at) (v .t) (v .marked) (v .inv .3 .fuel) (behind-release s (v .at) (sym (c .before .before .is-release .ensures) ∙ c .before .if2 .taken))) ∙ v .inv .3 .same
 
 returns-3 : tie.Need-returns-3 Inv-loop μ-loop Inv-entries μ-entries
 returns-3 c =
-    let v = c .before .before .before .before .before .before .before .before .entries in let s = c .before .before .before .before .before .before .before .before .before .before .before .args .s .now in
-    c .refused-at .ensures ∙ turn s (v .at) (v .t) (v .marked) (v .inv .3) (c .before .before .before .before .before .before .before .if1 .left) _ (λ k. malformed s (v .at) (v .t) (v .marked) k (before-release s (v .at) (c .before .before .before .before .before .before .before .if1 .left) (sym (c .before .before .before .before .before .before .is-release .ensures) ∙ c .before .before .before .before .before .if2 .left)) _ (sym (c .before .before .before .before .entry-at .ensures) ∙ c .before .before .entry .given .1))
+    let c6 = c .before .before .before .before .before .before in
+    let v = c6 .before .before .entries in let s = c6 .before .before .before .before .before .args .s .now in
+    c .refused-at .ensures ∙ turn s (v .at) (v .t) (v .marked) (v .inv .3) (c6 .before .if1 .left) _
+    (λ k. malformed s (v .at) (v .t) (v .marked) k
+    (before-release s (v .at) (c6 .before .if1 .left) (sym (c6 .is-release .ensures) ∙ c .before .before .before .before .before .if2 .left)) _
+    (sym (c .before .before .before .before .entry-at .ensures) ∙ c .before .before .entry .given .1))
 
 returns-4 : tie.Need-returns-4 Inv-loop μ-loop Inv-entries μ-entries
 returns-4 c =
-    let v = c .before .before .before .before .before .before .before .entries in let s = c .before .before .before .before .before .before .before .before .before .before .args .s .now in
-    c .read-to3 .ensures ∙ turn s (v .at) (v .t) (v .marked) (v .inv .3) (c .before .before .before .before .before .before .if1 .left) _ (λ k. released s (v .at) (v .t) (v .marked) k (before-release s (v .at) (c .before .before .before .before .before .before .if1 .left) (sym (c .before .before .before .before .before .is-release .ensures) ∙ c .before .before .before .before .if2 .left)) _ (sym (c .before .before .before .entry-at .ensures) ∙ c .before .enum-told .given .1))
+    let c6 = c .before .before .before .before .before .before in
+    let v = c6 .before .entries in let s = c6 .before .before .before .before .args .s .now in
+    c .read-to3 .ensures ∙ turn s (v .at) (v .t) (v .marked) (v .inv .3) (c6 .if1 .left) _
+    (λ k. released s (v .at) (v .t) (v .marked) k
+    (before-release s (v .at) (c6 .if1 .left) (sym (c .before .before .before .before .before .is-release .ensures) ∙ c .before .before .before .before .if2 .left)) _
+    (sym (c .before .before .before .entry-at .ensures) ∙ c .before .enum-told .given .1))
 
 returns-5 : tie.Need-returns-5 Inv-loop μ-loop Inv-entries μ-entries
 returns-5 c =
-    let v = c .before .before .before .before .before .before .before .before .before .before .entries in let s = c .before .before .before .before .before .before .before .before .before .before .before .before .before .args .s .now in
-    c .refused-at2 .ensures ∙ turn s (v .at) (v .t) (v .marked) (v .inv .3) (c .before .before .before .before .before .before .before .before .before .if1 .left) _ (λ k. refuses s (v .at) (v .t) (v .marked) k (before-release s (v .at) (c .before .before .before .before .before .before .before .before .before .if1 .left) (sym (c .before .before .before .before .before .before .before .before .is-release .ensures) ∙ c .before .before .before .before .before .before .before .if2 .left)) _ 4 (sym (c .before .before .before .before .before .before .entry-at .ensures) ∙ c .before .before .before .before .entry2 .given .1) (number-first (v .t) _ (sym (c .before .before .number-refused .ensures) ∙ c .before .if3 .taken)) (λ h. omega arith))
+    let c6 = c .before .before .before .before .before .before in
+    let c9 = c6 .before .before .before in
+    let v = c9 .before .entries in let s = c9 .before .before .before .before .args .s .now in
+    c .refused-at2 .ensures ∙ turn s (v .at) (v .t) (v .marked) (v .inv .3) (c9 .if1 .left) _
+    (λ k. refuses s (v .at) (v .t) (v .marked) k (before-release s (v .at) (c9 .if1 .left) (sym (c6 .before .before .is-release .ensures) ∙ c6 .before .if2 .left)) _ 4
+    (sym (c6 .entry-at .ensures) ∙ c .before .before .before .before .entry2 .given .1)
+    (number-first (v .t) _ (sym (c .before .before .number-refused .ensures) ∙ c .before .if3 .taken)) (λ h. omega arith))
 
 returns-6 : tie.Need-returns-6 Inv-loop μ-loop Inv-entries μ-entries
 returns-6 c =
-    let v = c .before .before .before .before .before .before .before .before .before .before .before .before .before .before .before .before .entries in let s = c .before .before .before .before .before .before .before .before .before .before .before .before .before .before .before .before .before .before .before .args .s .now in
-    let w = c .before .before .before .before .before .before .loop in
+    let c6 = c .before .before .before .before .before .before in
+    let c12 = c6 .before .before .before .before .before .before in
+    let c15 = c12 .before .before .before in
+    let v = c15 .before .entries in let s = c15 .before .before .before .before .args .s .now in
+    let w = c6 .loop in
     let low : lowest (w .left) < 32 = lowest-task (w .left) (w .inv .few) (c .before .before .before .before .before .loop-test .taken) in
     let e = c .before .before .before .before .lowest .ensures in
-    c .refused-at3 .ensures ∙ turn s (v .at) (v .t) (v .marked) (v .inv .3) (c .before .before .before .before .before .before .before .before .before .before .before .before .before .before .before .if1 .left) _ (λ k. refuses s (v .at) (v .t) (v .marked) k (before-release s (v .at) (c .before .before .before .before .before .before .before .before .before .before .before .before .before .before .before .if1 .left) (sym (c .before .before .before .before .before .before .before .before .before .before .before .before .before .before .is-release .ensures) ∙ c .before .before .before .before .before .before .before .before .before .before .before .before .before .if2 .left)) _ 5 (sym (c .before .before .before .before .before .before .before .before .before .before .before .before .entry-at .ensures) ∙ c .before .before .before .before .before .before .before .before .before .before .entry2 .given .1) (priority-next (v .t) _ (sym (c .before .before .before .before .before .before .before .before .number-refused .ensures) ∙ c .before .before .before .before .before .before .before .if3 .left) (searched-found (v .t) _ (w .left) (lowest (w .left)) low (lowest-member (w .left) low) (rw e at (c .before .if4 .taken)) (w .inv))) (λ h. omega arith))
+    c .refused-at3 .ensures ∙ turn s (v .at) (v .t) (v .marked) (v .inv .3) (c15 .if1 .left) _
+    (λ k. refuses s (v .at) (v .t) (v .marked) k (before-release s (v .at) (c15 .if1 .left) (sym (c12 .before .before .is-release .ensures) ∙ c12 .before .if2 .left)) _ 5
+    (sym (c12 .entry-at .ensures) ∙ c6 .before .before .before .before .entry2 .given .1)
+    (priority-next (v .t) _ (sym (c6 .before .before .number-refused .ensures) ∙ c6 .before .if3 .left)
+    (searched-found (v .t) _ (w .left) (lowest (w .left)) low (lowest-member (w .left) low) (rw e at (c .before .if4 .taken)) (w .inv))) (λ h. omega arith))
 
 returns-7 : tie.Need-returns-7 Inv-loop μ-loop Inv-entries μ-entries
 returns-7 c =
-    let v = c .before .before .before .before .before .before .before .before .before .before .before .before .before .before .entries in let s = c .before .before .before .before .before .before .before .before .before .before .before .before .before .before .before .before .before .args .s .now in
+    let c6 = c .before .before .before .before .before .before in
+    let c12 = c6 .before .before .before .before .before .before in
+    let v = c12 .before .before .entries in let s = c12 .before .before .before .before .before .args .s .now in
     let w = c .before .before .before .before .loop in
-    c .refused-at4 .ensures ∙ turn s (v .at) (v .t) (v .marked) (v .inv .3) (c .before .before .before .before .before .before .before .before .before .before .before .before .before .if1 .left) _ (λ k. refuses s (v .at) (v .t) (v .marked) k (before-release s (v .at) (c .before .before .before .before .before .before .before .before .before .before .before .before .before .if1 .left) (sym (c .before .before .before .before .before .before .before .before .before .before .before .before .is-release .ensures) ∙ c .before .before .before .before .before .before .before .before .before .before .before .if2 .left)) _ _ (sym (c .before .before .before .before .before .before .before .before .before .before .entry-at .ensures) ∙ c .before .before .before .before .before .before .before .before .entry2 .given .1) ((others-last (v .t) _ (sym (c .before .before .before .before .before .before .number-refused .ensures) ∙ c .before .before .before .before .before .if3 .left) (searched-all (v .t) _ (w .left) (c .before .before .before .loop-test .left) (w .inv))) ∙ sym (c .before .before .mark-or-length-refusal .ensures)) (c .before .if5 .taken))
+    c .refused-at4 .ensures ∙ turn s (v .at) (v .t) (v .marked) (v .inv .3) (c12 .before .if1 .left) _
+    (λ k. refuses s (v .at) (v .t) (v .marked) k
+    (before-release s (v .at) (c12 .before .if1 .left) (sym (c12 .is-release .ensures) ∙ c6 .before .before .before .before .before .if2 .left)) _ _
+    (sym (c6 .before .before .before .before .entry-at .ensures) ∙ c6 .before .before .entry2 .given .1)
+    ((others-last (v .t) _ (sym (c6 .number-refused .ensures) ∙ c .before .before .before .before .before .if3 .left)
+    (searched-all (v .t) _ (w .left) (c .before .before .before .loop-test .left) (w .inv))) ∙ sym (c .before .before .mark-or-length-refusal .ensures)) (c .before .if5 .taken))
 
 pub head-of-spec : {M : Type 1} → statement M
 head-of-spec =

@@ -28,11 +28,15 @@ outside-requires-3 c κs = search needs
 
 returns-4 : tie.Need-returns-4
 unfolding mark-or-length-refusal
-returns-4 c = simp (le-ltb _ _ (c .before .before .before .before .before .before .if1 .left), ← c .before .before .before .before .before .outside .ensures, c .before .before .before .before .if2 .left, ← c .before .before .before .outside2 .ensures, c .before .before .if3 .left, ← c .before .outside3 .ensures, c .if4 .taken)
+returns-4 c =
+    let c6 = c .before .before .before .before .before .before in
+    simp (le-ltb _ _ (c6 .if1 .left), ← c .before .before .before .before .before .outside .ensures, c .before .before .before .before .if2 .left, ← c .before .before .before .outside2 .ensures, c .before .before .if3 .left, ← c .before .outside3 .ensures, c .if4 .taken)
 
 returns-5 : tie.Need-returns-5
 unfolding mark-or-length-refusal
-returns-5 c = simp (le-ltb _ _ (c .before .before .before .before .before .before .if1 .left), ← c .before .before .before .before .before .outside .ensures, c .before .before .before .before .if2 .left, ← c .before .before .before .outside2 .ensures, c .before .before .if3 .left, ← c .before .outside3 .ensures, c .if4 .left)
+returns-5 c =
+    let c6 = c .before .before .before .before .before .before in
+    simp (le-ltb _ _ (c6 .if1 .left), ← c .before .before .before .before .before .outside .ensures, c .before .before .before .before .if2 .left, ← c .before .before .before .outside2 .ensures, c .before .before .if3 .left, ← c .before .outside3 .ensures, c .if4 .left)
 
 pub mark-or-length-refusal-spec : {M : Type 1} → statement M
 mark-or-length-refusal-spec =

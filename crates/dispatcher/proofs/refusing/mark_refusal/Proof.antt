@@ -16,11 +16,15 @@ returns-2 c times codes b = simp (← c .before .before .contains .ensures, not-
 
 returns-3 : tie.Need-returns-3
 unfolding mark-refusal state-in
-returns-3 c times codes b = simp (← c .before .before .before .before .before .before .before .contains .ensures, not-false (c .before .before .before .before .before .before .before .contains .result) (c .before .before .before .before .before .before .if1 .left), le-ltb _ _ (c .before .before .before .before .before .if2 .left), ← c .before .before .union .ensures, ← c .before .contains2 .ensures, c .if3 .taken)
+returns-3 c times codes b =
+    let c6 = c .before .before .before .before .before .before in
+    simp (← c6 .before .contains .ensures, not-false (c6 .before .contains .result) (c6 .if1 .left), le-ltb _ _ (c .before .before .before .before .before .if2 .left), ← c .before .before .union .ensures, ← c .before .contains2 .ensures, c .if3 .taken)
 
 returns-4 : tie.Need-returns-4
 unfolding mark-refusal state-in
-returns-4 c times codes b = simp (← c .before .before .before .before .before .before .before .contains .ensures, not-false (c .before .before .before .before .before .before .before .contains .result) (c .before .before .before .before .before .before .if1 .left), le-ltb _ _ (c .before .before .before .before .before .if2 .left), ← c .before .before .union .ensures, ← c .before .contains2 .ensures, c .if3 .left)
+returns-4 c times codes b =
+    let c6 = c .before .before .before .before .before .before in
+    simp (← c6 .before .contains .ensures, not-false (c6 .before .contains .result) (c6 .if1 .left), le-ltb _ _ (c .before .before .before .before .before .if2 .left), ← c .before .before .union .ensures, ← c .before .contains2 .ensures, c .if3 .left)
 
 pub mark-refusal-spec : {M : Type 1} → statement M
 mark-refusal-spec =

@@ -22,14 +22,18 @@ returns-3 c b = simp (← c .before .before .before .before .before .difference 
 returns-4 : tie.Need-returns-4
 unfolding refusal unknown state-in
 returns-4 c b =
-    let a = c .before .before .before .before .before .before .before .before .before .args in
-    simp (← c .before .before .before .before .before .before .before .difference .ensures, eq-eqb _ _ (c .before .before .before .before .before .before .if1 .left), ← c .before .before .before .before .before .too-late .ensures, c .before .before .before .before .if2 .left, ← c .before .before .before .not-after .ensures, c .before .before .if3 .left, due-before _ (a .t) (c .before .due-tick .ensures (a .sets .now)) (c .if4 .taken) (search needs))
+    let c3 = c .before .before .before in
+    let c6 = c3 .before .before .before in
+    let a = c6 .before .before .before .args in
+    simp (← c6 .before .difference .ensures, eq-eqb _ _ (c6 .if1 .left), ← c3 .before .before .too-late .ensures, c3 .before .if2 .left, ← c3 .not-after .ensures, c .before .before .if3 .left, due-before _ (a .t) (c .before .due-tick .ensures (a .sets .now)) (c .if4 .taken) (search needs))
 
 returns-5 : tie.Need-returns-5
 unfolding refusal unknown state-in
 returns-5 c b =
-    let a = c .before .before .before .before .before .before .before .before .before .args in
-    simp (← c .before .before .before .before .before .before .before .difference .ensures, eq-eqb _ _ (c .before .before .before .before .before .before .if1 .left), ← c .before .before .before .before .before .too-late .ensures, c .before .before .before .before .if2 .left, ← c .before .before .before .not-after .ensures, c .before .before .if3 .left, due-not-before _ (a .t) (c .before .due-tick .ensures (a .sets .now)) (c .if4 .left))
+    let c3 = c .before .before .before in
+    let c6 = c3 .before .before .before in
+    let a = c6 .before .before .before .args in
+    simp (← c6 .before .difference .ensures, eq-eqb _ _ (c6 .if1 .left), ← c3 .before .before .too-late .ensures, c3 .before .if2 .left, ← c3 .not-after .ensures, c .before .before .if3 .left, due-not-before _ (a .t) (c .before .due-tick .ensures (a .sets .now)) (c .if4 .left))
 
 pub refusal-spec : {M : Type 1} → statement M
 refusal-spec =

@@ -18,12 +18,17 @@ returns c =
 
 returns-2 : tie.Need-returns-2
 returns-2 c =
-    let a = c .before .before .before .before .before .before .before .before .before .before .before .before .before .before .before .before .before .before .before .before .before .before .before .before .args in (
+    let c8 = c .before .before .before .before .before .before .before .before in
+    let c12 = c8 .before .before .before .before in
+    let c18 = c12 .before .before .before .before .before .before in
+    let c24 = c18 .before .before .before .before .before .before in
+    let a = c24 .args in (
       λ release waits w.
           let b = beside (a .priority .now) (a .columns .now) (by-task release (a .blocked .now) waits) in
-          let x = c .before .before .before .before .before .before .before .before .before .before .before .before .before .before .before .before .before .before .choose .ensures (by-task release (a .blocked .now) waits) w in
-          closes-told 2 (behind (a .t) (x .state) (closes-with (a .t) _ b (c .before .before .before .before .before .before .before .before .before .before .before .before .before .before .before .before .is-over .ensures) (c .before .before .before .before .before .before .before .before .before .before .before .before .promoted .result) (x .whole) (c .before .before .before .before .before .before .before .before .before .before .before .before .before .before .before .if2 .taken)
-          (c .before .before .before .before .before .before .before .before .before .before .before .before .promoted .ensures) (c .before .before .before .before .before .before .before .before .count-blocked .ensures) refl (c .close .ensures))) (c .before .before .before .before .tell-interval .ensures (c .before .before .before .before .before .before .before .before .before .before .before .before .before .before .before .before .before .before .choose .last .1 .1 .0)),
+          let x = c18 .choose .ensures (by-task release (a .blocked .now) waits) w in
+          closes-told 2 (behind (a .t) (x .state)
+          (closes-with (a .t) _ b (c12 .before .before .before .before .is-over .ensures) (c12 .promoted .result) (x .whole) (c12 .before .before .before .if2 .taken)
+          (c12 .promoted .ensures) (c8 .count-blocked .ensures) refl (c .close .ensures))) (c .before .before .before .before .tell-interval .ensures (c18 .choose .last .1 .1 .0)),
       omega arith,
     )
 

@@ -10,10 +10,14 @@ use Rattle.dispatcher.proofs.stepping.end_before.Tie as tie
 
 returns : tie.Need-returns
 returns c =
-    let a = c .before .before .before .before .before .before .before .before .before .before .before .before .before .before .before .before .before .before .args in (
+    let c8 = c .before .before .before .before .before .before .before .before in
+    let c12 = c8 .before .before .before .before in
+    let c18 = c12 .before .before .before .before .before .before in
+    let a = c18 .args in (
       λ columns release waits w.
-          closes-told 1 (closes-with (a .t) (kept (a .times .now) (a .sets .now) (a .codes .now)) (beside (a .priority .now) columns (by-task release (a .blocked .now) waits)) (c .before .before .before .before .before .before .before .before .before .before .before .before .before .before .before .before .is-over .ensures) (c .before .before .before .before .before .before .before .before .before .before .before .before .promoted .result) w (c .before .before .before .before .before .before .before .before .before .before .before .before .before .before .before .if1 .taken)
-          (c .before .before .before .before .before .before .before .before .before .before .before .before .promoted .ensures) (c .before .before .before .before .before .before .before .before .count-blocked .ensures) refl (c .close .ensures)) (c .before .before .before .before .tell-interval .ensures (a .sets .now)),
+          closes-told 1 (closes-with (a .t) (kept (a .times .now) (a .sets .now) (a .codes .now)) (beside (a .priority .now) columns (by-task release (a .blocked .now) waits))
+          (c12 .before .before .before .before .is-over .ensures) (c12 .promoted .result) w (c12 .before .before .before .if1 .taken)
+          (c12 .promoted .ensures) (c8 .count-blocked .ensures) refl (c .close .ensures)) (c .before .before .before .before .tell-interval .ensures (a .sets .now)),
       omega arith,
     )
 

@@ -19,7 +19,10 @@ returns-4 : tie.Need-returns-4
 returns-4 c times sets = executing-is-due (registers-in (kept times sets (c .before .before .before .before .before .before .before .args .codes .now))) (c .before .before .before .before .before .if1 .left) (c .if4 .taken)
 
 returns-5 : tie.Need-returns-5
-returns-5 c times sets = the-processor-is-due (registers-in (kept times sets (c .before .before .before .before .before .before .before .args .codes .now))) (c .before .before .before .before .before .if1 .left) (c .before .before .before .before .if2 .left) (c .before .before .if3 .left) (c .if4 .left)
+returns-5 c times sets =
+    let c7 = c .before .before .before .before .before .before .before in
+    the-processor-is-due (registers-in (kept times sets (c7 .args .codes .now))) (c .before .before .before .before .before .if1 .left)
+    (c .before .before .before .before .if2 .left) (c .before .before .if3 .left) (c .if4 .left)
 
 pub some-due-spec : {M : Type 1} → statement M
 some-due-spec =

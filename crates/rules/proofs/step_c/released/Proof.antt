@@ -8,8 +8,19 @@ use Rattle.rules.proofs.step_c.released.Tie as tie
 returns : tie.Need-returns
 unfolding released
 returns c =
-    let a = c .before .before .before .before .before .before .before .before .args in
-    simp (c .intersection2 .ensures, c .before .difference4 .ensures, c .before .before .difference3 .ensures, c .before .before .before .union2 .ensures, c .before .before .before .before .intersection .ensures, c .before .before .before .before .before .union .ensures, c .before .before .before .before .before .before .difference2 .ensures, c .before .before .before .before .before .before .before .difference .ensures, same-set (a .set) (a .pending) (a .waiting))
+    let c6 = c .before .before .before .before .before .before in
+    let a = c6 .before .before .args in
+    simp (
+      c .intersection2 .ensures,
+      c .before .difference4 .ensures,
+      c .before .before .difference3 .ensures,
+      c .before .before .before .union2 .ensures,
+      c .before .before .before .before .intersection .ensures,
+      c .before .before .before .before .before .union .ensures,
+      c6 .difference2 .ensures,
+      c6 .before .difference .ensures,
+      same-set (a .set) (a .pending) (a .waiting),
+    )
 
 pub released-spec : {M : Type 1} → statement M
 released-spec =

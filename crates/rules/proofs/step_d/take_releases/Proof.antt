@@ -5,7 +5,7 @@ use Rattle.rules.specs.Instant.{steps-c-d}
 use Rattle.rules.specs.Registers.{state-in}
 use Rattle.rules.specs.Kept.{kept, beside, by-task, registers-in, memory-in}
 use Rattle.rules.proofs.Releases.{union-empty, none-released}
-use Rattle.rules.proofs.Kept.{both, taken-at}
+use Rattle.rules.proofs.Kept.{both, releases-taken}
 use Rattle.rules.proofs.step_d.take_releases.Statement.{statement}
 use Rattle.rules.proofs.step_d.take_releases.Tie as tie
 
@@ -34,7 +34,7 @@ returns-2 c times columns w =
     let e = c2 .before in
     let k = e .before in
     let a = k .before .before .before .before .before .before .before .args in
-    let m = taken-at (a .priority .now) columns (by-task (a .release .now) (a .blocked .now) (a .waits .now)) _ (a .t) (a .taken) (a .deferred)
+    let m = releases-taken (a .priority .now) columns (by-task (a .release .now) (a .blocked .now) (a .waits .now)) _ (a .t) (a .taken) (a .deferred)
     (e .difference .result) (c2 .union2 .result) (c3 .union3 .result) (c4 .union4 .result) (i .intersection .result) (c5 .union5 .result)
     (kept times (a .sets .now) (a .codes .now)) w (e .difference .ensures) (c2 .union2 .ensures) (c3 .union3 .ensures) (c4 .union4 .ensures) (i .intersection .ensures) (c5 .union5 .ensures)
     (k .take .ensures .0) (k .take .ensures .1) (d .defer .ensures) in

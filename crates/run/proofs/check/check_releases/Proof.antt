@@ -60,8 +60,10 @@ returns c = let a = c .before .before .before .args in let v = c .before .entrie
 
 returns-2 : tie.Need-returns-2 Inv-entries μ-entries
 returns-2 c =
-    let a = c .before .before .before .before .before .before .before .args in let s = a .s .now in let v = c .before .before .before .before .before .entries in
-    turn s (v .at) (a .present) (v .last) (v .count) _ (v .inv .1) (c .before .before .before .before .if1 .left) _ (λ k. malformed s (v .at) (a .present) (v .last) (v .count) k (c .before .before .before .before .if1 .left) _ (sym (c .before .before .before .entry-at .ensures) ∙ c .before .entry .given .1))
+    let c4 = c .before .before .before .before in
+    let a = c4 .before .before .before .args in let s = a .s .now in let v = c4 .before .entries in
+    turn s (v .at) (a .present) (v .last) (v .count) _ (v .inv .1) (c4 .if1 .left) _
+    (λ k. malformed s (v .at) (a .present) (v .last) (v .count) k (c4 .if1 .left) _ (sym (c .before .before .before .entry-at .ensures) ∙ c .before .entry .given .1))
 
 returns-3 : tie.Need-returns-3 Inv-entries μ-entries
 returns-3 c =
@@ -70,9 +72,11 @@ returns-3 c =
 
 returns-4 : tie.Need-returns-4 Inv-entries μ-entries
 returns-4 c =
-    let a = c .before .before .before .before .before .before .before .before .before .args in let s = a .s .now in let v = c .before .before .before .before .before .before .before .entries in
+    let c6 = c .before .before .before .before .before .before in
+    let a = c6 .before .before .before .args in let s = a .s .now in let v = c6 .before .entries in
     let r = sym (c .before .before .before .before .before .entry-at .ensures) ∙ c .before .before .before .entry2 .given .1 in
-    turn s (v .at) (a .present) (v .last) (v .count) _ (v .inv .1) (c .before .before .before .before .before .before .if1 .left) _ (λ k. refuses s (v .at) (a .present) (v .last) (v .count) k (c .before .before .before .before .before .before .if1 .left) _ _ r (sym (c .before .release-refusal .ensures)) (c .if2 .taken))
+    turn s (v .at) (a .present) (v .last) (v .count) _ (v .inv .1) (c6 .if1 .left) _
+    (λ k. refuses s (v .at) (a .present) (v .last) (v .count) k (c6 .if1 .left) _ _ r (sym (c .before .release-refusal .ensures)) (c .if2 .taken))
 
 pub check-releases-spec : {M : Type 1} → statement M
 check-releases-spec =

@@ -14,14 +14,18 @@ returns c =
 
 returns-2 : tie.Need-returns-2
 returns-2 c =
-    let s = c .before .before .before .before .before .before .before .before .before .before .before .before .before .before .before .before .before .before .before .before .before .before .before .before .before .before .before .before .args in
+    let c6 = c .before .before .before .before .before .before in
+    let c15 = c6 .before .before .before .before .before .before .before .before .before in
+    let c21 = c15 .before .before .before .before .before .before in
+    let c28 = c21 .before .before .before .before .before .before .before in
+    let s = c28 .args in
     λ release waits w. let o = by-task release (s .blocked .now) waits in
-    let x = c .before .before .before .before .before .before .before .before .before .before .before .before .before .before .before .before .before .before .before .before .before .choose .ensures o w in
+    let x = c21 .choose .ensures o w in
     put-span
     (behind (s .t) (x .state) (closes (s .t) _ (beside (s .priority .now) (s .columns .now) o)
-    (c .before .before .before .before .before .before .before .before .before .before .before .before .before .before .before .before .before .before .before .is-over .ensures) (c .before .before .before .before .before .before .before .before .before .before .before .before .before .before .before .promoted .result) (x .whole) (c .before .before .before .before .before .before .before .before .before .before .before .before .before .before .before .before .before .before .if2 .taken)
-    (c .before .before .before .before .before .before .before .before .before .before .before .before .before .before .before .promoted .ensures) (c .before .before .before .before .before .before .before .before .before .before .before .count-blocked .ensures) (c .before .before .before .before .before .before .before .interval-entry .ensures) (c .close .ensures)))
-    (c .before .before .before .before .before .before .interval-at .ensures)
+    (c15 .before .before .before .before .is-over .ensures) (c15 .promoted .result) (x .whole) (c15 .before .before .before .if2 .taken)
+    (c15 .promoted .ensures) (c6 .before .before .before .before .before .count-blocked .ensures) (c6 .before .interval-entry .ensures) (c .close .ensures)))
+    (c6 .interval-at .ensures)
 
 returns-3 : tie.Need-returns-3
 returns-3 c =

@@ -8,12 +8,15 @@ use Rattle.run.proofs.instant.end_before.Tie as tie
 
 returns : tie.Need-returns
 returns c =
-    let s = c .before .before .before .before .before .before .before .before .before .before .before .before .before .before .before .before .before .before .before .before .before .before .args in
+    let c6 = c .before .before .before .before .before .before in
+    let c15 = c6 .before .before .before .before .before .before .before .before .before in
+    let c22 = c15 .before .before .before .before .before .before .before in
+    let s = c22 .args in
     λ columns release waits w. put-span
     (closes (s .t) (kept (s .times .now) (s .sets .now) (s .codes .now)) (beside (s .priority .now) columns (by-task release (s .blocked .now) waits))
-    (c .before .before .before .before .before .before .before .before .before .before .before .before .before .before .before .before .before .before .before .is-over .ensures) (c .before .before .before .before .before .before .before .before .before .before .before .before .before .before .before .promoted .result) w (c .before .before .before .before .before .before .before .before .before .before .before .before .before .before .before .before .before .before .if1 .taken)
-    (c .before .before .before .before .before .before .before .before .before .before .before .before .before .before .before .promoted .ensures) (c .before .before .before .before .before .before .before .before .before .before .before .count-blocked .ensures) (c .before .before .before .before .before .before .before .interval-entry .ensures) (c .close .ensures))
-    (c .before .before .before .before .before .before .interval-at .ensures)
+    (c15 .before .before .before .before .is-over .ensures) (c15 .promoted .result) w (c15 .before .before .before .if1 .taken)
+    (c15 .promoted .ensures) (c6 .before .before .before .before .before .count-blocked .ensures) (c6 .before .interval-entry .ensures) (c .close .ensures))
+    (c6 .interval-at .ensures)
 
 returns-2 : tie.Need-returns-2
 returns-2 c =

@@ -31,43 +31,58 @@ skips-at-requires c κs =
 
 end-after-requires : tie.Need-end-after-requires
 end-after-requires c κs =
-    let at = c .before .before .before .before .before .before .before .before .before .before .before .before .before .before .before .before .before .before .before .before .before .before .before .before .before .before .before .before .before .before .before .before .before .before .before .before .before .before .before .before .stamp .ensures (beside [] [] (by-task [] [] [])) in
-    let o = c .before .before .before .before .before .before .before .before .before .before .before .before .before .before .before .before .before .before .before .before .before .before .before .before .before .before .before .before .before .before .before .before .before .end-copyout .ensures [] [] [] (at .whole) in
-    let a = c .before .before .before .before .before .before .before .before .before .before .before .before .before .before .before .before .before .before .before .before .before .before .before .before .before .before .before .before .others-end .ensures [] _ (o .copies .no-more) (by-task [] [] []) (o .copies .whole) in
-    let b = c .before .before .before .before .before .before .before .before .before .before .before .before .before .before .before .before .before .before .before .before .before .before .end-before .ensures [] [] [] (a .whole) in
-    omega (arith, job-most o, span-place b, c .before .before .before .before .before .before .before .before .before .before .before .before .before .before .before .skips-at .ensures .place-is, skips-most 32 (c .before .before .before .before .before .before .before .before .before .before .before .before .before .before .before .before .before .released .result .skipped) (c .before .before .before .before .before .before .before .before .before .before .before .before .before .before .before .before .before .before .before .before .before .before .before .before .before .before .before .before .before .before .before .before .before .before .before .before .before .before .before .before .before .before .before .before .before .args .t))
+    let c15 = c .before .before .before .before .before .before .before .before .before .before .before .before .before .before .before in
+    let c22 = c15 .before .before .before .before .before .before .before in
+    let c28 = c22 .before .before .before .before .before .before in
+    let c40 = c28 .before .before .before .before .before .before .before .before .before .before .before .before in
+    let at = c40 .stamp .ensures (beside [] [] (by-task [] [] [])) in
+    let o = c28 .before .before .before .before .before .end-copyout .ensures [] [] [] (at .whole) in
+    let a = c28 .others-end .ensures [] _ (o .copies .no-more) (by-task [] [] []) (o .copies .whole) in
+    let b = c22 .end-before .ensures [] [] [] (a .whole) in
+    omega (arith, job-most o, span-place b, c15 .skips-at .ensures .place-is, skips-most 32 (c15 .before .before .released .result .skipped) (c40 .before .before .before .before .before .args .t))
 
 same-length : tie.Need-same-length
-same-length c = c .before .before .before .before .before .out4 .given ∙ c .before .before .before .before .before .before .before .before .before .before .before .before .before .before .before .before .before .before .before .before .before .out3 .given ∙ c .before .before .before .before .before .before .before .before .before .before .before .before .before .before .before .before .before .before .before .before .before .before .before .before .before .before .before .before .out2 .given ∙ c .before .before .before .before .before .before .before .before .before .before .before .before .before .before .before .before .before .before .before .before .before .before .before .before .before .before .before .before .before .before .before .before .before .before .before .before .before .before .before .out .given
+same-length c =
+    let c21 = c .before .before .before .before .before .before .before .before .before .before .before .before .before .before .before .before .before .before .before .before .before in
+    let c28 = c21 .before .before .before .before .before .before .before in
+    let c39 = c28 .before .before .before .before .before .before .before .before .before .before .before in
+    c .before .before .before .before .before .out4 .given ∙ c21 .out3 .given ∙ c28 .out2 .given ∙ c39 .out .given
 
 returns : tie.Need-returns
 unfolding state-in taken deferred skipped
 returns c =
-    let s = c .before .before .before .before .before .before .before .before .before .before .before .before .before .before .before .before .before .before .before .before .before .before .before .before .before .before .before .before .before .before .before .before .before .before .before .before .before .before .before .before .before .before .before .before .before .before .before .before .before .before .before .before .args in
+    let c6 = c .before .before .before .before .before .before in
+    let c12 = c6 .before .before .before .before .before .before in
+    let c18 = c12 .before .before .before .before .before .before in
+    let c24 = c18 .before .before .before .before .before .before in
+    let c29 = c24 .before .before .before .before .before in
+    let c35 = c29 .before .before .before .before .before .before in
+    let c47 = c35 .before .before .before .before .before .before .before .before .before .before .before .before in
+    let s = c47 .before .before .before .before .before .args in
     let o₀ = by-task (s .release .now) (s .blocked .now) (s .waits .now) in
-    let at = c .before .before .before .before .before .before .before .before .before .before .before .before .before .before .before .before .before .before .before .before .before .before .before .before .before .before .before .before .before .before .before .before .before .before .before .before .before .before .before .before .before .before .before .before .before .before .before .stamp .ensures (beside (s .priority .now) (s .columns .now) o₀) in
-    let o = c .before .before .before .before .before .before .before .before .before .before .before .before .before .before .before .before .before .before .before .before .before .before .before .before .before .before .before .before .before .before .before .before .before .before .before .before .before .before .before .before .end-copyout .ensures (s .priority .now) (s .columns .now) (s .waits .now) (at .whole) in
-    let a = c .before .before .before .before .before .before .before .before .before .before .before .before .before .before .before .before .before .before .before .before .before .before .before .before .before .before .before .before .before .before .before .before .before .before .before .others-end .ensures (s .priority .now) _ (o .copies .no-more) o₀ (o .copies .whole) in
-    let b = c .before .before .before .before .before .before .before .before .before .before .before .before .before .before .before .before .before .before .before .before .before .before .before .before .before .before .before .before .before .end-before .ensures (s .columns .now) (s .release .now) (s .waits .now) (a .whole) in
-    let x = c .before .before .before .before .before .before .before .before .before .before .before .before .take-releases .ensures _ (s .columns .now) (b .whole) in
-    let f = c .before .before .before .before .before .before .end-after .ensures _ _ (x .whole) in
+    let at = c47 .stamp .ensures (beside (s .priority .now) (s .columns .now) o₀) in
+    let o = c35 .before .before .before .before .before .end-copyout .ensures (s .priority .now) (s .columns .now) (s .waits .now) (at .whole) in
+    let a = c35 .others-end .ensures (s .priority .now) _ (o .copies .no-more) o₀ (o .copies .whole) in
+    let b = c29 .end-before .ensures (s .columns .now) (s .release .now) (s .waits .now) (a .whole) in
+    let x = c12 .take-releases .ensures _ (s .columns .now) (b .whole) in
+    let f = c6 .end-after .ensures _ _ (x .whole) in
     let g = c .begin-interval .ensures _ (f .whole) in
     let d = read (kept (s .times .now) (s .sets .now) (s .codes .now)) (beside (s .priority .now) (s .columns .now) o₀) in
-    let r = c .before .before .before .before .before .before .before .before .before .before .before .before .before .before .before .before .before .before .before .before .before .before .before .before .released .ensures in
+    let r = c24 .released .ensures in
     let h : Left d (s .t) (s .set) _ _ _ _ _ _ _ _ _ = record {
       timed-is = at .state;
       a-is = a .state ∙ o .copies .state;
       b-is = b .state;
-      new-is = ap (λ (z : ReleaseFates). z .taken) r;
-      late-is = ap (λ (z : ReleaseFates). z .deferred) r;
-      held-is = c .before .before .before .before .before .before .before .before .before .before .before .before .before .before .before .before .before .before .held-over .ensures (c .before .before .before .before .before .before .before .before .before .before .before .before .before .before .before .before .before .before .before .before .before .before .before .before .before .before .before .before .before .end-before .last .1 .0) (c .before .before .before .before .before .before .before .before .before .before .before .before .before .before .before .before .before .before .before .before .before .before .before .before .before .before .before .before .before .end-before .last .1 .1 .0);
+      taken-is = ap (λ (z : ReleaseFates). z .taken) r;
+      deferred-is = ap (λ (z : ReleaseFates). z .deferred) r;
+      held-is = c18 .held-over .ensures (c29 .end-before .last .1 .0) (c29 .end-before .last .1 .1 .0);
       x-is = x .state;
       f-is = f .state;
       g-is = g .state;
     } in
     record {
       state = left d (s .t) (s .set) h;
-      puts = all-put d (s .t) (s .set) h (ap (λ (z : ReleaseFates). z .skipped) r) (o .puts) (b .puts) (c .before .before .before .before .before .before .before .before .before .before .before .before .before .before .before .before .before .before .before .before .before .before .skips-at .ensures) (f .puts);
+      puts = all-put d (s .t) (s .set) h (ap (λ (z : ReleaseFates). z .skipped) r) (o .puts) (b .puts) (c18 .before .before .before .before .skips-at .ensures) (f .puts);
     }
 
 pub steps-spec : {M : Type 1} → statement M

@@ -38,10 +38,18 @@ part-advance-start-2 : tie.Need-part-advance-start-2 Inv-loop μ-loop
 part-advance-start-2 c = let v = c .before .before .before .before .before .before .before .before .before .before .before .before .loop in omega (arith, v .inv .0 .fits, v .inv .0 .same)
 
 add-read : tie.Need-add-read Inv-loop μ-loop
-add-read c = omega (arith, reads (c .before .before .before .before .before .before .before .before .before .before .before .before .before .before .before .before .before .before .before .loop .inv .0) (c .before .before .before .before .before .advance .ensures) (c .before .if2 .left), c .before .before .before .before .before .before .before .before .before .before .before .before .before .before .before .before .before .before .before .before .before .before .before .before .before .before .before .before .good .0 .0)
+add-read c =
+    let c19 = c .before .before .before .before .before .before .before .before .before .before .before .before .before .before .before .before .before .before .before in
+    let c28 = c19 .before .before .before .before .before .before .before .before .before in
+    omega (arith, reads (c19 .loop .inv .0) (c .before .before .before .before .before .advance .ensures) (c .before .if2 .left), c28 .good .0 .0)
 
 add-size : tie.Need-add-size Inv-loop μ-loop
-add-size c = omega (arith, puts (c .before .before .before .before .before .before .before .before .before .before .before .before .before .before .before .before .before .before .before .before .loop .inv .0) (c .before .before .before .before .before .before .advance .ensures) (c .before .before .if2 .left) (c .before .before .before .before .before .before .before .before .before .before .before .before .before .before .before .before .before .before .if1 .left), c .before .before .before .before .before .before .before .before .before .before .before .before .before .before .before .before .before .before .before .before .loop .inv .0 .same, c .before .before .before .before .before .before .before .before .before .before .before .before .before .before .before .before .before .before .before .before .before .before .before .before .before .before .before .before .before .good .1 .1 .1 .0 .0)
+add-size c =
+    let c6 = c .before .before .before .before .before .before in
+    let c18 = c6 .before .before .before .before .before .before .before .before .before .before .before .before in
+    let c20 = c18 .before .before in
+    let c29 = c20 .before .before .before .before .before .before .before .before .before in
+    omega (arith, puts (c20 .loop .inv .0) (c6 .advance .ensures) (c .before .before .if2 .left) (c18 .if1 .left), c20 .loop .inv .0 .same, c29 .good .1 .1 .1 .0 .0)
 
 sub-left : tie.Need-sub-left Inv-loop μ-loop
 sub-left c = omega (arith, c .before .before .before .before .before .before .before .before .before .before .before .before .before .before .before .before .before .before .before .loop-test .taken)
@@ -50,7 +58,10 @@ loop-less : tie.Need-loop-less Inv-loop μ-loop
 loop-less c = omega (arith, c .before .before .before .before .before .before .before .before .before .before .before .before .before .before .before .before .before .before .before .loop-test .taken)
 
 loop-again : tie.Need-loop-again Inv-loop μ-loop
-loop-again c = let v = c .before .before .before .before .before .before .before .before .before .before .before .before .before .before .before .before .before .before .before .before .loop in (moves (v .inv .0) (c .before .before .before .before .before .before .advance .ensures) (c .before .before .if2 .left) (c .before .before .before .before .before .before .before .before .before .before .before .before .before .before .before .before .before .before .before .loop-test .taken) (c .before .before .before .before .before .before .before .before .before .before .before .before .before .before .before .before .before .before .if1 .left) refl, v .inv .1)
+loop-again c =
+    let c6 = c .before .before .before .before .before .before in
+    let c18 = c6 .before .before .before .before .before .before .before .before .before .before .before .before in
+    let v = c18 .before .before .loop in (moves (v .inv .0) (c6 .advance .ensures) (c .before .before .if2 .left) (c18 .before .loop-test .taken) (c18 .if1 .left) refl, v .inv .1)
 
 same-length : tie.Need-same-length Inv-loop μ-loop
 same-length c =

@@ -4,7 +4,7 @@ use mathlib.Core.Logic.{⊎-elim}
 use lib.ListN.{length}
 use Rattle.entries.specs.Entries.{interval-bytes}
 use Rattle.run.specs.Types.{IntervalEnded}
-use Rattle.run.proofs.Slices.{one, put-rest, put-past, put-length}
+use Rattle.run.proofs.Slices.{one, put-rest, rest-put-length, put-past}
 use borrow.Author.Needs.{needs}
 use Rattle.run.proofs.putting.interval_at.Statement.{statement}
 use Rattle.run.proofs.putting.interval_at.Tie as tie
@@ -28,10 +28,7 @@ same-length : tie.Need-same-length
 same-length c =
     let a = c .before .before .args in
     let e = interval-bytes (a .e) in
-    ⊎-elim
-    (λ w. ap length (w .5 ∙ put-rest e (a .at) (a .out .now) _ (w .2 .last .0) (w .0 .taken) (w .2 .ensures)) ∙ put-length (a .at) e (a .out .now))
-    (λ w. ap length (w .1))
-    (c .if1 .came)
+    ⊎-elim (λ w. rest-put-length e (a .at) (a .out .now) _ (w .2 .last .0) (w .0 .taken) (w .2 .ensures) (w .5)) (λ w. ap length (w .1)) (c .if1 .came)
 
 returns : tie.Need-returns
 returns c =
