@@ -35,17 +35,8 @@ use Rattle.guarantees.proofs.Demand3.{demand-3}
 
 -- ---- the plans, computed
 
-opens : (opening tasks .refusal ≡ NoRefusal) × (opening tasks .state .table ≡ plans-table)
-unfolding Words.numberAt Sets.member Sets.below Sets.collect Sets.insert Entries.task-at Entries.entry-at Head.given Head.outside Head.number-refused Head.mark-or-length-refusal Head.task-refusal
-    Head.with-task Head.with-marked Head.behind-head Head.head-from Head.head-of Head.head-alone Calls.opened Calls.opening task tasks three plans-table
-opens = (refl, refl)
-
--- the history that some calls make, where they leave nothing due
-record Makes (calls : List Call) (h : List Event) : Type 0 where
-  made : history (opening tasks .state) calls ≡ h
-  at-rest : due (after-calls (opening tasks .state) calls .phase) ≡ Never
-
-plans-made : Makes calls-a history-a × Makes calls-b history-b × Makes calls-c history-c × Makes calls-d history-d × Makes calls-e history-e × Makes calls-f history-f × Makes calls-f′ history-f′ × Makes calls-waiting history-waiting
+-- what opening and the calls compute with
+unfoldable computed : Unit {0}
 unfolding Words.numberAt Sets.member Sets.below Sets.collect Sets.union Sets.intersection Sets.difference Sets.insert Sets.remove Entries.task-at Entries.release-at Entries.entry-at Head.given
     Head.outside Head.number-refused Head.mark-or-length-refusal Head.task-refusal Head.with-task Head.with-marked Head.behind-head Head.head-from Head.head-of Head.head-alone Order.better
     Order.highest-below Order.highest Order.higher-than Instant.processor-at Instant.copyout-at Instant.ended Instant.completed Instant.without-done Instant.step-a Instant.promoted Instant.blocks
@@ -55,6 +46,19 @@ unfolding Words.numberAt Sets.member Sets.below Sets.collect Sets.union Sets.int
     History.processor-events-in History.finish-events History.finish-events-in History.completion-events History.end-events History.take-events History.defer-events History.giving-events
     History.giving-events-in History.begin-events History.execution-events History.start-events History.happens Calls.after-call History.by-call History.after-calls History.history task tasks three
     plans-table calls-a history-a calls-b history-b calls-c history-c calls-d history-d calls-e history-e calls-f history-f calls-f′ history-f′ calls-waiting history-waiting
+computed = tt
+
+opens : (opening tasks .refusal ≡ NoRefusal) × (opening tasks .state .table ≡ plans-table)
+unfolding computed
+opens = (refl, refl)
+
+-- the history that some calls make, where they leave nothing due
+record Makes (calls : List Call) (h : List Event) : Type 0 where
+  made : history (opening tasks .state) calls ≡ h
+  at-rest : due (after-calls (opening tasks .state) calls .phase) ≡ Never
+
+plans-made : Makes calls-a history-a × Makes calls-b history-b × Makes calls-c history-c × Makes calls-d history-d × Makes calls-e history-e × Makes calls-f history-f × Makes calls-f′ history-f′ × Makes calls-waiting history-waiting
+unfolding computed
 plans-made = (
   record { made = refl; at-rest = refl },
   record { made = refl; at-rest = refl },
@@ -290,11 +294,11 @@ unfolding third-idle first
 refuses-incomplete h = let x : Completed 2 (drop 2 third-idle) = h .each (take 1 third-idle) (drop 2 third-idle) 2 0 false refl in not-never (x .done) (x .completes)
 
 -- a release that waits is taken, at the next completion of a job of its task
-taken-at : (n : ℕ) (between : List Event) (later : List Event) (tick : ℕ) (m : Bool) → taking n between ≡ Never → taking n (between ++ (Takes n tick m ∷ later)) ≡ Tick tick
+taking-there : (n : ℕ) (between : List Event) (later : List Event) (tick : ℕ) (m : Bool) → taking n between ≡ Never → taking n (between ++ (Takes n tick m ∷ later)) ≡ Tick tick
 unfolding first
-taken-at n [] later tick m h = ap (λ (b : Bool). cond b (Tick tick) (taking n later)) (same-task n)
-taken-at n (e ∷ between) later tick m h =
-    by-test (takes e && is-task n (details e .task)) (λ x. absurd (never-is (details e .tick) (rw x at h))) (λ x. rw x (taken-at n between later tick m (rw x at h)))
+taking-there n [] later tick m h = ap (λ (b : Bool). cond b (Tick tick) (taking n later)) (same-task n)
+taking-there n (e ∷ between) later tick m h =
+    by-test (takes e && is-task n (details e .task)) (λ x. absurd (never-is (details e .tick) (rw x at h))) (λ x. rw x (taking-there n between later tick m (rw x at h)))
 
 completes-in : (n : ℕ) (between later : List Event) (c : ℕ) → completion n between ≡ Tick c → completion n (between ++ later) ≡ Tick c
 unfolding first
@@ -304,7 +308,7 @@ completes-in n (e ∷ between) later c h =
 
 then-taken : (n : ℕ) (after : List Event) (x : TakenLater n after) → (taking n after ≡ Tick (x .tick)) × (completion n after ≡ Tick (x .tick))
 then-taken n after x = (
-  ap (taking n) (x .is-taken) ∙ taken-at n (x .between) (x .later) (x .tick) (x .marked) (x .next-taken),
+  ap (taking n) (x .is-taken) ∙ taking-there n (x .between) (x .later) (x .tick) (x .marked) (x .next-taken),
   ap (completion n) (x .is-taken) ∙ completes-in n (x .between) (Takes n (x .tick) (x .marked) ∷ x .later) (x .tick) (x .at-completion),
 )
 
@@ -450,28 +454,11 @@ waited-entry = (
 -- ---- the releases
 
 handed : (handed-in 1 (opening tasks .state) calls-one ≡ 1) × (handed-in 2 (opening tasks .state) calls-one ≡ 0)
-unfolding Words.numberAt Sets.member Sets.below Sets.collect Sets.union Sets.intersection Sets.difference Sets.insert Sets.remove Entries.task-at Entries.release-at Entries.entry-at Head.given
-    Head.outside Head.number-refused Head.mark-or-length-refusal Head.task-refusal Head.with-task Head.with-marked Head.behind-head Head.head-from Head.head-of Head.head-alone Order.better
-    Order.highest-below Order.highest Order.higher-than Instant.processor-at Instant.copyout-at Instant.ended Instant.completed Instant.without-done Instant.step-a Instant.promoted Instant.blocks
-    Instant.counted Instant.close Instant.interval-entry Instant.close-stage Instant.step-b Instant.taken Instant.deferred Instant.skipped Instant.stamped Instant.with-candidates Instant.step-c
-    Instant.cancel Instant.cancel-by Instant.step-d Instant.choose Instant.choose-if Instant.step-e Instant.begin Instant.step-g Instant.sooner Instant.due Instant.at-a Instant.at-b Instant.new-at
-    Instant.late-at Instant.at-e Instant.at-f Instant.at-g Instant.occurred Calls.opened Calls.opening Calls.unknown Calls.refusal Calls.served Calls.instant History.processor-events
-    History.processor-events-in History.finish-events History.finish-events-in History.completion-events History.end-events History.take-events History.defer-events History.giving-events
-    History.giving-events-in History.begin-events History.execution-events History.start-events History.happens Calls.after-call History.by-call History.after-calls History.history task tasks three
-    plans-table calls-a history-a calls-b history-b calls-c history-c calls-d history-d calls-e history-e calls-f history-f calls-f′ history-f′ calls-waiting history-waiting handed-in calls-one
+unfolding computed handed-in calls-one
 handed = (refl, refl)
 
 pub marks : Marks
-unfolding Words.numberAt Sets.member Sets.below Sets.collect Sets.union Sets.intersection Sets.difference Sets.insert Sets.remove Entries.task-at Entries.release-at Entries.entry-at Head.given
-    Head.outside Head.number-refused Head.mark-or-length-refusal Head.task-refusal Head.with-task Head.with-marked Head.behind-head Head.head-from Head.head-of Head.head-alone Order.better
-    Order.highest-below Order.highest Order.higher-than Instant.processor-at Instant.copyout-at Instant.ended Instant.completed Instant.without-done Instant.step-a Instant.promoted Instant.blocks
-    Instant.counted Instant.close Instant.interval-entry Instant.close-stage Instant.step-b Instant.taken Instant.deferred Instant.skipped Instant.stamped Instant.with-candidates Instant.step-c
-    Instant.cancel Instant.cancel-by Instant.step-d Instant.choose Instant.choose-if Instant.step-e Instant.begin Instant.step-g Instant.sooner Instant.due Instant.at-a Instant.at-b Instant.new-at
-    Instant.late-at Instant.at-e Instant.at-f Instant.at-g Instant.occurred Calls.opened Calls.opening Calls.unknown Calls.refusal Calls.served Calls.instant History.processor-events
-    History.processor-events-in History.finish-events History.finish-events-in History.completion-events History.end-events History.take-events History.defer-events History.giving-events
-    History.giving-events-in History.begin-events History.execution-events History.start-events History.happens Calls.after-call History.by-call History.after-calls History.history task tasks three
-    plans-table calls-a history-a calls-b history-b calls-c history-c calls-d history-d calls-e history-e calls-f history-f calls-f′ history-f′ calls-waiting history-waiting Marks marked-by
-    Calls.mark-refusal Calls.mark
+unfolding computed Marks marked-by Calls.mark-refusal Calls.mark
 marks = (refl, refl, refl, refl)
 
 pub releases-refused : ReleasesRefused

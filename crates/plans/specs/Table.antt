@@ -26,5 +26,25 @@ use Rattle.plans.specs.Runs.{runs}
 use Rattle.plans.specs.Runs
 
 pub table : all-found (plans ++ (waiting ++ (refusals ++ runs))) ≡ all-expected (plans ++ (waiting ++ (refusals ++ runs)))
-unfolding Words.bytesOf Words.numberAt Words.room Words.written Sets.member Sets.below Sets.collect Sets.union Sets.intersection Sets.difference Sets.insert Sets.remove Sets.lowestIn Sets.lowest Entries.task-at Entries.release-at Entries.entry-at Entries.job-bytes Entries.choice-bytes Entries.interval-bytes Entries.skipped-bytes Head.given Head.outside Head.number-refused Head.mark-or-length-refusal Head.behind-head Head.task-refusal Table.with-lengths Head.with-task Head.with-marked Head.head-from Head.head-of Head.head-alone Order.better Order.highest-below Order.highest Order.higher-than Instant.processor-at Instant.copyout-at Instant.ended Instant.completed Instant.without-done Instant.step-a Instant.promoted Instant.blocks Instant.counted Instant.closed-with Instant.close Instant.entry-with Instant.interval-entry Instant.close-stage Instant.step-b Instant.taken Instant.deferred Instant.skipped Instant.stamped Instant.with-candidates Instant.step-c Instant.cancel Instant.cancel-by Instant.step-d Instant.choose Instant.choose-if Instant.step-e Instant.begin Instant.step-g Instant.sooner Instant.due Instant.at-a Instant.at-b Instant.new-at Instant.late-at Instant.steps-c-d Instant.steps-c-to-e Instant.at-e Instant.at-f Instant.at-g Instant.occurred Calls.opened Calls.opening Calls.unknown Calls.refusal Calls.served Calls.instant Calls.mark-refusal Calls.mark Calls.after-call Files.rises Files.release-refusal Files.with-release Files.releases-from Files.releases-of RuleEntries.skipped-entries RuleEntries.entries Run.released-from Run.released-after Run.run Entries.each Run.record-entries Run.record-bytes Writing.written Run.moments-of Writing.file Rows.called Rows.called-moments Rows.called-state Rows.with-put Rows.found Rows.all-found Rows.all-expected Rows.recorded Rows.refused Rows.answered Rows.answered-behind Plans.task Plans.release Plans.tasks Plans.two-marked Plans.none Plans.interval Plans.job Plans.skipped Plans.record-A Plans.record-B Plans.record-C Plans.record-D Plans.record-E Plans.record-F Plans.record-F′ Plans.record-thrown-out Plans.record-higher-promoted Plans.record-higher-stays Plans.record-unmarked Plans.record-interval-over Plans.plans Waiting.record-in-its-turn Waiting.record-third-skipped Waiting.record-chosen-at-once Waiting.record-from-the-taking Waiting.record-marks Waiting.record-cancels Waiting.record-throws-out Waiting.record-belongs-to-next Waiting.waiting Refusals.unopened Refusals.refusals Runs.runs
+unfolding Words.bytesOf Words.numberAt Words.room Words.written Sets.member Sets.below Sets.collect Sets.union Sets.intersection
+    Sets.difference Sets.insert Sets.remove Sets.lowestIn Sets.lowest Entries.task-at Entries.release-at Entries.entry-at
+    Entries.job-bytes Entries.choice-bytes Entries.interval-bytes Entries.skipped-bytes Head.given Head.outside Head.number-refused
+    Head.mark-or-length-refusal Head.behind-head Head.task-refusal Table.with-lengths Head.with-task Head.with-marked Head.head-from
+    Head.head-of Head.head-alone Order.better Order.highest-below Order.highest Order.higher-than Instant.processor-at
+    Instant.copyout-at Instant.ended Instant.completed Instant.without-done Instant.step-a Instant.promoted Instant.blocks
+    Instant.counted Instant.closed-with Instant.close Instant.entry-with Instant.interval-entry Instant.close-stage Instant.step-b
+    Instant.taken Instant.deferred Instant.skipped Instant.stamped Instant.with-candidates Instant.step-c Instant.cancel
+    Instant.cancel-by Instant.step-d Instant.choose Instant.choose-if Instant.step-e Instant.begin Instant.step-g Instant.sooner
+    Instant.due Instant.at-a Instant.at-b Instant.new-at Instant.late-at Instant.steps-c-d Instant.steps-c-to-e Instant.at-e
+    Instant.at-f Instant.at-g Instant.occurred Calls.opened Calls.opening Calls.unknown Calls.refusal Calls.served Calls.instant
+    Calls.mark-refusal Calls.mark Calls.after-call Files.rises Files.release-refusal Files.with-release Files.releases-from
+    Files.releases-of RuleEntries.skipped-entries RuleEntries.entries Run.released-from Run.released-after Run.run Entries.each
+    Run.record-entries Run.record-bytes Writing.written Run.moments-of Writing.file Rows.called Rows.called-moments Rows.called-state
+    Rows.with-put Rows.found Rows.all-found Rows.all-expected Rows.recorded Rows.refused Rows.answered Rows.answered-behind Plans.task
+    Plans.release Plans.tasks Plans.two-marked Plans.none Plans.interval Plans.job Plans.skipped Plans.record-A Plans.record-B
+    Plans.record-C Plans.record-D Plans.record-E Plans.record-F Plans.record-F′ Plans.record-thrown-out Plans.record-higher-promoted
+    Plans.record-higher-stays Plans.record-unmarked Plans.record-interval-over Plans.plans Waiting.record-in-its-turn
+    Waiting.record-third-skipped Waiting.record-chosen-at-once Waiting.record-from-the-taking Waiting.record-marks
+    Waiting.record-cancels Waiting.record-throws-out Waiting.record-belongs-to-next Waiting.waiting Refusals.unopened Refusals.refusals
+    Runs.runs
 table = refl

@@ -12,8 +12,10 @@ returns c =
 
 returns-2 : tie.Need-returns-2
 returns-2 c =
-    let a = c .before .before .before .before .before .before .before .before .before .before .before .before .before .args in
-    served-at (kept (a .times .now) (a .sets .now) (a .codes .now)) (beside (a .priority .now) (a .columns .now) (by-task (a .release .now) (a .blocked .now) (a .waits .now))) (a .time) (a .set) (c .before .before .before .before .before .before .before .before .before .refusal .ensures _) (c .before .before .before .before .before .before .before .before .if1 .left) (c .steps .ensures)
+    let c8 = c .before .before .before .before .before .before .before .before in
+    let a = c8 .before .before .before .before .before .args in
+    served-at (kept (a .times .now) (a .sets .now) (a .codes .now)) (beside (a .priority .now) (a .columns .now) (by-task (a .release .now) (a .blocked .now) (a .waits .now)))
+    (a .time) (a .set) (c8 .before .refusal .ensures _) (c8 .if1 .left) (c .steps .ensures)
 
 pub gateway-instant-v3-spec : {M : Type 1} → statement M
 gateway-instant-v3-spec = tie.close

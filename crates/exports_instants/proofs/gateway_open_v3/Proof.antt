@@ -7,7 +7,10 @@ use Rattle.exports_instants.proofs.gateway_open_v3.Statement.{statement
 use Rattle.exports_instants.proofs.gateway_open_v3.Tie as tie
 
 returns : tie.Need-returns
-returns c = opened-at _ _ _ _ _ (c .before .before .before .before .before .before .before .before .before .before .before .before .before .«open» .result) _ (c .before .before .before .before .before .before .before .before .before .before .before .before .before .«open» .ensures) (c .before .before .before .before .before .before .before .before .before .before .enum-told .given .1) (c .put-state .ensures) (c .before .before .before .before .before .before .before .before .before .before .before .before .place-of .ensures)
+returns c =
+    let c10 = c .before .before .before .before .before .before .before .before .before .before in
+    let c13 = c10 .before .before .before in
+    opened-at _ _ _ _ _ (c13 .«open» .result) _ (c13 .«open» .ensures) (c10 .enum-told .given .1) (c .put-state .ensures) (c10 .before .before .place-of .ensures)
 
 returns-2 : tie.Need-returns-2
 returns-2 c =

@@ -37,10 +37,15 @@ same-length : tie.Need-same-length Inv-loop μ-loop
 same-length c = c .before .before .out .given ∙ c .before .before .before .before .before .before .before .before .before .before .before .loop .inv .2
 
 add-at : tie.Need-add-at Inv-loop μ-loop
-add-at c = let v = c .before .before .before .before .before .before .before .before .before .before .before .before .loop in let f = c .before .before .before .before .before .before .before .before .before .before .before .before .before .before .before .before .before in omega (arith, reads-on (f .args .input .now) (v .at) (c .before .before .before .before .before .before .before .before .next-piece .ensures) (v .inv .0), f .good .0 .0)
+add-at c =
+    let c8 = c .before .before .before .before .before .before .before .before in
+    let c17 = c8 .before .before .before .before .before .before .before .before .before in
+    let v = c8 .before .before .before .before .loop in let f = c17 in omega (arith, reads-on (f .args .input .now) (v .at) (c8 .next-piece .ensures) (v .inv .0), f .good .0 .0)
 
 loop-less : tie.Need-loop-less Inv-loop μ-loop
-loop-less c = omega (arith, moves-on (c .before .before .before .before .before .before .before .before .before .next-piece .ensures) (c .before .before .before .before .before .before .before .before .before .before .before .before .loop-test .taken) (omega (arith, c .before .before .before .before .before .before .before .before .before .before .before .before .before .loop .inv .1)))
+loop-less c =
+    let c9 = c .before .before .before .before .before .before .before .before .before in
+    omega (arith, moves-on (c9 .next-piece .ensures) (c9 .before .before .before .loop-test .taken) (omega (arith, c9 .before .before .before .before .loop .inv .1)))
 
 loop-again : tie.Need-loop-again Inv-loop μ-loop
 loop-again c =

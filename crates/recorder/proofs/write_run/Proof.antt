@@ -27,10 +27,16 @@ same-length : tie.Need-same-length Inv-loop μ-loop
 same-length c = same-slice (c .before .before .before .before .before .before .next-piece .ensures) ∙ c .before .before .before .before .before .before .before .before .before .before .loop .inv .1
 
 add-at : tie.Need-add-at Inv-loop μ-loop
-add-at c = let v = c .before .before .before .before .before .before .before .before .before .before .before .loop in let f = c .before .before .before .before .before .before .before .before .before .before .before .before .before .before .before .before in omega (arith, reads-on (f .args .input .now) (v .at) (c .before .before .before .before .before .before .before .next-piece .ensures) (v .inv .0), f .good .0 .0)
+add-at c =
+    let c7 = c .before .before .before .before .before .before .before in
+    let c16 = c7 .before .before .before .before .before .before .before .before .before in
+    let v = c7 .before .before .before .before .loop in let f = c16 in omega (arith, reads-on (f .args .input .now) (v .at) (c7 .next-piece .ensures) (v .inv .0), f .good .0 .0)
 
 loop-less : tie.Need-loop-less Inv-loop μ-loop
-loop-less c = omega (arith, moves-on (c .before .before .before .before .before .before .before .before .next-piece .ensures) (c .before .before .before .before .before .before .before .before .before .before .before .loop-test .taken) (omega (arith, c .before .before .before .before .before .before .before .before .before .before .before .before .loop .inv .1, c .before .before .before .before .before .before .before .before .before .before .before .before .before .before .before .before .before .pre .1)))
+loop-less c =
+    let c8 = c .before .before .before .before .before .before .before .before in
+    let c17 = c8 .before .before .before .before .before .before .before .before .before in
+    omega (arith, moves-on (c8 .next-piece .ensures) (c8 .before .before .before .loop-test .taken) (omega (arith, c8 .before .before .before .before .loop .inv .1, c17 .pre .1)))
 
 loop-again : tie.Need-loop-again Inv-loop μ-loop
 loop-again c =

@@ -48,10 +48,15 @@ add-size : tie.Need-add-size Inv-loop μ-loop
 add-size c = let m = c .before .before .before .before .before .before .next-piece .ensures in omega (arith, c .before .before .before .before .before .before .before .before .before .before .loop .inv .0 .few, grows m)
 
 add-at : tie.Need-add-at Inv-loop μ-loop
-add-at c = let v = c .before .before .before .before .before .before .before .before .before .before .before .loop in let f = c .before .before .before .before .before .before .before .before .before .before .before .before .before .before .before in omega (arith, within (f .args .s .now) (v .at) (v .d) (c .before .before .before .before .before .before .before .next-piece .ensures) (v .inv .0 .served), f .good .0 .0)
+add-at c =
+    let c7 = c .before .before .before .before .before .before .before in
+    let c15 = c7 .before .before .before .before .before .before .before .before in
+    let v = c7 .before .before .before .before .loop in let f = c15 in omega (arith, within (f .args .s .now) (v .at) (v .d) (c7 .next-piece .ensures) (v .inv .0 .served), f .good .0 .0)
 
 loop-less : tie.Need-loop-less Inv-loop μ-loop
-loop-less c = let m = c .before .before .before .before .before .before .before .before .next-piece .ensures in omega (arith, moves-on m (c .before .before .before .before .before .before .before .before .before .before .before .loop-test .taken) (omega (arith, c .before .before .before .before .before .before .before .before .before .before .before .before .loop .inv .1)))
+loop-less c =
+    let c8 = c .before .before .before .before .before .before .before .before in
+    let m = c8 .next-piece .ensures in omega (arith, moves-on m (c8 .before .before .before .loop-test .taken) (omega (arith, c8 .before .before .before .before .loop .inv .1)))
 
 loop-again : tie.Need-loop-again Inv-loop μ-loop
 loop-again c =

@@ -11,10 +11,16 @@ add-read c =
     omega (arith, within (f .args .s .now) (k .end) (d .result) (c .before .before .before .next-piece .ensures) (opened-room k (d .result) (d .ensures) (f .pre) .served), f .good .0 .0)
 
 go-on-requires : tie.Need-go-on-requires
-go-on-requires c κs = let f = c .before .before .before .before .before .before .before .before .before .before .before .before .before in let d = c .before .before .before .before .before .before .before .before .before .opened in behind-first (f .args .head) (d .result) (d .ensures) (f .pre) (c .before .before .before .before .before .next-piece .ensures)
+go-on-requires c κs =
+    let c9 = c .before .before .before .before .before .before .before .before .before in
+    let f = c9 .before .before .before .before in let d = c9 .opened in behind-first (f .args .head) (d .result) (d .ensures) (f .pre) (c .before .before .before .before .before .next-piece .ensures)
 
 returns : tie.Need-returns
-returns c = let f = c .before .before .before .before .before .before .before .before .before .before .before .before .before .before .before .before in let d = c .before .before .before .before .before .before .before .before .before .before .before .before .opened in ran-behind (f .args .head) (d .result) (d .ensures) (f .pre) (c .before .before .before .before .before .before .before .before .next-piece .ensures) (c .before .before .before .before .before .before .before .before .before .before .before .if1 .taken) (c .before .before .go-on .ensures)
+returns c =
+    let c8 = c .before .before .before .before .before .before .before .before in
+    let c16 = c8 .before .before .before .before .before .before .before .before in
+    let f = c16 in let d = c8 .before .before .before .before .opened in
+    ran-behind (f .args .head) (d .result) (d .ensures) (f .pre) (c8 .next-piece .ensures) (c8 .before .before .before .if1 .taken) (c .before .before .go-on .ensures)
 
 go-on-requires-2 : tie.Need-go-on-requires-2
 go-on-requires-2 c κs = let f = c .before .before .before .before .before .before in let d = c .before .before .opened in from-start (f .args .head) (d .result) (d .ensures) (f .pre)
