@@ -9,7 +9,7 @@ use Rattle.table.specs.Table.{copyin-length, execution-length, copyout-length}
 use Rattle.sets.specs.Sets.{member, below, collect, union, intersection, difference}
 use Rattle.sets.proofs.Laws.{by-test, member-task}
 use Rattle.rules.specs.With.{with-jobs, with-phase, with-waiting, at-clock, later}
-use Rattle.rules.specs.Instant.{step-a, step-b, step-c, step-d, step-e, step-g, taken, deferred, original, with-candidates, due, at-a, at-b, at-e, at-f, at-g, new-at, late-at}
+use Rattle.rules.specs.Instant.{step-a, step-b, step-c, step-d, step-e, step-g, taken, deferred, original, with-candidates, due, at-a, at-b, at-e, at-f, at-g, taken-at, deferred-at}
 use Rattle.rules.specs.Calls.{opened, refusal}
 use Rattle.rules.proofs.ByTask.{stamped-none}
 use Rattle.guarantees.specs.History.{after-calls}
@@ -34,7 +34,7 @@ module _ (d : State) (t : ℕ) where
   idle = with-phase (with-waiting (with-jobs d no-jobs) none-waits) (Between NoneNext NoneOutgoing)
 
   idle-stays : at-g idle t 0 ≡ at-clock idle t
-  unfolding at-g at-f at-e at-b at-a new-at late-at step-a step-b step-c step-d step-e step-g taken deferred with-candidates union intersection difference collect below member
+  unfolding at-g at-f at-e at-b at-a taken-at deferred-at step-a step-b step-c step-d step-e step-g taken deferred with-candidates union intersection difference collect below member
   idle-stays = rw (stamped-none (original none-waits t) 0 (d .jobs .release), stamped-none (λ k. 0) 0 (d .jobs .blocked), stamped-none (λ k. t) 0 (d .waiting .times))
 
   is-idle : AtRest d → d ≡ idle

@@ -10,7 +10,7 @@ use Rattle.sets.specs.Sets.{member, intersection, bit}
 use Rattle.sets.proofs.Laws.{by-test, clash, left, right, none, collect-out, union-out, intersection-right, insert-out, remove-out}
 use Rattle.rules.specs.With.{at-clock}
 use Rattle.rules.specs.Order.{highest-of, higher, higher-than}
-use Rattle.rules.specs.Instant.{step-a, step-b, step-c, step-d, step-e, step-g, over, promoted, without-promoted, next-of, awaiting-execution, blocks, counted, stamped, close, with-candidates, cancel, choose, begin, begin-processor, without-done, ended, copyin-at, processor-task, at-a, at-b, at-e, at-f, at-g, new-at, late-at, fresh-stage}
+use Rattle.rules.specs.Instant.{step-a, step-b, step-c, step-d, step-e, step-g, over, promoted, without-promoted, next-of, awaiting-execution, blocks, counted, stamped, close, with-candidates, cancel, choose, begin, begin-processor, without-done, ended, copyin-at, processor-task, at-a, at-b, at-e, at-f, at-g, taken-at, deferred-at, fresh-stage}
 use Rattle.rules.specs.Calls.{opened}
 use Rattle.guarantees.proofs.Highest.{Best}
 use Rattle.guarantees.proofs.Walk.{with-marks}
@@ -354,8 +354,8 @@ module _ (pr : List ℕ) (n : ℕ) (small : n < 32) where
     unfolding at-e at-b
     bounded-e =
         let b : State = at-b d t .state in
-        let taken : ℕ = new-at d t set in
-        let deferred : ℕ = late-at d t set in
+        let taken : ℕ = taken-at d t set in
+        let deferred : ℕ = deferred-at d t set in
         let c : State = step-c b t taken deferred in
         e-bounded t (step-d c taken (c .phase)) (d-bounded taken c (c-new b t taken deferred) (c-bounded t taken deferred b (b-bounded t (at-a d t) bounded-a)))
 

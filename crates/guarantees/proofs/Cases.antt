@@ -4,7 +4,7 @@ use Rattle.guarantees.specs.Types.{_≡_, refl, Bool, true, false, cond,
 use lib.Dec.{eqb}
 use Rattle.table.specs.Table.{execution-length}
 use Rattle.sets.specs.Sets.{intersection}
-use Rattle.rules.specs.Instant.{processor-at, copyout-at, copyin-at, over, close, close-stage, step-b, copying-out, cancel, cancel-by, step-d, choose, choose-if, step-e, begin, wanted, step-g, step-a, without-done, completed, ended, at-b, new-at, held-over}
+use Rattle.rules.specs.Instant.{processor-at, copyout-at, copyin-at, over, close, close-stage, step-b, copying-out, cancel, cancel-by, step-d, choose, choose-if, step-e, begin, wanted, step-g, step-a, without-done, completed, ended, at-b, taken-at, held-over}
 use Rattle.rules.specs.With.{later, with-phase, with-jobs}
 use Rattle.rules.specs.Order.{outranks, highest-of}
 
@@ -18,7 +18,7 @@ HeldFor k n fate = ((until : ℕ) × (k ≡ Copying n until) × (fate ≡ 2)) �
 
 -- the releases of an instant that belong to the interval that its step g begins
 abbrev pub held-at : State → ℕ → ℕ → ℕ
-held-at d t set = held-over (at-b d t .state .phase) (new-at d t set)
+held-at d t set = held-over (at-b d t .state .phase) (taken-at d t set)
 
 -- ---- a phase that ends
 

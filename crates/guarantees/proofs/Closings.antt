@@ -2,7 +2,7 @@
 use Rattle.guarantees.specs.Types.{_≡_, refl, sym, ap, _∙_, Bool, true, false, List, [], _∷_, _++_, _⊎_, inl, inr, ⊎-elim, ℕ, Interval, Phase, Between, Within, State, Stage, Done, NoJob, Job, Closed, NoInterval, Span, Occurred, IntervalEntry, Call}
 use native.Mathlib.Omega.{arith}
 use Rattle.rules.specs.With.{at-clock}
-use Rattle.rules.specs.Instant.{step-a, step-b, close, close-stage, closing, occurred, over, copyout-task, copyout-at, at-a, at-b, at-e, at-f, at-g, new-at, late-at, fresh-stage}
+use Rattle.rules.specs.Instant.{step-a, step-b, close, close-stage, closing, occurred, over, copyout-task, copyout-at, at-a, at-b, at-e, at-f, at-g, taken-at, deferred-at, fresh-stage}
 use Rattle.guarantees.specs.History.{Event, Comes, history, happens, processor-events-in, finish-events-in, completion-events, end-events, take-events, defer-events, giving-events-in, begin-events, start-events}
 use Rattle.guarantees.specs.Queries.{NoneOpen, each}
 use Rattle.guarantees.specs.Entries.{all-occurred, Completion, completed-in, done, completions, closed-in}
@@ -79,7 +79,7 @@ completes-so (Job e) ys = refl
 
 happens-completions : (d : State) (t set : ℕ) (h : List Event) → completions (happens d t set ++ h) ≡ completed-in (occurred d t set .done) ++ completions h
 happens-completions d t set h =
-    let rest : List Event = take-events 32 (new-at d t set) (d .marked) t ++ (tail-of d t set ++ h) in
+    let rest : List Event = take-events 32 (taken-at d t set) (d .marked) t ++ (tail-of d t set ++ h) in
     let ends-b : List Event = end-events t (at-a d t .state .phase) (at-b d t .state .phase) in
     let c : List Event = completion-events (at-a d t .done) in
     let begins : List Event = begin-events t (at-f d t set .state .phase) (at-g d t set .phase) in
@@ -103,11 +103,11 @@ happens-completions d t set h =
     skip-ends : (p q : Phase) (zs : List Event) → completions (end-events t p q ++ zs) ≡ completions zs
     skip-ends p q zs = unfold each in by-ends (Same zs) t (λ es e. e) p q zs refl
 
-    skip-takes : (zs : List Event) → completions (take-events 32 (new-at d t set) (d .marked) t ++ zs) ≡ completions zs
-    skip-takes zs = unfold each in by-takes (Same zs) 32 (new-at d t set) (d .marked) t (λ n l m es e. e) zs refl
+    skip-takes : (zs : List Event) → completions (take-events 32 (taken-at d t set) (d .marked) t ++ zs) ≡ completions zs
+    skip-takes zs = unfold each in by-takes (Same zs) 32 (taken-at d t set) (d .marked) t (λ n l m es e. e) zs refl
 
-    skip-defers : (zs : List Event) → completions (defer-events 32 (late-at d t set) t ++ zs) ≡ completions zs
-    skip-defers zs = unfold each in by-defers (Same zs) 32 (late-at d t set) t (λ n l m es e. e) zs refl
+    skip-defers : (zs : List Event) → completions (defer-events 32 (deferred-at d t set) t ++ zs) ≡ completions zs
+    skip-defers zs = unfold each in by-defers (Same zs) 32 (deferred-at d t set) t (λ n l m es e. e) zs refl
 
     skip-gives : (p q : Phase) (zs : List Event) → completions (giving-events-in p q ++ zs) ≡ completions zs
     skip-gives p q zs = unfold each in by-gives (Same zs) (λ n es e. e) p q zs refl

@@ -8,7 +8,7 @@ use Rattle.sets.specs.Sets.{member, bit}
 use Rattle.sets.proofs.Laws.{same-task, member-task}
 use Rattle.rules.specs.With.{at-clock, later}
 use Rattle.rules.specs.Order.{highest-of}
-use Rattle.rules.specs.Instant.{step-a, step-b, step-c, step-d, step-e, step-g, close, close-stage, over, with-candidates, cancel, choose, begin, begin-processor, begin-copyout, copying-out, wanted, completed, ended, processor-task, copyout-task, copyout-at, awaiting-copyout, resting, job-entry, at-a, at-b, at-e, at-f, at-g, new-at, late-at, fresh-stage}
+use Rattle.rules.specs.Instant.{step-a, step-b, step-c, step-d, step-e, step-g, close, close-stage, over, with-candidates, cancel, choose, begin, begin-processor, begin-copyout, copying-out, wanted, completed, ended, processor-task, copyout-task, copyout-at, awaiting-copyout, resting, job-entry, at-a, at-b, at-e, at-f, at-g, taken-at, deferred-at, fresh-stage}
 use Rattle.rules.specs.Calls.{opened}
 use Rattle.guarantees.specs.History.{Event, Begins, Ends, history, happens, finish-events-in, completion-events, end-events, take-events, giving-events-in, begin-events, start-events}
 use Rattle.guarantees.proofs.Proper.{Fair}
@@ -118,8 +118,8 @@ engine-e : (d : State) (t set : ℕ) → engine-of t (at-e d t set .phase) ≡ e
 unfolding at-e step-c
 engine-e d t set =
     let b : State = at-b d t .state in
-    let taken : ℕ = new-at d t set in
-    let deferred : ℕ = late-at d t set in
+    let taken : ℕ = taken-at d t set in
+    let deferred : ℕ = deferred-at d t set in
     let c : State = step-c b t taken deferred in
     let x : State = step-d c taken (c .phase) in
     e-engine x t ∙ d-engine c t taken ∙ c-engine b t taken (b .phase)
@@ -270,7 +270,7 @@ module _ (table : Table) (marks : ℕ) (fair : Fair table marks) where
       let f : State = at-f d t set .state in
       let z : List Event = start-events t (f .phase) (at-g d t set .phase) ++ ys in
       rw (tail-parts d t set ys)
-      (by-defers (Leaving (table .columns) t (engine-of t (e .phase))) 32 (late-at d t set) t (λ n l m es h. h) (giving-events-in (at-b d t .state .phase) (e .phase) ++ (end-events t (e .phase) (f .phase) ++ (begin-events t (f .phase) (at-g d t set .phase) ++ z)))
+      (by-defers (Leaving (table .columns) t (engine-of t (e .phase))) 32 (deferred-at d t set) t (λ n l m es h. h) (giving-events-in (at-b d t .state .phase) (e .phase) ++ (end-events t (e .phase) (f .phase) ++ (begin-events t (f .phase) (at-g d t set .phase) ++ z)))
       (by-gives (Leaving (table .columns) t (engine-of t (e .phase))) (λ n es h. h) (at-b d t .state .phase) (e .phase) (end-events t (e .phase) (f .phase) ++ (begin-events t (f .phase) (at-g d t set .phase) ++ z))
       (b-leaving (table .columns) t s (e .phase) (begin-events t (f .phase) (at-g d t set .phase) ++ z) refl
       (g-leaving (table .columns) t f (held-at d t set) (f .phase) z refl
@@ -296,8 +296,8 @@ module _ (table : Table) (marks : ℕ) (fair : Fair table marks) where
       → Leaving (table .columns) t (engine-of 0 (at-g d t set .phase)) ys → Leaving (table .columns) (last (d .clock)) (engine-of 0 (d .phase)) (happens d t set ++ ys)
   leaving-instant d t set ys l g n h =
       rw (happens-parts d t set ys, engine-settled d 0 t (d .phase) (g .settled .rests))
-      (leaving-front d t (take-events 32 (new-at d t set) (d .marked) t ++ (tail-of d t set ++ ys)) l
-      (by-takes (Leaving (table .columns) t (engine-of t (at-b d t .state .phase))) 32 (new-at d t set) (d .marked) t (λ n l m es h. unfold Leaving in h) (tail-of d t set ++ ys)
+      (leaving-front d t (take-events 32 (taken-at d t set) (d .marked) t ++ (tail-of d t set ++ ys)) l
+      (by-takes (Leaving (table .columns) t (engine-of t (at-b d t .state .phase))) 32 (taken-at d t set) (d .marked) t (λ n l m es h. unfold Leaving in h) (tail-of d t set ++ ys)
       (subst (λ (s : Engine). Leaving (table .columns) t s (tail-of d t set ++ ys)) (engine-e d t set)
       (leaving-tail d t set ys (g .table-is) n
       (subst (λ (s : Engine). Leaving (table .columns) t s ys) (engine-settled (at-g d t set) 0 t (at-g d t set .phase) (n .settled .rests)) h)))))

@@ -14,7 +14,7 @@ use Rattle.guarantees.proofs.Totals.{begins-of, takes-of}
 use Rattle.guarantees.specs.History.{history, Event, begin-events}
 use Rattle.rules.specs.Calls.{opened}
 use Rattle.guarantees.specs.Queries.{total, is-take, is-begin}
-use Rattle.rules.specs.Instant.{step-a, step-b, step-c, step-d, step-e, step-g, promoted, next-of, without-promoted, close, close-stage, over, with-candidates, cancel, choose, choose-if, begin, begin-processor, begin-copyout, wanted, without-done, ended, copyin-at, processor-at, awaiting-copyout, at-a, at-b, at-e, at-f, at-g, new-at, late-at, copyout-at, fresh-stage}
+use Rattle.rules.specs.Instant.{step-a, step-b, step-c, step-d, step-e, step-g, promoted, next-of, without-promoted, close, close-stage, over, with-candidates, cancel, choose, choose-if, begin, begin-processor, begin-copyout, wanted, without-done, ended, copyin-at, processor-at, awaiting-copyout, at-a, at-b, at-e, at-f, at-g, taken-at, deferred-at, copyout-at, fresh-stage}
 use Rattle.rules.specs.With.{at-clock}
 use Rattle.rules.specs.Order.{highest-of, outranks}
 use Rattle.guarantees.proofs.Steps.{Sub, c-new, NewIn, NewAt, best-of}
@@ -403,15 +403,15 @@ to-b d t h =
     record { sound = y .sound; weigh = omega (arith, x .weigh, y .weigh); sink = omega (arith, x .sink, y .sink) }
 
 pub to-e : (d : State) (t set : ℕ) → Sound (at-b d t .state) (at-b d t .state .phase)
-    → Leads (at-b d t .state) (at-b d t .state .phase) (at-e d t set) (at-e d t set .phase) 0 (size (new-at d t set))
+    → Leads (at-b d t .state) (at-b d t .state .phase) (at-e d t set) (at-e d t set .phase) 0 (size (taken-at d t set))
 unfolding at-e
 to-e d t set h =
     let b : State = at-b d t .state in
     let c : State = at-c d t set in
     let x : State = at-d d t set in
     let e : State = at-e d t set in
-    let l1 : Leads b (b .phase) c (c .phase) 0 (size (new-at d t set)) = c-leads b t (new-at d t set) (late-at d t set) h in
-    let l2 : Leads c (c .phase) x (x .phase) 0 0 = d-leads c (new-at d t set) (c-new b t (new-at d t set) (late-at d t set)) (l1 .sound) in
+    let l1 : Leads b (b .phase) c (c .phase) 0 (size (taken-at d t set)) = c-leads b t (taken-at d t set) (deferred-at d t set) h in
+    let l2 : Leads c (c .phase) x (x .phase) 0 0 = d-leads c (taken-at d t set) (c-new b t (taken-at d t set) (deferred-at d t set)) (l1 .sound) in
     let l3 : Leads x (x .phase) e (e .phase) 0 0 = e-leads x t (l2 .sound) in
     record { sound = l3 .sound; weigh = omega (arith, l1 .weigh, l2 .weigh, l3 .weigh); sink = omega (arith, l1 .sink, l2 .sink, l3 .sink) }
 
@@ -427,10 +427,10 @@ to-g d t set h =
     record { sound = y .sound; weigh = omega (arith, x .weigh, y .weigh); sink = omega (arith, x .sink, y .sink) }
 
 pub instant-leads : (d : State) (t set : ℕ) → Sound d (d .phase)
-    → Leads d (d .phase) (at-g d t set) (at-g d t set .phase) (total is-begin (begin-events t (at-f d t set .state .phase) (at-g d t set .phase))) (size (new-at d t set))
+    → Leads d (d .phase) (at-g d t set) (at-g d t set .phase) (total is-begin (begin-events t (at-f d t set .state .phase) (at-g d t set .phase))) (size (taken-at d t set))
 instant-leads d t set h =
     let x : Leads d (d .phase) (at-b d t .state) (at-b d t .state .phase) 0 0 = to-b d t h in
-    let y : Leads (at-b d t .state) (at-b d t .state .phase) (at-e d t set) (at-e d t set .phase) 0 (size (new-at d t set)) = to-e d t set (x .sound) in
+    let y : Leads (at-b d t .state) (at-b d t .state .phase) (at-e d t set) (at-e d t set .phase) 0 (size (taken-at d t set)) = to-e d t set (x .sound) in
     let z : Leads (at-e d t set) (at-e d t set .phase) (at-g d t set) (at-g d t set .phase) (total is-begin (begin-events t (at-f d t set .state .phase) (at-g d t set .phase))) 0 = to-g d t set (y .sound) in
     record { sound = z .sound; weigh = omega (arith, x .weigh, y .weigh, z .weigh); sink = omega (arith, x .sink, y .sink, z .sink) }
 
@@ -454,7 +454,7 @@ counted d cs =
     (λ d s. unfold total in omega (arith, debt-covered d (d .phase) s))
     (λ d t set cs e k s.
     let h : List Event = history (at-g d t set) cs in
-    let l : Leads d (d .phase) (at-g d t set) (at-g d t set .phase) (total is-begin (begin-events t (at-f d t set .state .phase) (at-g d t set .phase))) (size (new-at d t set)) = instant-leads d t set s in
+    let l : Leads d (d .phase) (at-g d t set) (at-g d t set .phase) (total is-begin (begin-events t (at-f d t set .state .phase) (at-g d t set .phase))) (size (taken-at d t set)) = instant-leads d t set s in
     omega (arith, begins-of d t set h, takes-of d t set h, l .weigh, k (l .sound)))
     (λ d m e h k s. k (record { few = s .few; paid = s .paid }))
     cs d

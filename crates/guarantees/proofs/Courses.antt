@@ -9,7 +9,7 @@ use Rattle.sets.proofs.Laws.{by-test, clash, none, same-task, united, intersect
 use Rattle.rules.specs.With.{at-clock, with-copyin}
 use Rattle.rules.specs.Order.{better, highest-below, highest, highest-of}
 use Rattle.rules.specs.Calls.{opened}
-use Rattle.rules.specs.Instant.{step-a, step-b, step-c, step-d, step-e, step-g, close, close-stage, over, promoted, next-of, work-of, held-over, with-candidates, cancel, choose, begin, begin-processor, begin-copyout, wanted, ended as ended-by, without-done, settled, entry-with, interval-entry, copyin-at, copyin-task, copyin-fate, processor-task, copyout-task, closing, occurred, at-a, at-b, at-e, at-f, at-g, new-at, late-at, fresh-stage}
+use Rattle.rules.specs.Instant.{step-a, step-b, step-c, step-d, step-e, step-g, close, close-stage, over, promoted, next-of, work-of, held-over, with-candidates, cancel, choose, begin, begin-processor, begin-copyout, wanted, ended as ended-by, without-done, settled, entry-with, interval-entry, copyin-at, copyin-task, copyin-fate, processor-task, copyout-task, closing, occurred, at-a, at-b, at-e, at-f, at-g, taken-at, deferred-at, fresh-stage}
 use Rattle.guarantees.specs.History.{Event, Comes, Starts, Stops, Finishes, Completes, Ends, Takes, Defers, GivesWay, Begins, history, happens, processor-events-in, finish-events, finish-events-in, completion-events, end-events, take-events, given-way, giving-events, giving-events-in, begin-events, start-events}
 use Rattle.guarantees.specs.Queries.{details, finishes, ends, begins, gives-way, after}
 use Rattle.guarantees.specs.Intervals.{Course, no-course, course, work-by, course-by, promoted-by, executes-next, Proceeds, entry-by, ended}
@@ -793,7 +793,7 @@ module _ (pr : List ℕ) where
     B = at-b d t .state
 
     abbrev since : ℕ
-    since = intersection (held-over (B .phase) (new-at d t set)) (B .marked)
+    since = intersection (held-over (B .phase) (taken-at d t set)) (B .marked)
 
     marked-f : at-f d t set .state .marked ≡ B .marked
     unfolding at-f step-c
@@ -803,7 +803,7 @@ module _ (pr : List ℕ) where
     none-since : (i : Interval) → at-e d t set .phase ≡ Within i → (j : ℕ) → j < 32 → member j since ≡ false
     none-since i e j m = go (B .phase) (sym (situation-e d t set) ∙ ap situation-of e)
       where
-        go : (p : Phase) → situation-of p ≡ situation-of (Within i) → member j (intersection (held-over p (new-at d t set)) (B .marked)) ≡ false
+        go : (p : Phase) → situation-of p ≡ situation-of (Within i) → member j (intersection (held-over p (taken-at d t set)) (B .marked)) ≡ false
         go (Between next outgoing) h = absurd (let z : _≡_ {A = ℕ} 0 1 = cc in omega arith)
         go (Within n) h = intersection-member 0 (B .marked) j m ∙ ap (λ (b : Bool). b && member j (B .marked)) (none j)
 
@@ -817,15 +817,15 @@ module _ (pr : List ℕ) where
         (g-follows l since f t (held-at d t set) (f .phase) ys refl (λ j m. ap (λ (s : ℕ). member j (intersection (held-at d t set) s)) (sym marked-f)) k)
 
     tail-follows : (x : Course) → Agrees 0 x B (B .phase)
-        → Follows (closed-of (at-f d t set .closed) ++ l) x (take-events 32 (new-at d t set) (d .marked) t ++ (tail-of d t set ++ ys))
+        → Follows (closed-of (at-f d t set .closed) ++ l) x (take-events 32 (taken-at d t set) (d .marked) t ++ (tail-of d t set ++ ys))
     unfolding at-e
     tail-follows x a =
         let m : List IntervalEntry = closed-of (at-f d t set .closed) ++ l in
-        subst (λ (z : ℕ). Follows m x (take-events 32 (new-at d t set) z t ++ (tail-of d t set ++ ys))) (marked-b d t)
-        (c-follows m B t (new-at d t set) (late-at d t set) (tail-of d t set ++ ys)
+        subst (λ (z : ℕ). Follows m x (take-events 32 (taken-at d t set) z t ++ (tail-of d t set ++ ys))) (marked-b d t)
+        (c-follows m B t (taken-at d t set) (deferred-at d t set) (tail-of d t set ++ ys)
         (λ y h. rw (tail-parts d t set ys)
-        (by-defers (Follows m y) 32 (late-at d t set) t (λ n i j es z. follows-on m y (Defers n t) es (record { begins-not = refl; ends-not = refl; finishes-not = refl; gives-not = refl }) z) _
-        (gives-on m since y (B .phase) (at-e d t set) _ (e-gave since y B t (new-at d t set) (late-at d t set) h) rest-follows)))
+        (by-defers (Follows m y) 32 (deferred-at d t set) t (λ n i j es z. follows-on m y (Defers n t) es (record { begins-not = refl; ends-not = refl; finishes-not = refl; gives-not = refl }) z) _
+        (gives-on m since y (B .phase) (at-e d t set) _ (e-gave since y B t (taken-at d t set) (deferred-at d t set) h) rest-follows)))
         x a)
 
     instant-follows : (x : Course) → Agrees 0 x d (d .phase) → Follows (closed-in (occurred d t set .closed) ++ l) x (happens d t set ++ ys)
@@ -838,7 +838,7 @@ module _ (pr : List ℕ) where
         (front x (record { table-is = a .table-is; half-is = a .half-is; phase = a .phase })))))
       where
         later : List Event
-        later = take-events 32 (new-at d t set) (d .marked) t ++ (tail-of d t set ++ ys)
+        later = take-events 32 (taken-at d t set) (d .marked) t ++ (tail-of d t set ++ ys)
 
         whole : List Event
         whole =
@@ -853,7 +853,7 @@ module _ (pr : List ℕ) where
 
         front : (x : Course) → Agrees 0 x (at-clock d t) (d .phase)
             → Follows (closed-of (at-b d t .closed) ++ (closed-of (at-f d t set .closed) ++ l)) x (finish-events-in t (d .phase) ++ (completion-events (at-a d t .done)
-            ++ (end-events t (at-a d t .state .phase) (at-b d t .state .phase) ++ (take-events 32 (new-at d t set) (d .marked) t ++ (tail-of d t set ++ ys)))))
+            ++ (end-events t (at-a d t .state .phase) (at-b d t .state .phase) ++ (take-events 32 (taken-at d t set) (d .marked) t ++ (tail-of d t set ++ ys)))))
         front = unfold at-b at-a in
             a-follows all 0 (at-clock d t) t (d .phase) _ refl
             (b-follows (closed-of (at-f d t set .closed) ++ l) 0 (at-a d t) t (at-a d t .state .phase) later refl (a-none (at-clock d t) t (d .phase)) (λ i e j m. none j) tail-follows)

@@ -7,7 +7,7 @@ use borrow.Author.Tests.{eqb-true, eqb-false, ne-eqb}
 use lib.Dec.{eqb}
 use Rattle.sets.specs.Sets.{member}
 use Rattle.sets.proofs.Laws.{by-test, none, same-task}
-use Rattle.rules.specs.Instant.{taken, deferred, at-b, at-e, at-f, at-g, new-at, late-at}
+use Rattle.rules.specs.Instant.{taken, deferred, at-b, at-e, at-f, at-g, taken-at, deferred-at}
 use Rattle.guarantees.specs.History.{Event, Comes, Starts, Stops, Finishes, Completes, Ends, Takes, Defers, GivesWay, Begins, happens, history, after-calls, take-events, defer-events, giving-events-in, end-events, begin-events, start-events}
 use Rattle.guarantees.specs.Queries.{details, is-task, takes, defers, after, first, taking}
 use Rattle.guarantees.proofs.Walk.{walk, walk-to}
@@ -81,10 +81,10 @@ unfolding Small
 instant-small d t set es h =
     rw (happens-parts d t set es)
     (by-front Small (λ u. small-other (Comes u) refl) (λ k u. small-other (Starts k u) refl) (λ k u. small-other (Stops k u) refl) (λ k. small-other (Finishes k) refl)
-    (λ k u. small-other (Completes k u) refl) (λ u. small-other (Ends u) refl) d t (take-events 32 (new-at d t set) (d .marked) t ++ (tail-of d t set ++ es))
-    (by-takes Small 32 (new-at d t set) (d .marked) t (λ k l m es x. (λ n e. omega (arith, eqb-true n k e), x)) (tail-of d t set ++ es)
+    (λ k u. small-other (Completes k u) refl) (λ u. small-other (Ends u) refl) d t (take-events 32 (taken-at d t set) (d .marked) t ++ (tail-of d t set ++ es))
+    (by-takes Small 32 (taken-at d t set) (d .marked) t (λ k l m es x. (λ n e. omega (arith, eqb-true n k e), x)) (tail-of d t set ++ es)
     (rw (tail-parts d t set es)
-    (by-defers Small 32 (late-at d t set) t (λ k l m es x. (λ n e. omega (arith, eqb-true n k e), x)) _
+    (by-defers Small 32 (deferred-at d t set) t (λ k l m es x. (λ n e. omega (arith, eqb-true n k e), x)) _
     (by-rest Small (λ k. small-other (GivesWay k) refl) (λ u. small-other (Ends u) refl) (λ u r l. small-other (Begins u r l) refl) (λ k u. small-other (Starts k u) refl) d t set es h)))))
 
 small : (d : State) (cs : List Call) → Small (history d cs)
@@ -198,12 +198,12 @@ module _ (n : ℕ) where
         (λ x k e. quiet x (Defers k t) e (rw e)) b true
         (λ m es z. (λ y. f m, rw (same-task n) z)) 32 l es h
 
-    rest-alone : (d : State) (t set : ℕ) (b : Bool) (es : List Event) → n < 32 → (member n (late-at d t set) ≡ true → b ≡ false)
-        → Alone last (cond (member n (late-at d t set)) true b) es → Alone last b (tail-of d t set ++ es)
+    rest-alone : (d : State) (t set : ℕ) (b : Bool) (es : List Event) → n < 32 → (member n (deferred-at d t set) ≡ true → b ≡ false)
+        → Alone last (cond (member n (deferred-at d t set)) true b) es → Alone last b (tail-of d t set ++ es)
     rest-alone d t set b es l f h =
-        let c : Bool = cond (member n (late-at d t set)) true b in
+        let c : Bool = cond (member n (deferred-at d t set)) true b in
         rw (tail-parts d t set es)
-        (defers-alone l (late-at d t set) t b _ f
+        (defers-alone l (deferred-at d t set) t b _ f
         (by-rest (Alone last c) (λ k. quiet c (GivesWay k) refl refl) (λ u. quiet c (Ends u) refl refl) (λ u r q. quiet c (Begins u r q) refl refl) (λ k u. quiet c (Starts k u) refl refl) d t set es h))
 
 -- ---- what waits, by the state
@@ -242,14 +242,14 @@ module _ (d : State) (set n : ℕ) (small : n < 32) where
 
 instant-alone : (n : ℕ) → n < 32 → (d : State) (t set : ℕ) (last : Bool) (es : List Event) → Alone n last (member n (at-g d t set .waiting .tasks)) es
     → Alone n last (member n (d .waiting .tasks)) (happens d t set ++ es)
-unfolding new-at late-at
+unfolding taken-at deferred-at
 instant-alone n small d t set last es h =
     let b : State = at-b d t .state in
     let w : Bool = member n (b .waiting .tasks) in
     subst (λ x. Alone n last (member n (x .tasks)) (happens d t set ++ es)) (waiting-b d t)
     (rw (happens-parts d t set es)
-    (front-alone n last d t w (take-events 32 (new-at d t set) (d .marked) t ++ (tail-of d t set ++ es))
-    (takes-alone n last small (new-at d t set) (d .marked) t w (tail-of d t set ++ es)
+    (front-alone n last d t w (take-events 32 (taken-at d t set) (d .marked) t ++ (tail-of d t set ++ es))
+    (takes-alone n last small (taken-at d t set) (d .marked) t w (tail-of d t set ++ es)
     (rest-alone n last d t set (cond (member n (taken b set)) false w) es small (free b set n small)
     (subst (λ (x : Bool). Alone n last x es) (ap (member n) (waits-g d t set) ∙ sym (moves b set n small)) h)))))
 

@@ -4,7 +4,7 @@ use Rattle.guarantees.specs.Types.{_≡_, refl, ap, _∙_, Bool, true, f
 use native.Mathlib.Omega.{arith}
 use lib.Dec.{eqb}
 use Rattle.sets.specs.Sets.{member}
-use Rattle.rules.specs.Instant.{processor-task, copyout-task, at-a, at-b, at-e, at-f, at-g, new-at, late-at}
+use Rattle.rules.specs.Instant.{processor-task, copyout-task, at-a, at-b, at-e, at-f, at-g, taken-at, deferred-at}
 use Rattle.guarantees.specs.History.{Event, Comes, Starts, Stops, Finishes, Completes, Ends, Takes, Defers, GivesWay, Begins, happens, processor-events, processor-events-in, finish-events, finish-events-in, completion-events, end-events, take-events, defer-events, given-way, giving-events, giving-events-in, begin-events, execution-events, start-events}
 use Rattle.guarantees.specs.Queries.{intervals, each}
 
@@ -129,14 +129,14 @@ front-of d t =
 -- after those that are taken
 unfoldable pub tail-of : State → ℕ → ℕ → List Event
 tail-of d t set =
-    defer-events 32 (late-at d t set) t
+    defer-events 32 (deferred-at d t set) t
     ++ (giving-events-in (at-b d t .state .phase) (at-e d t set .phase)
     ++ (end-events t (at-e d t set .phase) (at-f d t set .state .phase)
     ++ (begin-events t (at-f d t set .state .phase) (at-g d t set .phase)
     ++ start-events t (at-f d t set .state .phase) (at-g d t set .phase))))
 
 pub happens-parts : (d : State) (t set : ℕ) (h : List Event)
-    → happens d t set ++ h ≡ front-of d t ++ (take-events 32 (new-at d t set) (d .marked) t ++ (tail-of d t set ++ h))
+    → happens d t set ++ h ≡ front-of d t ++ (take-events 32 (taken-at d t set) (d .marked) t ++ (tail-of d t set ++ h))
 unfolding happens front-of tail-of
 happens-parts d t set h = simp append-assoc
 
@@ -150,7 +150,7 @@ unfolding front-of
 front-parts d t es = simp append-assoc
 
 pub tail-parts : (d : State) (t set : ℕ) (es : List Event) → tail-of d t set ++ es
-    ≡ defer-events 32 (late-at d t set) t
+    ≡ defer-events 32 (deferred-at d t set) t
     ++ (giving-events-in (at-b d t .state .phase) (at-e d t set .phase)
     ++ (end-events t (at-e d t set .phase) (at-f d t set .state .phase)
     ++ (begin-events t (at-f d t set .state .phase) (at-g d t set .phase)
@@ -200,7 +200,7 @@ tail-intervals d t set h =
     let s : List Event = start-events t (at-f d t set .state .phase) (at-g d t set .phase) in
     let w : List Event = giving-events-in (at-b d t .state .phase) (at-e d t set .phase) in
     ap intervals (tail-parts d t set h)
-    ∙ by-defers (As (w ++ (e ++ (b ++ (s ++ h))))) 32 (late-at d t set) t (λ n l m es e. e) (w ++ (e ++ (b ++ (s ++ h)))) refl
+    ∙ by-defers (As (w ++ (e ++ (b ++ (s ++ h))))) 32 (deferred-at d t set) t (λ n l m es e. e) (w ++ (e ++ (b ++ (s ++ h)))) refl
     ∙ by-gives (As (e ++ (b ++ (s ++ h)))) (λ n es e. e) (at-b d t .state .phase) (at-e d t set .phase) (e ++ (b ++ (s ++ h))) refl
     ∙ by-ends (As (b ++ (s ++ h))) t (λ es e. e) (at-e d t set .phase) (at-f d t set .state .phase) (b ++ (s ++ h)) refl
     ∙ begins-intervals t (at-f d t set .state .phase) (at-g d t set .phase) (s ++ h)
@@ -210,6 +210,6 @@ pub happens-intervals : (d : State) (t set : ℕ) (h : List Event)
     → intervals (happens d t set ++ h) ≡ intervals (begin-events t (at-f d t set .state .phase) (at-g d t set .phase)) ++ intervals h
 happens-intervals d t set h =
     ap intervals (happens-parts d t set h)
-    ∙ front-intervals d t (take-events 32 (new-at d t set) (d .marked) t ++ (tail-of d t set ++ h))
-    ∙ takes-intervals 32 (new-at d t set) (d .marked) t (tail-of d t set ++ h)
+    ∙ front-intervals d t (take-events 32 (taken-at d t set) (d .marked) t ++ (tail-of d t set ++ h))
+    ∙ takes-intervals 32 (taken-at d t set) (d .marked) t (tail-of d t set ++ h)
     ∙ tail-intervals d t set h

@@ -8,7 +8,7 @@ use Rattle.table.specs.Table.{copyin-length, execution-length}
 use Rattle.sets.proofs.Laws.{same-task}
 use Rattle.rules.specs.With.{at-clock, later}
 use Rattle.rules.specs.Order.{highest-of}
-use Rattle.rules.specs.Instant.{step-a, step-b, step-c, step-d, step-e, step-g, close, close-stage, over, promoted, next-of, with-candidates, cancel, choose, begin, begin-processor, wanted, ended, processor-at, processor-task, copyout-task, copyin-at, resting, settled, at-a, at-b, at-e, at-f, at-g, new-at, late-at, fresh-stage}
+use Rattle.rules.specs.Instant.{step-a, step-b, step-c, step-d, step-e, step-g, close, close-stage, over, promoted, next-of, with-candidates, cancel, choose, begin, begin-processor, wanted, ended, processor-at, processor-task, copyout-task, copyin-at, resting, settled, at-a, at-b, at-e, at-f, at-g, taken-at, deferred-at, fresh-stage}
 use Rattle.rules.specs.Calls.{opened}
 use Rattle.guarantees.specs.History.{Event, Starts, Stops, Finishes, GivesWay, Begins, Ends, history, happens, processor-events, processor-events-in, finish-events, finish-events-in, completion-events, end-events, take-events, given-way, giving-events, giving-events-in, begin-events, start-events, execution-events}
 use Rattle.guarantees.specs.States.{processor-known, phase-known}
@@ -121,8 +121,8 @@ pub given-e : (d : State) (t set : ℕ) → Given (at-b d t .state .phase) (at-e
 unfolding at-e step-c
 given-e d t set =
     let b : State = at-b d t .state in
-    let taken : ℕ = new-at d t set in
-    let deferred : ℕ = late-at d t set in
+    let taken : ℕ = taken-at d t set in
+    let deferred : ℕ = deferred-at d t set in
     let c : State = step-c b t taken deferred in
     let x : State = step-d c taken (c .phase) in
     e-given (b .phase) x t (c-given b taken (b .phase) (x .phase) (d-given c taken))
@@ -310,7 +310,7 @@ module _ (table : Table) (marks : ℕ) (fair : Fair table marks) where
       let g : Phase = at-g d t set .phase in
       let z : List Event = begin-events t (f .phase) g ++ (start-events t (f .phase) g ++ ys) in
       rw (tail-parts d t set ys)
-      (by-defers (WorksAt t (at-b d t .state .phase)) 32 (late-at d t set) t (λ n l m es h. unfold Working in h) (giving-events-in (at-b d t .state .phase) (e .phase) ++ (end-events t (e .phase) (f .phase) ++ z))
+      (by-defers (WorksAt t (at-b d t .state .phase)) 32 (deferred-at d t set) t (λ n l m es h. unfold Working in h) (giving-events-in (at-b d t .state .phase) (e .phase) ++ (end-events t (e .phase) (f .phase) ++ z))
       (works-gives t (at-b d t .state .phase) (e .phase) (end-events t (e .phase) (f .phase) ++ z) (given-e d t set)
       (b-works table marks fair t s (e .phase) z refl
       (g-works table marks fair t f (held-at d t set) (f .phase) ys refl
@@ -332,8 +332,8 @@ module _ (table : Table) (marks : ℕ) (fair : Fair table marks) where
       → WorksAt t (at-g d t set .phase) ys → WorksAt (last (d .clock)) (d .phase) (happens d t set ++ ys)
   works-instant d t set ys l g n h =
       rw (happens-parts d t set ys)
-      (works-front d t (take-events 32 (new-at d t set) (d .marked) t ++ (tail-of d t set ++ ys)) l g
-      (by-takes (WorksAt t (at-b d t .state .phase)) 32 (new-at d t set) (d .marked) t (λ n l m es h. unfold Working in h) (tail-of d t set ++ ys)
+      (works-front d t (take-events 32 (taken-at d t set) (d .marked) t ++ (tail-of d t set ++ ys)) l g
+      (by-takes (WorksAt t (at-b d t .state .phase)) 32 (taken-at d t set) (d .marked) t (λ n l m es h. unfold Working in h) (tail-of d t set ++ ys)
       (works-tail d t set ys (g .table-is) n h)))
 
   works : (d : State) (cs : List Call) → Good table marks fair d → WorksAt (last (d .clock)) (d .phase) (history d cs)

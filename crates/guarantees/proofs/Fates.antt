@@ -7,7 +7,7 @@ use borrow.Author.Tests.{ne-eqb}
 use lib.Dec.{eqb}
 use Rattle.sets.specs.Sets.{member, bit}
 use Rattle.sets.proofs.Laws.{by-test, clash, same-task}
-use Rattle.rules.specs.Instant.{skipped, at-b, at-e, at-f, at-g, new-at, late-at, occurred}
+use Rattle.rules.specs.Instant.{skipped, at-b, at-e, at-f, at-g, taken-at, deferred-at, occurred}
 use Rattle.rules.specs.Calls.{refusal, instant, served as served-step, after-call}
 use Rattle.guarantees.specs.History.{Event, Takes, Defers, happens, by-call, history, after-calls, take-events, defer-events, giving-events-in, end-events, begin-events, start-events}
 use Rattle.guarantees.specs.Queries.{after, first, taking, waiting}
@@ -55,26 +55,26 @@ module _ (n : ℕ) (small : n < 32) where
         at-task n deferred (λ k. Defers k t) (λ k. defer-events k deferred t) refl (λ k. refl) To
         (λ x k e es h. rw e h) x (put-off x) (λ m es h. rw (same-task n) h) 32 small es h
 
-    tail-fates : (d : State) (t set : ℕ) (x : Fates) (es : List Event) → To (cond (member n (late-at d t set)) (put-off x) x) es → To x (tail-of d t set ++ es)
+    tail-fates : (d : State) (t set : ℕ) (x : Fates) (es : List Event) → To (cond (member n (deferred-at d t set)) (put-off x) x) es → To x (tail-of d t set ++ es)
     unfolding after
     tail-fates d t set x es h =
-        let y : Fates = cond (member n (late-at d t set)) (put-off x) x in
+        let y : Fates = cond (member n (deferred-at d t set)) (put-off x) x in
         rw (tail-parts d t set es)
-        (defers-fates (late-at d t set) t x _ (by-rest (To y) (λ k es h. h) (λ u es h. h) (λ u r l es h. h) (λ k u es h. h) d t set es h))
+        (defers-fates (deferred-at d t set) t x _ (by-rest (To y) (λ k es h. h) (λ u es h. h) (λ u r l es h. h) (λ k u es h. h) d t set es h))
 
   -- what an instant makes of them
   abbrev made : State → ℕ → ℕ → Fates → Fates
   made d t set x =
-      let y : Fates = cond (member n (new-at d t set)) (took x) x in
-      cond (member n (late-at d t set)) (put-off y) y
+      let y : Fates = cond (member n (taken-at d t set)) (took x) x in
+      cond (member n (deferred-at d t set)) (put-off y) y
 
   happens-fates : (d : State) (t set : ℕ) (x : Fates) (h : List Event) → F x (happens d t set ++ h) ≡ F (made d t set x) h
   happens-fates d t set x h =
-      let y : Fates = cond (member n (new-at d t set)) (took x) x in
+      let y : Fates = cond (member n (taken-at d t set)) (took x) x in
       let z : Fates = F (made d t set x) h in
       ap (F x) (happens-parts d t set h)
-      ∙ front-fates z d t x (take-events 32 (new-at d t set) (d .marked) t ++ (tail-of d t set ++ h))
-      (takes-fates z (new-at d t set) (d .marked) t x (tail-of d t set ++ h) (tail-fates z d t set y h refl))
+      ∙ front-fates z d t x (take-events 32 (taken-at d t set) (d .marked) t ++ (tail-of d t set ++ h))
+      (takes-fates z (taken-at d t set) (d .marked) t x (tail-of d t set ++ h) (tail-fates z d t set y h refl))
 
   -- ---- the balance
 
@@ -116,12 +116,12 @@ module _ (n : ℕ) (small : n < 32) where
     same : member n (B .waiting .tasks) ≡ x .waits
     same = ap (λ (w : WaitingReleases). member n (w .tasks)) (waiting-b d t) ∙ sym agrees
 
-    taken-is : member n (new-at d t set) ≡ is-taken P (x .waits) (member n set)
-    unfolding new-at
+    taken-is : member n (taken-at d t set) ≡ is-taken P (x .waits) (member n set)
+    unfolding taken-at
     taken-is = taken-member B set n small ∙ ap (λ (w : Bool). is-taken P w (member n set)) same
 
-    deferred-is : member n (late-at d t set) ≡ is-deferred P (x .waits) (member n set)
-    unfolding late-at
+    deferred-is : member n (deferred-at d t set) ≡ is-deferred P (x .waits) (member n set)
+    unfolding deferred-at
     deferred-is = deferred-member B set n small ∙ ap (λ (w : Bool). is-deferred P w (member n set)) same
 
     skipped-is : member n (occurred d t set .skipped) ≡ is-skipped P (x .waits) (member n set)
@@ -183,19 +183,19 @@ module _ (n : ℕ) (small : n < 32) where
   abbrev As : List Event → List Event → Type 0
   As ys zs = taking n zs ≡ taking n ys
 
-  none-taken : (d : State) (t set : ℕ) → member n (new-at d t set) ≡ false → taking n (happens d t set) ≡ Never
+  none-taken : (d : State) (t set : ℕ) → member n (taken-at d t set) ≡ false → taking n (happens d t set) ≡ Never
   unfolding first
   none-taken d t set e =
       ap (taking n) (sym (append-nil (happens d t set)) ∙ happens-parts d t set [])
       ∙ by-front (As (takes ++ tail)) (λ u es h. h) (λ k u es h. h) (λ k u es h. h) (λ k es h. h) (λ k u es h. h) (λ u es h. h) d t (takes ++ tail) refl
-      ∙ by-takes (As tail) 32 (new-at d t set) (d .marked) t
-      (λ k l m es h. let z : eqb n k ≡ false = ne-eqb n k (λ x. clash (member n (new-at d t set)) (ap (λ (j : ℕ). member j (new-at d t set)) x ∙ m) e) in rw z h) tail refl
+      ∙ by-takes (As tail) 32 (taken-at d t set) (d .marked) t
+      (λ k l m es h. let z : eqb n k ≡ false = ne-eqb n k (λ x. clash (member n (taken-at d t set)) (ap (λ (j : ℕ). member j (taken-at d t set)) x ∙ m) e) in rw z h) tail refl
       ∙ ap (taking n) (tail-parts d t set [])
-      ∙ by-defers (As rest) 32 (late-at d t set) t (λ k l m es h. h) rest refl
+      ∙ by-defers (As rest) 32 (deferred-at d t set) t (λ k l m es h. h) rest refl
       ∙ by-rest (As []) (λ k es h. h) (λ u es h. h) (λ u r l es h. h) (λ k u es h. h) d t set [] refl
     where
       takes : List Event
-      takes = take-events 32 (new-at d t set) (d .marked) t
+      takes = take-events 32 (taken-at d t set) (d .marked) t
 
       tail : List Event
       tail = tail-of d t set ++ []
@@ -221,17 +221,17 @@ module _ (n : ℕ) (small : n < 32) where
       let s : (by-call g (Instant t set) ≡ happens g t set) × (occurred g t set ≡ o) = happens-by g t set o h in
       subst (Placed n set (o .skipped) (history d cs)) (sym (s .0))
       (subst (λ (x : Occurred). Placed n set (x .skipped) (history d cs) (happens g t set)) (s .1) (record {
-        taken-from = λ u x. by-test (member n (new-at g t set)) (λ m. from m) (λ m. absurd (let z : Never ≡ Tick u = sym (none-taken g t set m) ∙ x in let y : _≡_ {A = ℕ} 0 1 = cc in omega arith));
+        taken-from = λ u x. by-test (member n (taken-at g t set)) (λ m. from m) (λ m. absurd (let z : Never ≡ Tick u = sym (none-taken g t set m) ∙ x in let y : _≡_ {A = ℕ} 0 1 = cc in omega arith));
         skipped-behind = λ m. (waits-so d cs e (ap (λ (w : WaitingReleases). member n (w .tasks)) (sym (waiting-b g t)) ∙ behind m .0), none-taken g t set (behind m .1));
       }))
     where
-      from : member n (new-at (after-calls d cs) t set) ≡ true → (member n set ≡ true) ⊎ ((u : ℕ) × (waiting n Never (history d cs) ≡ Tick u))
-      from m = unfold new-at in
+      from : member n (taken-at (after-calls d cs) t set) ≡ true → (member n set ≡ true) ⊎ ((u : ℕ) × (waiting n Never (history d cs) ≡ Tick u))
+      from m = unfold taken-at in
           ⊎-elim (λ w. inr (waits-so d cs e (ap (λ (w : WaitingReleases). member n (w .tasks)) (sym (waiting-b (after-calls d cs) t)) ∙ w))) (λ s. inl s)
           (taken-from (at-b (after-calls d cs) t .state) set n m)
 
-      behind : member n (occurred (after-calls d cs) t set .skipped) ≡ true → (member n (at-b (after-calls d cs) t .state .waiting .tasks) ≡ true) × (member n (new-at (after-calls d cs) t set) ≡ false)
-      behind m = unfold new-at occurred in
+      behind : member n (occurred (after-calls d cs) t set .skipped) ≡ true → (member n (at-b (after-calls d cs) t .state .waiting .tasks) ≡ true) × (member n (taken-at (after-calls d cs) t set) ≡ false)
+      behind m = unfold taken-at occurred in
           let b : State = at-b (after-calls d cs) t .state in
           let z : (member n (b .waiting .tasks) ≡ true) × (is-taken (member n (b .jobs .pending)) (member n (b .waiting .tasks)) (member n set) ≡ false) =
           go (member n (b .jobs .pending)) (member n (b .waiting .tasks)) (member n set) (sym (skipped-member b set n small) ∙ m) in

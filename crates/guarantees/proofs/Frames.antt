@@ -2,7 +2,7 @@
 -- waits.
 use Rattle.guarantees.specs.Types.{_≡_, refl, ap, _∙_, ℕ, Table, WaitingReleases, Clock, At, MaybeTask, NoTask, Task, Interval, Phase, Between, Within, State, Stage}
 use Rattle.sets.specs.Sets.{union}
-use Rattle.rules.specs.Instant.{step-a, step-b, step-c, step-d, step-e, step-g, without-done, after-done, close, cancel, choose, begin, at-a, at-b, at-e, at-f, at-g, new-at, late-at, fresh-stage}
+use Rattle.rules.specs.Instant.{step-a, step-b, step-c, step-d, step-e, step-g, without-done, after-done, close, cancel, choose, begin, at-a, at-b, at-e, at-f, at-g, taken-at, deferred-at, fresh-stage}
 use Rattle.rules.specs.With.{at-clock}
 use Rattle.rules.specs.Order.{highest-of}
 use Rattle.guarantees.proofs.Cases.{held-at, a-cases, b-cases, d-cases, e-cases, g-cases}
@@ -79,11 +79,11 @@ waiting-b d t = ap (λ (x : Frame). x .waiting) (frame-b d t)
 
 -- the state that it leaves
 abbrev pub at-c : State → ℕ → ℕ → State
-at-c d t set = step-c (at-b d t .state) t (new-at d t set) (late-at d t set)
+at-c d t set = step-c (at-b d t .state) t (taken-at d t set) (deferred-at d t set)
 
 -- and after step d
 abbrev pub at-d : State → ℕ → ℕ → State
-at-d d t set = let c : State = at-c d t set in step-d c (new-at d t set) (c .phase)
+at-d d t set = let c : State = at-c d t set in step-d c (taken-at d t set) (c .phase)
 
 pub c-table : (d : State) (t taken deferred : ℕ) → step-c d t taken deferred .table ≡ d .table
 unfolding step-c
@@ -100,7 +100,7 @@ c-pending d t taken deferred = refl
 pub frame-e : (d : State) (t set : ℕ) → frame (at-e d t set) ≡ frame (at-c d t set)
 unfolding at-e
 frame-e d t set =
-    let taken : ℕ = new-at d t set in
+    let taken : ℕ = taken-at d t set in
     let c : State = at-c d t set in
     e-frame (step-d c taken (c .phase)) t ∙ d-frame c taken
 
@@ -116,20 +116,20 @@ c-marked d t taken deferred = refl
 
 module _ (d : State) (t set : ℕ) where
   pub marked-g : at-g d t set .marked ≡ d .marked
-  marked-g = ap (λ (x : Frame). x .marked) (frame-g d t set) ∙ c-marked (at-b d t .state) t (new-at d t set) (late-at d t set) ∙ marked-b d t
+  marked-g = ap (λ (x : Frame). x .marked) (frame-g d t set) ∙ c-marked (at-b d t .state) t (taken-at d t set) (deferred-at d t set) ∙ marked-b d t
 
   pub table-e : at-e d t set .table ≡ d .table
-  table-e = ap (λ (x : Frame). x .table) (frame-e d t set) ∙ c-table (at-b d t .state) t (new-at d t set) (late-at d t set) ∙ table-b d t
+  table-e = ap (λ (x : Frame). x .table) (frame-e d t set) ∙ c-table (at-b d t .state) t (taken-at d t set) (deferred-at d t set) ∙ table-b d t
 
   pub table-g : at-g d t set .table ≡ d .table
-  table-g = ap (λ (x : Frame). x .table) (frame-g d t set) ∙ c-table (at-b d t .state) t (new-at d t set) (late-at d t set) ∙ table-b d t
+  table-g = ap (λ (x : Frame). x .table) (frame-g d t set) ∙ c-table (at-b d t .state) t (taken-at d t set) (deferred-at d t set) ∙ table-b d t
 
   pub clock-g : at-g d t set .clock ≡ At t
   clock-g =
-      ap (λ (x : Frame). x .clock) (frame-g d t set) ∙ c-clock (at-b d t .state) t (new-at d t set) (late-at d t set) ∙ ap (λ (x : Frame). x .clock) (frame-b d t)
+      ap (λ (x : Frame). x .clock) (frame-g d t set) ∙ c-clock (at-b d t .state) t (taken-at d t set) (deferred-at d t set) ∙ ap (λ (x : Frame). x .clock) (frame-b d t)
 
-  pub pending-g : at-g d t set .jobs .pending ≡ union (at-b d t .state .jobs .pending) (new-at d t set)
-  pending-g = ap (λ (x : Frame). x .pending) (frame-g d t set) ∙ c-pending (at-b d t .state) t (new-at d t set) (late-at d t set)
+  pub pending-g : at-g d t set .jobs .pending ≡ union (at-b d t .state .jobs .pending) (taken-at d t set)
+  pending-g = ap (λ (x : Frame). x .pending) (frame-g d t set) ∙ c-pending (at-b d t .state) t (taken-at d t set) (deferred-at d t set)
 
   -- what waits after an instant waits since its step c
   pub waiting-g : at-g d t set .waiting ≡ at-c d t set .waiting

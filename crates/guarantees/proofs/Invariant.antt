@@ -13,7 +13,7 @@ use Rattle.guarantees.proofs.Walk.{with-marks, MarksKnown, after}
 use Rattle.guarantees.proofs.Proper.{Fair}
 use Rattle.guarantees.specs.History.{after-calls}
 use Rattle.rules.specs.Calls.{opened}
-use Rattle.rules.specs.Instant.{taken, deferred, settled, at-b, at-e, at-f, at-g, new-at, fresh-stage}
+use Rattle.rules.specs.Instant.{taken, deferred, settled, at-b, at-e, at-f, at-g, taken-at, fresh-stage}
 use Rattle.rules.specs.With.{later}
 use Rattle.guarantees.proofs.Frames.{table-g, clock-g, waiting-b}
 use Rattle.guarantees.proofs.Releases.{taken-none, waits-g, behind-g, balance-g}
@@ -162,8 +162,8 @@ module _ (X Y : ℕ → Type 0) where
 
 -- of an empty set none is taken while nothing ends: what waits goes on waiting behind its pending job
 none-taken : (d : State) (t set : ℕ) → ((k : ℕ) → k < 32 → member k set ≡ false) → Sub (d .waiting .tasks) (d .jobs .pending) → drop t (d .phase) ≡ 0
-    → (k : ℕ) → k < 32 → member k (new-at d t set) ≡ false
-unfolding new-at
+    → (k : ℕ) → k < 32 → member k (taken-at d t set) ≡ false
+unfolding taken-at
 none-taken d t set h behind z =
     taken-none (at-b d t .state) set h
     (λ k l m. ap (member k) (still-pending d t z) ∙ behind k l (ap (λ (w : WaitingReleases). member k (w .tasks)) (sym (waiting-b d t)) ∙ m))

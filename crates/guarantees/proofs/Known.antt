@@ -5,7 +5,7 @@ use lib.Dec.{eqb}
 use lib.ListN.{getD, length}
 use Rattle.sets.specs.Sets.{member}
 use Rattle.sets.proofs.Laws.{by-test}
-use Rattle.rules.specs.Instant.{step-a, completed, at-a, at-b, at-e, at-f, at-g, new-at, late-at, processor-task, copyout-task}
+use Rattle.rules.specs.Instant.{step-a, completed, at-a, at-b, at-e, at-f, at-g, taken-at, deferred-at, processor-task, copyout-task}
 use Rattle.rules.specs.With.{at-clock}
 use Rattle.guarantees.specs.History.{Event, Starts, Stops, Comes, Finishes, Completes, Ends, Takes, Defers, GivesWay, Begins, history, happens, finish-events-in, completion-events, end-events, take-events, giving-events-in, begin-events, start-events}
 use Rattle.guarantees.specs.Queries.{is-task, intervals, each, upto}
@@ -117,12 +117,12 @@ module _ (present : ℕ) where
       let z : List Event = start-events t (at-f d t set .state .phase) (at-g d t set .phase) ++ ys in
       let tail : AllKnown (tail-of d t set ++ ys) =
       subst AllKnown (sym (tail-parts d t set ys))
-      (by-defers AllKnown 32 (late-at d t set) t (λ n l m es k. (tt, k)) (giving-events-in (at-b d t .state .phase) (at-e d t set .phase) ++ (end-events t (at-e d t set .phase) (at-f d t set .state .phase) ++ (x ++ z)))
+      (by-defers AllKnown 32 (deferred-at d t set) t (λ n l m es k. (tt, k)) (giving-events-in (at-b d t .state .phase) (at-e d t set .phase) ++ (end-events t (at-e d t set .phase) (at-f d t set .state .phase) ++ (x ++ z)))
       (by-gives AllKnown (λ n es k. (tt, k)) (at-b d t .state .phase) (at-e d t set .phase) (end-events t (at-e d t set .phase) (at-f d t set .state .phase) ++ (x ++ z))
       (by-ends AllKnown t (λ es k. (tt, k)) (at-e d t set .phase) (at-f d t set .state .phase) (x ++ z)
       (known-begins t (at-f d t set .state .phase) (at-g d t set .phase) z g
       (by-starts AllKnown t (λ n es k. (tt, k)) (at-f d t set .state .phase) (at-g d t set .phase) ys h))))) in
-      let later : List Event = take-events 32 (new-at d t set) (d .marked) t ++ (tail-of d t set ++ ys) in
+      let later : List Event = take-events 32 (taken-at d t set) (d .marked) t ++ (tail-of d t set ++ ys) in
       let ends : List Event = end-events t (at-a d t .state .phase) (at-b d t .state .phase) ++ later in
       rw (happens-parts d t set ys, front-parts d t later) (
         tt,
@@ -130,11 +130,11 @@ module _ (present : ℕ) where
             (by-finishes AllKnown (λ n es k. (tt, k)) t (d .phase) (completion-events (at-a d t .done) ++ ends)
             (known-completes d t ends o
             (by-ends AllKnown t (λ es k. (tt, k)) (at-a d t .state .phase) (at-b d t .state .phase) later
-            (by-takes AllKnown 32 (new-at d t set) (d .marked) t (λ n l m es k. (was-known n l m, k)) (tail-of d t set ++ ys) tail)))),
+            (by-takes AllKnown 32 (taken-at d t set) (d .marked) t (λ n l m es k. (was-known n l m, k)) (tail-of d t set ++ ys) tail)))),
       )
     where
-      was-known : Sub (new-at d t set) present
-      was-known n l m = unfold new-at in
+      was-known : Sub (taken-at d t set) present
+      was-known n l m = unfold taken-at in
           ⊎-elim (λ x. w n l (ap (λ (y : WaitingReleases). member n (y .tasks)) (sym (waiting-b d t)) ∙ x)) (λ x. f n l x) (taken-from (at-b d t .state) set n m)
 
 -- ---- along the calls

@@ -6,7 +6,7 @@ use borrow.Author.Tests.{eqb-true}
 use lib.Dec.{eqb}
 use Rattle.sets.specs.Sets.{member, insert, remove}
 use Rattle.sets.proofs.Laws.{by-test, inserted, removed}
-use Rattle.rules.specs.Instant.{at-g, new-at, late-at}
+use Rattle.rules.specs.Instant.{at-g, taken-at, deferred-at}
 use Rattle.rules.specs.Calls.{refusal, mark-refusal, after-call}
 use Rattle.guarantees.specs.History.{Event, Comes, Starts, Stops, Finishes, Completes, Ends, Takes, Defers, GivesWay, Begins, happens, by-call, after-calls, take-events}
 use Rattle.guarantees.specs.Queries.{details, is-task, takes}
@@ -38,11 +38,11 @@ unfolding Marked
 happens-marked d t set es h =
     rw (happens-parts d t set es)
     (by-front (Marked w) (λ u. other w (Comes u) refl) (λ k u. other w (Starts k u) refl) (λ k u. other w (Stops k u) refl) (λ k. other w (Finishes k) refl)
-    (λ k u. other w (Completes k u) refl) (λ u. other w (Ends u) refl) d t (take-events 32 (new-at d t set) w t ++ (tail-of d t set ++ es))
-    (by-takes (Marked w) 32 (new-at d t set) w t
+    (λ k u. other w (Completes k u) refl) (λ u. other w (Ends u) refl) d t (take-events 32 (taken-at d t set) w t ++ (tail-of d t set ++ es))
+    (by-takes (Marked w) 32 (taken-at d t set) w t
     (λ k l m es x. (λ n e. (omega (arith, eqb-true n k e), ap (λ (j : ℕ). member j w) (sym (eqb-true n k e))), x)) (tail-of d t set ++ es)
     (rw (tail-parts d t set es)
-    (by-defers (Marked w) 32 (late-at d t set) t (λ k l m. other w (Defers k t) refl) _
+    (by-defers (Marked w) 32 (deferred-at d t set) t (λ k l m. other w (Defers k t) refl) _
     (by-rest (Marked w) (λ k. other w (GivesWay k) refl) (λ u. other w (Ends u) refl) (λ u r l. other w (Begins u r l) refl) (λ k u. other w (Starts k u) refl) d t set es h)))))
   where
     w : ℕ

@@ -10,7 +10,7 @@ use Rattle.sets.proofs.Laws.{by-test, clash, none, union-right, intersection-in
 use Rattle.guarantees.proofs.Highest.{Best}
 use Rattle.guarantees.proofs.Walk.{walk}
 use Rattle.guarantees.specs.History.{history, Event, Starts, Stops, Comes, Takes, Defers, GivesWay, Begins, Completes, Finishes, Ends, happens, finish-events-in, completion-events, end-events, take-events, defer-events, giving-events-in, begin-events, start-events}
-use Rattle.rules.specs.Instant.{step-a, step-b, step-c, step-d, step-e, step-g, close, close-stage, over, with-candidates, cancel, cancel-by, choose, begin, begin-processor, wanted, taken, ended, processor-task, copyin-at, at-a, at-b, at-e, at-f, at-g, new-at, late-at, fresh-stage}
+use Rattle.rules.specs.Instant.{step-a, step-b, step-c, step-d, step-e, step-g, close, close-stage, over, with-candidates, cancel, cancel-by, choose, begin, begin-processor, wanted, taken, ended, processor-task, copyin-at, at-a, at-b, at-e, at-f, at-g, taken-at, deferred-at, fresh-stage}
 use Rattle.rules.specs.With.{at-clock}
 use Rattle.rules.specs.Order.{highest-of, outranks}
 use Rattle.guarantees.specs.Queries.{is-task, Situation, NoneOpen, Open, situation, after-event, intervals, begin-tick, after, each, first, upto, met}
@@ -48,8 +48,8 @@ pub situation-e : (d : State) (t set : ℕ) → situation-of (at-e d t set .phas
 unfolding at-e step-c
 situation-e d t set =
     let b : State = at-b d t .state in
-    let taken : ℕ = new-at d t set in
-    let deferred : ℕ = late-at d t set in
+    let taken : ℕ = taken-at d t set in
+    let deferred : ℕ = deferred-at d t set in
     let c : State = step-c b t taken deferred in
     let x : State = step-d c taken (c .phase) in
     e-situation x t ∙ d-situation c taken ∙ c-situation b taken (b .phase)
@@ -195,9 +195,9 @@ module _ (pr : List ℕ) where
           go (Loaded c) s = held c 3 (λ l. rw s l)
           go (Cancelled c fate) s = stays (rw s (rival (d .jobs .ready) r))
 
-      module _ (d : State) (t set : ℕ) (cs : List Call) (tab : d .table .priority ≡ pr) (n-taken : member n (new-at d t set) ≡ true) where
+      module _ (d : State) (t set : ℕ) (cs : List Call) (tab : d .table .priority ≡ pr) (n-taken : member n (taken-at d t set) ≡ true) where
         c : State
-        c = step-c (at-b d t .state) t (new-at d t set) (late-at d t set)
+        c = step-c (at-b d t .state) t (taken-at d t set) (deferred-at d t set)
 
         tab-c : c .table .priority ≡ pr
         unfolding c step-c
@@ -205,7 +205,7 @@ module _ (pr : List ℕ) where
 
         ready-c : member n (c .jobs .ready) ≡ true
         unfolding c step-c
-        ready-c = union-right (at-b d t .state .jobs .ready) (new-at d t set) n small n-taken
+        ready-c = union-right (at-b d t .state .jobs .ready) (taken-at d t set) n small n-taken
 
         marked-c : member n (d .marked) ≡ true → member n (c .marked) ≡ true
         unfolding c step-c
@@ -219,12 +219,12 @@ module _ (pr : List ℕ) where
           processor = i .processor;
           copyout = i .copyout;
           copyin = i .copyin;
-          candidates = union (i .candidates) (intersection (new-at d t set) (at-b d t .state .marked));
+          candidates = union (i .candidates) (intersection (taken-at d t set) (at-b d t .state .marked));
         }
 
         within-c : (i : Interval) → at-b d t .state .phase ≡ Within i → c .phase ≡ Within (with-new i)
         unfolding c step-c with-candidates with-new
-        within-c i e = ap (with-candidates (at-b d t .state) (new-at d t set)) e
+        within-c i e = ap (with-candidates (at-b d t .state) (taken-at d t set)) e
 
         -- what is to come after step e
         soon-later : (F : ℕ → ℕ → CopyIn → Type 0) (Q : MaybeTask → Type 0) → Rule pr n F Q → Waiting pr n F Q (at-e d t set)
@@ -248,8 +248,8 @@ module _ (pr : List ℕ) where
         old-c : member n (d .marked) ≡ true → (i : Interval) → c .phase ≡ Within i → Old pr n (at-e d t set)
         unfolding at-e c
         old-c m i e =
-            let taken : ℕ = new-at d t set in
-            let deferred : ℕ = late-at d t set in
+            let taken : ℕ = taken-at d t set in
+            let deferred : ℕ = deferred-at d t set in
             e-waiting pr n (Bound pr n) (NotLower pr n) (rule-old pr n small) small t (step-d c taken (c .phase))
             (subst (λ (p : Phase). Old pr n (step-d c taken p)) (sym e)
             (unfold step-d in d-marked c taken i (i .copyin) refl e tab-c (subst (NewAt c taken) e (c-new (at-b d t .state) t taken deferred)) n-taken (marked-c m)))
@@ -300,7 +300,7 @@ module _ (pr : List ℕ) where
         rw (wanted-ready next outgoing (f .jobs .ready) r)
         (begins-tick t next outgoing (begin-processor (f .table) t next) (step-e b t (b .phase) .phase) ys (e-opens b t (begin-processor (f .table) t next) refl))
 
-    pub begins-at-once : (d : State) (t set : ℕ) (h : List Event) → member n (new-at d t set) ≡ true → (p : Phase) → at-b d t .state .phase ≡ p
+    pub begins-at-once : (d : State) (t set : ℕ) (h : List Event) → member n (taken-at d t set) ≡ true → (p : Phase) → at-b d t .state .phase ≡ p
         → AtOnce t (situation-of p) (begin-tick (tail-of d t set ++ h))
     begins-at-once d t set h m (Within i) e x = absurd (let z : _≡_ {A = ℕ} 0 1 = cc in omega arith)
     begins-at-once d t set h m (Between next outgoing) e x =
@@ -315,10 +315,10 @@ module _ (pr : List ℕ) where
         b = at-b d t .state
 
         taken : ℕ
-        taken = new-at d t set
+        taken = taken-at d t set
 
         deferred : ℕ
-        deferred = late-at d t set
+        deferred = deferred-at d t set
 
         c : State
         c = step-c b t taken deferred
@@ -427,7 +427,7 @@ module _ (pr : List ℕ) where
       let z : List Event = start-events t (f .phase) (at-g d t set .phase) ++ ys in
       let y : List Event = begin-events t (f .phase) (at-g d t set .phase) ++ z in
       rw (tail-parts d t set ys)
-      (by-defers (Kept (situation-of (e .phase))) 32 (late-at d t set) t (λ n l m es k. k) (giving-events-in (at-b d t .state .phase) (e .phase) ++ (end-events t (e .phase) (f .phase) ++ y))
+      (by-defers (Kept (situation-of (e .phase))) 32 (deferred-at d t set) t (λ n l m es k. k) (giving-events-in (at-b d t .state .phase) (e .phase) ++ (end-events t (e .phase) (f .phase) ++ y))
       (by-gives (Kept (situation-of (e .phase))) (λ n es k. k) (at-b d t .state .phase) (e .phase) (end-events t (e .phase) (f .phase) ++ y)
       (kept-ends (fresh-stage e) t (e .phase) y refl
       (kept-begins f t (held-at d t set) (f .phase) z refl
@@ -438,8 +438,8 @@ module _ (pr : List ℕ) where
   kept-instant d t set cs p k =
       let h : List Event = history (at-g d t set) cs in
       rw (happens-parts d t set h)
-      (kept-front d t (take-events 32 (new-at d t set) (d .marked) t ++ (tail-of d t set ++ h))
-      (kept-takes (new-at d t set) (d .marked) t (situation-of (at-b d t .state .phase)) (tail-of d t set ++ h)
+      (kept-front d t (take-events 32 (taken-at d t set) (d .marked) t ++ (tail-of d t set ++ h))
+      (kept-takes (taken-at d t set) (d .marked) t (situation-of (at-b d t .state .phase)) (tail-of d t set ++ h)
       (λ n l m. (released n l d t set cs p m (at-b d t .state .phase) refl, begins-at-once n l d t set h m (at-b d t .state .phase) refl))
       (subst (λ (s : Situation). Kept s (tail-of d t set ++ h)) (situation-e d t set) (kept-tail d t set h k))))
 

@@ -6,7 +6,7 @@ use borrow.Author.Tests.{eqb-true, eqb-false, eq-eqb, ne-eqb}
 use lib.Dec.{eqb}
 use Rattle.sets.specs.Sets.{member, union}
 use Rattle.sets.proofs.Laws.{by-test, united, removed}
-use Rattle.rules.specs.Instant.{after-done, at-a, at-b, at-e, at-f, at-g, new-at, late-at}
+use Rattle.rules.specs.Instant.{after-done, at-a, at-b, at-e, at-f, at-g, taken-at, deferred-at}
 use Rattle.guarantees.specs.History.{Event, Starts, Stops, Comes, Finishes, Completes, Ends, Takes, Defers, GivesWay, Begins, history, after-calls, happens, processor-events-in, finish-events-in, completion-events, end-events, take-events, giving-events-in, begin-events, start-events}
 use Rattle.guarantees.specs.Queries.{completion, first}
 use Rattle.guarantees.proofs.Walk.{walk-to}
@@ -68,7 +68,7 @@ module _ (n : ℕ) where
       let y : List Event = start-events t (at-f d t set .state .phase) (at-g d t set .phase) ++ ys in
       let z : List Event = end-events t (at-e d t set .phase) (at-f d t set .state .phase) ++ (x ++ y) in
       ap (pending-in n b) (tail-parts d t set ys)
-      ∙ by-defers (As b ys) 32 (late-at d t set) t (λ k l m es e. e) (giving-events-in (at-b d t .state .phase) (at-e d t set .phase) ++ z)
+      ∙ by-defers (As b ys) 32 (deferred-at d t set) t (λ k l m es e. e) (giving-events-in (at-b d t .state .phase) (at-e d t set .phase) ++ z)
       (by-gives (As b ys) (λ k es e. e) (at-b d t .state .phase) (at-e d t set .phase) z
       (by-ends (As b ys) t (λ es e. e) (at-e d t set .phase) (at-f d t set .state .phase) (x ++ y)
       (by-begins (As b ys) t (λ r l es e. e) (at-f d t set .state .phase) (at-g d t set .phase) y
@@ -113,9 +113,9 @@ module _ (n : ℕ) where
         ∙ one-other k t (member k marked) (member k taken) (b || member n taken) ys e)
 
     happens-pending : (d : State) (t set : ℕ) (ys : List Event)
-        → pending-in n (member n (d .jobs .pending)) (happens d t set ++ ys) ≡ pending-in n (member n (union (after-done (d .jobs .pending) (at-a d t .done)) (new-at d t set))) ys
+        → pending-in n (member n (d .jobs .pending)) (happens d t set ++ ys) ≡ pending-in n (member n (union (after-done (d .jobs .pending) (at-a d t .done)) (taken-at d t set))) ys
     happens-pending d t set ys =
-        let taken : ℕ = new-at d t set in
+        let taken : ℕ = taken-at d t set in
         let rest : List Event = take-events 32 taken (d .marked) t ++ (tail-of d t set ++ ys) in
         let e : List Event = end-events t (at-a d t .state .phase) (at-b d t .state .phase) in
         let c : List Event = completion-events (at-a d t .done) in
@@ -145,8 +145,8 @@ module _ (n : ℕ) where
 
 -- ---- the state's set
 
-pending-after : (d : State) (t set : ℕ) → at-g d t set .jobs .pending ≡ union (after-done (d .jobs .pending) (at-a d t .done)) (new-at d t set)
-pending-after d t set = pending-g d t set ∙ ap (λ (s : ℕ). union s (new-at d t set)) (pending-b d t)
+pending-after : (d : State) (t set : ℕ) → at-g d t set .jobs .pending ≡ union (after-done (d .jobs .pending) (at-a d t .done)) (taken-at d t set)
+pending-after d t set = pending-g d t set ∙ ap (λ (s : ℕ). union s (taken-at d t set)) (pending-b d t)
 
 -- ---- along the calls
 

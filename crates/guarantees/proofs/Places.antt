@@ -9,7 +9,7 @@ use Rattle.sets.proofs.Laws.{left, united, inserted, removed, same-task, member
 use Rattle.guarantees.proofs.Frames.{at-c, at-d}
 use Rattle.guarantees.proofs.Highest.{Best}
 use Rattle.guarantees.specs.Queries.{total, is-completion}
-use Rattle.rules.specs.Instant.{step-a, step-b, step-c, step-d, step-e, step-g, promoted, next-of, without-promoted, close, close-stage, over, with-candidates, cancel, choose, begin, begin-processor, begin-copyout, copying-out, wanted, taken, deferred, completed, without-done, ended, copyin-at, copyout-at, processor-at, awaiting-copyout, resting, after-done, settled, at-a, at-b, at-e, at-f, at-g, new-at, late-at, fresh-stage}
+use Rattle.rules.specs.Instant.{step-a, step-b, step-c, step-d, step-e, step-g, promoted, next-of, without-promoted, close, close-stage, over, with-candidates, cancel, choose, begin, begin-processor, begin-copyout, copying-out, wanted, taken, deferred, completed, without-done, ended, copyin-at, copyout-at, processor-at, awaiting-copyout, resting, after-done, settled, at-a, at-b, at-e, at-f, at-g, taken-at, deferred-at, fresh-stage}
 use Rattle.rules.specs.With.{at-clock}
 use Rattle.rules.specs.Order.{highest-of}
 use Rattle.guarantees.specs.History.{completion-events}
@@ -428,15 +428,15 @@ module _ (present : ℕ) (tasks : present < 2 ^ 32) where
       record { parted = y .parted; sizes = omega (arith, x .sizes, y .sizes) }
 
   pub to-e : (d : State) (t set : ℕ) → Sub set present → Parted (at-b d t .state) (at-b d t .state .phase)
-      → Moves (at-b d t .state) (at-b d t .state .phase) (at-e d t set) (at-e d t set .phase) 0 (size (new-at d t set))
-  unfolding at-e new-at late-at
+      → Moves (at-b d t .state) (at-b d t .state .phase) (at-e d t set) (at-e d t set .phase) 0 (size (taken-at d t set))
+  unfolding at-e taken-at deferred-at
   to-e d t set f h =
       let b : State = at-b d t .state in
       let c : State = at-c d t set in
       let x : State = at-d d t set in
       let e : State = at-e d t set in
-      let l1 : Moves b (b .phase) c (c .phase) 0 (size (new-at d t set)) = c-takes b t set f h in
-      let l2 : Moves c (c .phase) x (x .phase) 0 0 = d-moves c (new-at d t set) (l1 .parted) in
+      let l1 : Moves b (b .phase) c (c .phase) 0 (size (taken-at d t set)) = c-takes b t set f h in
+      let l2 : Moves c (c .phase) x (x .phase) 0 0 = d-moves c (taken-at d t set) (l1 .parted) in
       let l3 : Moves x (x .phase) e (e .phase) 0 0 = e-moves x t (l2 .parted) in
       record { parted = l3 .parted; sizes = omega (arith, l1 .sizes, l2 .sizes, l3 .sizes) }
 
@@ -452,9 +452,9 @@ module _ (present : ℕ) (tasks : present < 2 ^ 32) where
       record { parted = y .parted; sizes = omega (arith, x .sizes, y .sizes) }
 
   pub instant-moves : (d : State) (t set : ℕ) → Sub set present → Parted d (d .phase)
-      → Moves d (d .phase) (at-g d t set) (at-g d t set .phase) (total is-completion (completion-events (at-a d t .done))) (size (new-at d t set))
+      → Moves d (d .phase) (at-g d t set) (at-g d t set .phase) (total is-completion (completion-events (at-a d t .done))) (size (taken-at d t set))
   instant-moves d t set f h =
       let x : Moves d (d .phase) (at-b d t .state) (at-b d t .state .phase) (total is-completion (completion-events (at-a d t .done))) 0 = to-b d t h in
-      let y : Moves (at-b d t .state) (at-b d t .state .phase) (at-e d t set) (at-e d t set .phase) 0 (size (new-at d t set)) = to-e d t set f (x .parted) in
+      let y : Moves (at-b d t .state) (at-b d t .state .phase) (at-e d t set) (at-e d t set .phase) 0 (size (taken-at d t set)) = to-e d t set f (x .parted) in
       let z : Moves (at-e d t set) (at-e d t set .phase) (at-g d t set) (at-g d t set .phase) 0 0 = to-g d t set (y .parted) in
       record { parted = z .parted; sizes = omega (arith, x .sizes, y .sizes, z .sizes) }

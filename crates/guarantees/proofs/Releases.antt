@@ -5,7 +5,7 @@ use Rattle.guarantees.specs.Types.{_≡_, refl, sym, ap, _∙_, Bool, tr
 use native.Mathlib.Omega.{arith}
 use Rattle.sets.specs.Sets.{member, union, intersection, difference, bit, count, size}
 use Rattle.sets.proofs.Laws.{united, intersection-member, difference-member, member-task, union-small, difference-small, count-none}
-use Rattle.rules.specs.Instant.{resumed, found-pending, found-waiting, taken, deferred, skipped, step-c, at-b, at-g, new-at, late-at}
+use Rattle.rules.specs.Instant.{resumed, found-pending, found-waiting, taken, deferred, skipped, step-c, at-b, at-g, taken-at, deferred-at}
 use Rattle.guarantees.proofs.Steps.{Sub}
 use Rattle.guarantees.proofs.Frames.{waiting-b, waiting-g, pending-g}
 
@@ -220,16 +220,16 @@ module _ (d : State) (t set : ℕ) where
   B = at-b d t .state
 
   pub waits-g : at-g d t set .waiting .tasks ≡ waits-after B set
-  unfolding step-c new-at late-at
+  unfolding step-c taken-at deferred-at
   waits-g = ap (λ (w : WaitingReleases). w .tasks) (waiting-g d t set)
 
   -- for any state before it, what waits after an instant does so behind a pending job
   pub behind-g : Sub (at-g d t set .waiting .tasks) (at-g d t set .jobs .pending)
-  unfolding new-at
+  unfolding taken-at
   behind-g k l h =
       ap (member k) (pending-g d t set) ∙ waits-behind B set k l (ap (member k) (sym waits-g) ∙ h)
 
   -- and each release is taken, waits or is skipped
-  pub balance-g : size (d .waiting .tasks) + size set ≡ size (new-at d t set) + size (at-g d t set .waiting .tasks) + size (skipped B set)
-  unfolding new-at
+  pub balance-g : size (d .waiting .tasks) + size set ≡ size (taken-at d t set) + size (at-g d t set .waiting .tasks) + size (skipped B set)
+  unfolding taken-at
   balance-g = ap (λ (w : WaitingReleases). size (w .tasks) + size set) (sym (waiting-b d t)) ∙ balance B set ∙ ap (λ (w : ℕ). size (taken B set) + size w + size (skipped B set)) (sym waits-g)

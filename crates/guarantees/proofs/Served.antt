@@ -7,7 +7,7 @@ use lib.Dec.{eqb, ltb, leb}
 use Rattle.sets.specs.Sets.{member, difference, bit, size}
 use Rattle.sets.proofs.Laws.{difference-in, none, by-test, clash}
 use Rattle.rules.specs.Calls.{unknown, not-after, before-now, refusal}
-use Rattle.rules.specs.Instant.{step-a, without-done, ended, copyin-at, copyout-at, processor-at, due, sooner, processor-due, copyout-due, copyin-due, at-a, at-b, at-e, at-g, new-at}
+use Rattle.rules.specs.Instant.{step-a, without-done, ended, copyin-at, copyout-at, processor-at, due, sooner, processor-due, copyout-due, copyin-due, at-a, at-b, at-e, at-g, taken-at}
 use Rattle.rules.specs.With.{at-clock}
 use Rattle.guarantees.proofs.Count.{Sound, Leads, weight, rank, phase-debt, a-leads, b-leads, a-weight, a-debt, a-processor, copyin-rank, copyout-rank, processor-rank}
 use Rattle.guarantees.proofs.Times.{Times, processor-times, copyout-times, copyin-times, drop, processor-drop, copyout-drop, copyin-drop}
@@ -57,12 +57,12 @@ a-sinks d t (Within i) e =
 
 pub instant-sinks : (d : State) (t set : ℕ) → Sound d (d .phase) → let g : State = at-g d t set in
     8 * weight g (g .phase) + rank (g .phase) + 8 * phase-debt (d .phase) + drop t (d .phase)
-    ≤ 8 * weight d (d .phase) + rank (d .phase) + 8 * phase-debt (g .phase) + 24 * size (new-at d t set)
+    ≤ 8 * weight d (d .phase) + rank (d .phase) + 8 * phase-debt (g .phase) + 24 * size (taken-at d t set)
 instant-sinks d t set h =
     let b : State = at-b d t .state in
     let e : State = at-e d t set in
     let hb : Sound b (b .phase) = Count.to-b d t h .sound in
-    let he : Leads b (b .phase) e (e .phase) 0 (size (new-at d t set)) = Count.to-e d t set hb in
+    let he : Leads b (b .phase) e (e .phase) 0 (size (taken-at d t set)) = Count.to-e d t set hb in
     omega (arith, sinks-b d t h, he .sink, Count.to-g d t set (he .sound) .sink)
   where
     sinks-b : (d : State) (t : ℕ) → Sound d (d .phase) → let b : State = at-b d t .state in

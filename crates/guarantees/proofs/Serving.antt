@@ -7,7 +7,7 @@ use Rattle.sets.specs.Sets.{member, bit}
 use Rattle.sets.proofs.Laws.{by-test, none, same-task}
 use Rattle.rules.specs.With.{at-clock}
 use Rattle.rules.specs.Order.{highest-of}
-use Rattle.rules.specs.Instant.{processor-at, completed, ended, step-a, step-b, step-c, step-d, step-e, step-g, close, awaiting-copyout, with-candidates, cancel, choose, begin, begin-processor, begin-copyout, at-a, at-b, at-e, at-f, at-g, new-at, late-at, fresh-stage}
+use Rattle.rules.specs.Instant.{processor-at, completed, ended, step-a, step-b, step-c, step-d, step-e, step-g, close, awaiting-copyout, with-candidates, cancel, choose, begin, begin-processor, begin-copyout, at-a, at-b, at-e, at-f, at-g, taken-at, deferred-at, fresh-stage}
 use Rattle.rules.specs.Calls.{opened}
 use Rattle.guarantees.specs.History.{Event, Comes, Starts, Stops, Finishes, Ends, Takes, Defers, GivesWay, Begins, happens, history, after-calls, processor-events, processor-events-in, finish-events-in, completion-events, end-events, take-events, begin-events, execution-events, start-events}
 use Rattle.guarantees.specs.Queries.{details, is-task, starts, completes, first, start, completion}
@@ -251,25 +251,25 @@ module _ (n : ℕ) where
         → ((z : Bool) → phase-started z (at-g d t set .phase) → Serving z es) → Serving s (tail-of d t set ++ es)
     unfolding at-g at-f at-e step-c
     tail-serving d t set s es h k =
-        let taken : ℕ = new-at d t set in
-        let c : State = step-c (at-b d t .state) t taken (late-at d t set) in
+        let taken : ℕ = taken-at d t set in
+        let c : State = step-c (at-b d t .state) t taken (deferred-at d t set) in
         let x : State = step-d c taken (c .phase) in
         let begun : List Event = begin-events t (at-f d t set .state .phase) (at-g d t set .phase) in
         let started : List Event = start-events t (at-f d t set .state .phase) (at-g d t set .phase) in
         let closed : List Event = end-events t (at-e d t set .phase) (at-f d t set .state .phase) in
         let e : phase-started s (at-e d t set .phase) = e-started s x t (d-started s c taken (c-started s (at-b d t .state) taken (at-b d t .state .phase) h)) in
         rw (tail-parts d t set es)
-        (by-defers (Serving s) 32 (late-at d t set) t (λ j l m. quiet s (Defers j t) refl refl) _
+        (by-defers (Serving s) 32 (deferred-at d t set) t (λ j l m. quiet s (Defers j t) refl refl) _
         (by-gives (Serving s) (λ j. quiet s (GivesWay j) refl refl) (at-b d t .state .phase) (at-e d t set .phase) (closed ++ (begun ++ (started ++ es)))
         (by-ends (Serving s) t (quiet s (Ends t) refl refl) (at-e d t set .phase) (at-f d t set .state .phase) (begun ++ (started ++ es))
         (by-begins (Serving s) t (λ r l. quiet s (Begins t r l) refl refl) (at-f d t set .state .phase) (at-g d t set .phase) (started ++ es)
         (g-serving (at-f d t set .state) t (held-at d t set) s es (b-started s (fresh-stage (at-e d t set)) t e) k)))))
 
-    instant-serving : (d : State) (t set : ℕ) (s : Bool) (es : List Event) → (member n (new-at d t set) ≡ true → stage n (at-b d t .state .phase) ≡ 0)
+    instant-serving : (d : State) (t set : ℕ) (s : Bool) (es : List Event) → (member n (taken-at d t set) ≡ true → stage n (at-b d t .state .phase) ≡ 0)
         → phase-started s (d .phase) → ((z : Bool) → phase-started z (at-g d t set .phase) → Serving z es) → Serving s (happens d t set ++ es)
     unfolding at-b at-a
     instant-serving d t set s es f h k =
-        let taken : ℕ = new-at d t set in
+        let taken : ℕ = taken-at d t set in
         let rest : List Event = take-events 32 taken (d .marked) t ++ (tail-of d t set ++ es) in
         rw (happens-parts d t set es, front-parts d t rest)
         (quiet s (Comes t) refl refl _
@@ -290,12 +290,12 @@ module _ (table : Table) (marks : ℕ) (fair : Fair table marks) where
       (λ d m e h k g. k (good-quiet table marks fair d m e g))
       cs d
     where
-      apart : (d : State) (t set : ℕ) → Good table marks fair d → member n (new-at d t set) ≡ true → stage n (at-b d t .state .phase) ≡ 0
+      apart : (d : State) (t set : ℕ) → Good table marks fair d → member n (taken-at d t set) ≡ true → stage n (at-b d t .state .phase) ≡ 0
       apart d t set g m =
           omega (
             arith,
             to-b (table .present) (fair .present) d t (g .parted) .parted .parts n small,
-            ap bit (taken-not-pending (at-b d t .state) set n (unfold new-at in m)),
+            ap bit (taken-not-pending (at-b d t .state) set n (unfold taken-at in m)),
           )
 
   -- each job that is taken starts and completes, since at the opening none is pending and none executes

@@ -6,7 +6,7 @@ use lib.Dec.{eqb}
 use Rattle.sets.specs.Sets.{intersection}
 use Rattle.sets.proofs.Laws.{by-test, empty}
 use Rattle.guarantees.proofs.Highest.{Best}
-use Rattle.rules.specs.Instant.{step-b, step-c, step-d, step-e, step-g, close, over, choose, choose-if, begin, begin-processor, copying-out, wanted, resting, at-b, at-e, at-f, at-g, new-at, late-at, fresh-stage}
+use Rattle.rules.specs.Instant.{step-b, step-c, step-d, step-e, step-g, close, over, choose, choose-if, begin, begin-processor, copying-out, wanted, resting, at-b, at-e, at-f, at-g, taken-at, deferred-at, fresh-stage}
 use Rattle.rules.specs.Order.{highest-of}
 use Rattle.guarantees.proofs.Cases.{held-at, b-cases, g-cases}
 use Rattle.guarantees.proofs.Steps.{Opened, e-opens, best-of}
@@ -129,8 +129,8 @@ pub settled-after : (d : State) (t set : ℕ) → at-f d t set .state .jobs .rea
 unfolding at-g at-f at-e
 settled-after d t set h =
     let b : Stage = at-b d t in
-    let taken : ℕ = new-at d t set in
-    let deferred : ℕ = late-at d t set in
+    let taken : ℕ = taken-at d t set in
+    let deferred : ℕ = deferred-at d t set in
     let c : State = step-c (b .state) t taken deferred in
     let x : State = step-d c taken (c .phase) in
     let e : State = at-e d t set in

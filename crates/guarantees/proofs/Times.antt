@@ -9,7 +9,7 @@ use Rattle.table.specs.Table.{copyin-length, execution-length, copyout-length}
 use Rattle.sets.specs.Sets.{member, union, intersection, bit}
 use Rattle.sets.proofs.Laws.{united, none, by-test, clash, intersection-left, empty, union-small}
 use Rattle.guarantees.proofs.Highest.{Best}
-use Rattle.rules.specs.Instant.{step-a, step-b, step-c, step-d, step-e, step-g, close, over, with-candidates, cancel, choose, begin, begin-processor, begin-copyout, copying-out, wanted, taken, deferred, completed, after-done, without-done, ended, copyin-at, copyout-at, processor-at, at-a, at-b, at-e, at-f, at-g, new-at, late-at, fresh-stage}
+use Rattle.rules.specs.Instant.{step-a, step-b, step-c, step-d, step-e, step-g, close, over, with-candidates, cancel, choose, begin, begin-processor, begin-copyout, copying-out, wanted, taken, deferred, completed, after-done, without-done, ended, copyin-at, copyout-at, processor-at, at-a, at-b, at-e, at-f, at-g, taken-at, deferred-at, fresh-stage}
 use Rattle.rules.specs.With.{at-clock, later}
 use Rattle.rules.specs.Order.{highest-of, outranks}
 use Rattle.guarantees.proofs.Frames.{Frame, at-c, at-d, b-frame, c-table, d-frame, table-b, table-e, pending-b}
@@ -162,7 +162,7 @@ module _ (table : Table) (tasks : table .present < 2 ^ 32) (t : ℕ) (P : ℕ �
     -- the steps together
     pub instant-times : (d : State) (set : ℕ) → d .table ≡ table → Sub set (table .present) → Parted (table .present) tasks d (d .phase) → Times Later (d .phase)
         → Times P (at-g d t set .phase)
-    unfolding at-g at-f at-e at-b at-a new-at late-at
+    unfolding at-g at-f at-e at-b at-a taken-at deferred-at
     instant-times d set x f k h =
         let pr : ℕ = table .present in
         let d0 : State = at-clock d t in
@@ -179,7 +179,7 @@ module _ (table : Table) (tasks : table .present < 2 ^ 32) (t : ℕ) (P : ℕ �
         let ke : Parted pr tasks e (e .phase) = Places.to-e pr tasks d t set f kb .parted in
         let kf : Parted pr tasks ff (ff .phase) = Places.b-moves pr tasks z t (e .phase) refl ke .parted in
         let hb : Times P (b .phase) = b-times a (a-times d0 (d .phase) refl x k0 h) in
-        let he : Times P (e .phase) = e-times y (to-table b set (table-b d t ∙ x)) (ky .ready) (d-times c (new-at d t set) (to-c b set hb)) in
+        let he : Times P (e .phase) = e-times y (to-table b set (table-b d t ∙ x)) (ky .ready) (d-times c (taken-at d t set) (to-c b set hb)) in
         g-times ff (held-at d t set) (ap (λ (y : Frame). y .table) (b-frame z t) ∙ table-e d t set ∙ x) kf (b-times z he)
       where
         to-c : (b : State) (set : ℕ) → Times P (b .phase) → Times P (step-c b t (taken b set) (deferred b set) .phase)
@@ -329,7 +329,7 @@ module _ (P : ℕ → Type 0) (t : ℕ) where
       unwanted : (next : Next) (outgoing : Outgoing) (ready : ℕ) → (next ≡ NoneNext) × (outgoing ≡ NoneOutgoing) × (ready ≡ 0) → wanted next outgoing ready ≡ false
       unwanted next outgoing ready h = rw (h .0, h .1, h .2)
 
-  pub instant-still : (d : State) (set : ℕ) → drop t (d .phase) ≡ 0 → ((k : ℕ) → k < 32 → member k (new-at d t set) ≡ false) → Still d (d .phase) → Still (at-g d t set) (at-g d t set .phase)
+  pub instant-still : (d : State) (set : ℕ) → drop t (d .phase) ≡ 0 → ((k : ℕ) → k < 32 → member k (taken-at d t set) ≡ false) → Still d (d .phase) → Still (at-g d t set) (at-g d t set .phase)
   unfolding at-g at-f at-e at-b at-a
   instant-still d set z m h =
       let a : Stage = at-a d t in
@@ -340,8 +340,8 @@ module _ (P : ℕ → Type 0) (t : ℕ) where
       let s : Stage = fresh-stage e in
       let f : State = at-f d t set .state in
       let hb : Still b (b .phase) = b-still a (a-still (at-clock d t) (d .phase) refl z (record { times = h .times; decided = h .decided; open-yet = h .open-yet; rests = h .rests })) in
-      let hc : Still c (c .phase) = to-c b (new-at d t set) (late-at d t set) m hb in
-      let he : Still e (e .phase) = e-still y (d-still c (new-at d t set) m hc) in
+      let hc : Still c (c .phase) = to-c b (taken-at d t set) (deferred-at d t set) m hb in
+      let he : Still e (e .phase) = e-still y (d-still c (taken-at d t set) m hc) in
       g-still f (held-at d t set) (b-still s he)
     where
       to-c : (b : State) (taken deferred : ℕ) → ((k : ℕ) → k < 32 → member k taken ≡ false) → Still b (b .phase) → Still (step-c b t taken deferred) (step-c b t taken deferred .phase)

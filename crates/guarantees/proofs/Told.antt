@@ -6,7 +6,7 @@ use lib.ListN.{getD, replicate}
 use Rattle.sets.specs.Sets.{member}
 use Rattle.sets.proofs.Laws.{by-test, clash, none, same-task, member-task}
 use Rattle.rules.specs.With.{at-clock}
-use Rattle.rules.specs.Instant.{step-a, step-c, step-d, completed, job-entry, occurred, at-a, at-b, at-e, at-f, at-g, new-at, late-at, fresh-stage}
+use Rattle.rules.specs.Instant.{step-a, step-c, step-d, completed, job-entry, occurred, at-a, at-b, at-e, at-f, at-g, taken-at, deferred-at, fresh-stage}
 use Rattle.guarantees.specs.History.{Event, Comes, history, after-calls, happens, processor-events-in, finish-events-in, completion-events, end-events, take-events, defer-events, giving-events-in, begin-events, start-events}
 use Rattle.guarantees.specs.Queries.{waiting, original}
 use Rattle.guarantees.specs.Entries.{lower-in, TellsJob}
@@ -66,10 +66,10 @@ module _ (table : Table) (marks : ℕ) (fair : Fair table marks) (n : ℕ) (smal
     ends-b = end-events t (at-a d t .state .phase) (at-b d t .state .phase)
 
     abbrev takes-c : List Event
-    takes-c = take-events 32 (new-at d t set) (d .marked) t
+    takes-c = take-events 32 (taken-at d t set) (d .marked) t
 
     abbrev defers-c : List Event
-    defers-c = defer-events 32 (late-at d t set) t
+    defers-c = defer-events 32 (deferred-at d t set) t
 
     -- what the walk finds after step c
     abbrev after-c : Tally
@@ -99,13 +99,13 @@ module _ (table : Table) (marks : ℕ) (fair : Fair table marks) (n : ℕ) (smal
     unfolding at-e
     knows-e =
         let b : State = at-b d t .state in
-        let taken : ℕ = new-at d t set in
-        let deferred : ℕ = late-at d t set in
+        let taken : ℕ = taken-at d t set in
+        let deferred : ℕ = deferred-at d t set in
         let c : State = step-c b t taken deferred in
         e-knows pr n small t (step-d c taken (c .phase)) after-c
         (d-knows pr n small taken c after-c
         (c-knows pr n small (table .present) (fair .present) b t taken deferred (d .marked) (tally n (tally n x ended-a) ends-b) parted-b
-        (λ j m. unfold new-at in taken-not-pending b set j m) knows-b))
+        (λ j m. unfold taken-at in taken-not-pending b set j m) knows-b))
 
     pub parted-e : Parted (table .present) (fair .present) (at-e d t set) (at-e d t set .phase)
     parted-e = to-e (table .present) (fair .present) d t set known parted-b .parted

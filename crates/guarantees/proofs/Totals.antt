@@ -2,7 +2,7 @@
 use Rattle.guarantees.specs.Types.{_≡_, refl, ap, _∙_, Bool, true, false, cond, List, [], _∷_, _++_, ℕ, zero, suc, _+_, _*_, MaybeTask, State}
 use native.Mathlib.Omega.{arith}
 use Rattle.sets.specs.Sets.{member, count, size}
-use Rattle.rules.specs.Instant.{at-a, at-b, at-e, at-f, at-g, new-at, late-at}
+use Rattle.rules.specs.Instant.{at-a, at-b, at-e, at-f, at-g, taken-at, deferred-at}
 use Rattle.guarantees.specs.History.{Event, Comes, Starts, Stops, Finishes, Completes, Ends, Takes, Defers, GivesWay, Begins, happens, processor-events-in, finish-events-in, completion-events, end-events, take-events, begin-events, giving-events-in, start-events}
 use Rattle.guarantees.specs.Queries.{total, is-take, is-begin, is-completion}
 use Rattle.guarantees.proofs.Events.{by-processor, by-finishes, by-gives, by-ends, by-takes, by-defers, by-begins, by-starts, by-front, tail-of, front-of, happens-parts, front-parts, tail-parts}
@@ -34,7 +34,7 @@ module _ (f : Event → ℕ) where
 
 module _ (d : State) (t set : ℕ) (h : List Event) where
   abbrev taken : ℕ
-  taken = new-at d t set
+  taken = taken-at d t set
 
   abbrev given : List Event
   given = giving-events-in (at-b d t .state .phase) (at-e d t set .phase)
@@ -60,7 +60,7 @@ module _ (d : State) (t set : ℕ) (h : List Event) where
       → total f (tail-of d t set ++ h) ≡ total f h
   after-releases f v w a b c =
       ap (total f) (tail-parts d t set h)
-      ∙ by-defers (As f h) 32 (late-at d t set) t (λ n l m. skip f h (Defers n t) (v n t)) (given ++ (closed ++ (begun ++ (started ++ h))))
+      ∙ by-defers (As f h) 32 (deferred-at d t set) t (λ n l m. skip f h (Defers n t) (v n t)) (given ++ (closed ++ (begun ++ (started ++ h))))
       (by-gives (As f h) (λ n. skip f h (GivesWay n) (w n)) (at-b d t .state .phase) (at-e d t set .phase) (closed ++ (begun ++ (started ++ h)))
       (by-ends (As f h) t (skip f h (Ends t) (a t)) (at-e d t set .phase) (at-f d t set .state .phase) (begun ++ (started ++ h))
       (by-begins (As f h) t (λ r l. skip f h (Begins t r l) (b t r l)) (at-f d t set .state .phase) (at-g d t set .phase) (started ++ h)
@@ -73,7 +73,7 @@ module _ (d : State) (t set : ℕ) (h : List Event) where
       ∙ before-releases is-begin (λ u. refl) (λ n u. refl) (λ n u. refl) (λ n. refl) (λ n u. refl) (λ u. refl) (take-events 32 taken (d .marked) t ++ ys)
       ∙ by-takes (As is-begin ys) 32 taken (d .marked) t (λ n l m. skip is-begin ys (Takes n t (member n (d .marked))) refl) ys refl
       ∙ ap (total is-begin) (tail-parts d t set h)
-      ∙ by-defers (As is-begin (given ++ (closed ++ (begun ++ (started ++ h))))) 32 (late-at d t set) t (λ n l m. skip is-begin (given ++ (closed ++ (begun ++ (started ++ h)))) (Defers n t) refl) (given ++ (closed ++ (begun ++ (started ++ h)))) refl
+      ∙ by-defers (As is-begin (given ++ (closed ++ (begun ++ (started ++ h))))) 32 (deferred-at d t set) t (λ n l m. skip is-begin (given ++ (closed ++ (begun ++ (started ++ h)))) (Defers n t) refl) (given ++ (closed ++ (begun ++ (started ++ h)))) refl
       ∙ by-gives (As is-begin (closed ++ (begun ++ (started ++ h)))) (λ n. skip is-begin (closed ++ (begun ++ (started ++ h))) (GivesWay n) refl) (at-b d t .state .phase) (at-e d t set .phase) (closed ++ (begun ++ (started ++ h))) refl
       ∙ by-ends (As is-begin (begun ++ (started ++ h))) t (skip is-begin (begun ++ (started ++ h)) (Ends t) refl) (at-e d t set .phase) (at-f d t set .state .phase) (begun ++ (started ++ h)) refl
       ∙ omega (
@@ -82,7 +82,7 @@ module _ (d : State) (t set : ℕ) (h : List Event) where
         by-starts (As is-begin h) t (λ n. skip is-begin h (Starts n t) refl) (at-f d t set .state .phase) (at-g d t set .phase) h refl,
       )
 
-  pub takes-of : total is-take (happens d t set ++ h) ≡ size (new-at d t set) + total is-take h
+  pub takes-of : total is-take (happens d t set ++ h) ≡ size (taken-at d t set) + total is-take h
   unfolding size
   takes-of =
       let ys : List Event = tail-of d t set ++ h in

@@ -7,7 +7,7 @@ use Rattle.sets.proofs.Laws.{by-test, none, same-task, united, removed}
 use Rattle.rules.specs.With.{at-clock}
 use Rattle.rules.specs.Order.{highest-of}
 use Rattle.rules.specs.Calls.{opened}
-use Rattle.rules.specs.Instant.{step-a, step-b, step-c, step-d, step-e, step-g, close, close-stage, over, with-candidates, cancel, choose, begin, begin-processor, begin-copyout, wanted, taken, deferred, completed, without-done, after-done, ended, processor-task, copyout-task, copyout-at, job-entry, at-a, at-b, at-e, at-f, at-g, new-at, late-at, fresh-stage}
+use Rattle.rules.specs.Instant.{step-a, step-b, step-c, step-d, step-e, step-g, close, close-stage, over, with-candidates, cancel, choose, begin, begin-processor, begin-copyout, wanted, taken, deferred, completed, without-done, after-done, ended, processor-task, copyout-task, copyout-at, job-entry, at-a, at-b, at-e, at-f, at-g, taken-at, deferred-at, fresh-stage}
 use Rattle.guarantees.specs.History.{Event, Comes, Takes, Defers, Begins, history, happens, processor-events-in, finish-events-in, completion-events, end-events, take-events, defer-events, giving-events-in, begin-events, start-events}
 use Rattle.guarantees.specs.Queries.{is-task}
 use Rattle.guarantees.proofs.Proper.{Fair}
@@ -176,8 +176,8 @@ module _ (present : ℕ) (tasks : present < 4294967296) (n : ℕ) (small : n < 3
     unfolding at-e step-c
     spots-e d set =
         let b : State = at-b d t .state in
-        let taken : ℕ = new-at d t set in
-        let c : State = step-c b t taken (late-at d t set) in
+        let taken : ℕ = taken-at d t set in
+        let c : State = step-c b t taken (deferred-at d t set) in
         e-spots (step-d c taken (c .phase)) ∙ d-spots c taken ∙ c-spots b taken (b .phase)
 
     -- g
@@ -290,7 +290,7 @@ module _ (present : ℕ) (tasks : present < 4294967296) (n : ℕ) (small : n < 3
           go (member n taken-now) (nowhere B set h) ∙ omega (arith, spots-e d set, ap bit (sym pending-is))
         where
           pending-is : member n (G .jobs .pending) ≡ (member n (B .jobs .pending) || member n taken-now)
-          pending-is = ap (member n) (pending-g d t set) ∙ (unfold new-at in united (B .jobs .pending) taken-now n small)
+          pending-is = ap (member n) (pending-g d t set) ∙ (unfold taken-at in united (B .jobs .pending) taken-now n small)
 
           go : (x : Bool) → (x ≡ true → placed-b ≡ 0) → cond x 1 placed-b ≡ bit (member n (B .jobs .pending) || x) + executing (B .phase) + 2 * leaving (B .phase)
           go true z = by-test (member n (B .jobs .pending)) (λ p. absurd (omega (arith, z refl, ap bit p))) (λ p. rw p (omega (arith, z refl)))
@@ -326,8 +326,8 @@ module _ (present : ℕ) (tasks : present < 4294967296) (n : ℕ) (small : n < 3
           (by-starts (T (Seen c w (G .phase))) t (λ j es x. unfold Turning in (refl, x)) (f .phase) (G .phase) ys k)))
 
       tail-turning : (ys : List Event) → T (Seen (member n (G .jobs .pending)) (member n (G .waiting .tasks)) (G .phase)) ys
-          → T (Seen (member n (B .jobs .pending)) (member n (B .waiting .tasks)) (B .phase)) (take-events 32 (new-at d t set) (d .marked) t ++ (tail-of d t set ++ ys))
-      unfolding new-at late-at
+          → T (Seen (member n (B .jobs .pending)) (member n (B .waiting .tasks)) (B .phase)) (take-events 32 (taken-at d t set) (d .marked) t ++ (tail-of d t set ++ ys))
+      unfolding taken-at deferred-at
       tail-turning ys k =
           takes-turning taken-now (d .marked) placed-b (member n (B .waiting .tasks)) (tail-of d t set ++ ys) (nowhere B set h)
           (rw (tail-parts d t set ys)
@@ -346,7 +346,7 @@ module _ (present : ℕ) (tasks : present < 4294967296) (n : ℕ) (small : n < 3
       → let g : State = at-g d t set in T (view-in (Tick t) (member n (g .jobs .pending)) (member n (g .waiting .tasks)) (g .phase)) ys
       → T (view-in (instant-of (d .clock)) (member n (d .jobs .pending)) (member n (d .waiting .tasks)) (d .phase)) (happens d t set ++ ys)
   turning-instant d t set ys known onward behind h k =
-      let later : List Event = take-events 32 (new-at d t set) (d .marked) t ++ (tail-of d t set ++ ys) in
+      let later : List Event = take-events 32 (taken-at d t set) (d .marked) t ++ (tail-of d t set ++ ys) in
       rw (happens-parts d t set ys, front-parts d t later)
       (comes-turning t (view-in (instant-of (d .clock)) (member n (d .jobs .pending)) (member n (d .waiting .tasks)) (d .phase)) _ (rises (d .clock) onward)
       (λ w z. omega (arith, ap bit (behind n small w))) (front later (tail-turning t d set known (to-b present tasks d t h .parted) ys k)))

@@ -13,7 +13,7 @@ use Rattle.sets.proofs.Laws.{none, by-test, clash, union-left, intersection-in,
 use Rattle.guarantees.proofs.Highest.{Best}
 use Rattle.guarantees.proofs.Walk.{walk}
 use Rattle.guarantees.specs.History.{history, Event, begin-events, happens}
-use Rattle.rules.specs.Instant.{settled, step-a, step-b, step-c, step-d, step-e, step-g, promoted, next-of, without-promoted, close, with-candidates, cancel, choose, begin, begin-processor, without-done, ended, processor-task, at-a, at-b, at-e, at-f, at-g, new-at, late-at, fresh-stage}
+use Rattle.rules.specs.Instant.{settled, step-a, step-b, step-c, step-d, step-e, step-g, promoted, next-of, without-promoted, close, with-candidates, cancel, choose, begin, begin-processor, without-done, ended, processor-task, at-a, at-b, at-e, at-f, at-g, taken-at, deferred-at, fresh-stage}
 use Rattle.rules.specs.With.{at-clock, later}
 use Rattle.rules.specs.Order.{highest-of, outranks}
 use Rattle.guarantees.specs.Queries.{is-task, intervals, each}
@@ -303,18 +303,18 @@ module _ (pr : List ℕ) (n : ℕ) where
     from-e d t set h =
         g-waiting t (held-at d t set) (at-f d t set .state) (b-waiting pr n F Q rule small t (fresh-stage (at-e d t set)) h)
 
-    pub from-c : (d : State) (t set : ℕ) → W (step-c (at-b d t .state) t (new-at d t set) (late-at d t set)) → W (at-e d t set)
+    pub from-c : (d : State) (t set : ℕ) → W (step-c (at-b d t .state) t (taken-at d t set) (deferred-at d t set)) → W (at-e d t set)
     unfolding at-e
     from-c d t set h =
-        let taken : ℕ = new-at d t set in
-        let deferred : ℕ = late-at d t set in
+        let taken : ℕ = taken-at d t set in
+        let deferred : ℕ = deferred-at d t set in
         let c : State = step-c (at-b d t .state) t taken deferred in
         e-waiting pr n F Q rule small t (step-d c taken (c .phase)) (d-waiting pr n F Q rule small taken c (c-new (at-b d t .state) t taken deferred) h)
 
     instant : (d : State) (t set : ℕ) → W d → Forth (intervals (begin-events t (at-f d t set .state .phase) (at-g d t set .phase))) (at-g d t set)
     unfolding at-b at-a
     instant d t set h =
-        from-e d t set (from-c d t set (c-waiting pr n F Q rule small t (new-at d t set) (late-at d t set) (at-b d t .state)
+        from-e d t set (from-c d t set (c-waiting pr n F Q rule small t (taken-at d t set) (deferred-at d t set) (at-b d t .state)
         (b-waiting pr n F Q rule small t (at-a d t) (a-waiting pr n F Q rule small t (at-clock d t) (record { table = h .table; ready = h .ready; fate = h .fate })))))
 
     join : (rs later : List MaybeTask) (g : State) → Forth rs g → (W g → Then Q later) → (Old g → Ahead later) → Then Q (rs ++ later)

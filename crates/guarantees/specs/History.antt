@@ -3,7 +3,7 @@
 use Rattle.guarantees.specs.Types.{_≡_, Bool, cond, List, [], _∷_, _++_, ℕ, zero, suc, MaybeTask, NoTask, Task, Processor, Idle, CopyingIn, Executing, Finished, CopyIn, Unchosen, NoneChosen, Copying, Loaded, Cancelled, Phase, Between, Within, State, Done, NoJob, Job, Call, Instant, Mark, Never, Tick}
 use lib.Dec.{eqb}
 use Rattle.sets.specs.Sets.{member}
-use Rattle.rules.specs.Instant.{at-a, at-b, at-e, at-f, at-g, new-at, late-at, due, processor-task, copyout-task}
+use Rattle.rules.specs.Instant.{at-a, at-b, at-e, at-f, at-g, taken-at, deferred-at, due, processor-task, copyout-task}
 use Rattle.rules.specs.Calls.{refusal, after-call}
 
 pub data Event : Type 0 where
@@ -108,8 +108,8 @@ happens d t set =
     ++ (finish-events-in t (d .phase)
     ++ (completion-events (at-a d t .done)
     ++ (end-events t (at-a d t .state .phase) (at-b d t .state .phase)
-    ++ (take-events 32 (new-at d t set) (d .marked) t
-    ++ (defer-events 32 (late-at d t set) t
+    ++ (take-events 32 (taken-at d t set) (d .marked) t
+    ++ (defer-events 32 (deferred-at d t set) t
     ++ (giving-events-in (at-b d t .state .phase) (at-e d t set .phase)
     ++ (end-events t (at-e d t set .phase) (at-f d t set .state .phase)
     ++ (begin-events t (at-f d t set .state .phase) (at-g d t set .phase)

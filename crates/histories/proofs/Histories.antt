@@ -41,8 +41,8 @@ unfolding Words.numberAt Sets.member Sets.below Sets.collect Sets.union Sets.int
     Head.outside Head.number-refused Head.mark-or-length-refusal Head.task-refusal Head.with-task Head.with-marked Head.behind-head Head.head-from Head.head-of Head.head-alone Order.better
     Order.highest-below Order.highest Order.higher-than Instant.processor-at Instant.copyout-at Instant.ended Instant.completed Instant.without-done Instant.step-a Instant.promoted Instant.blocks
     Instant.counted Instant.close Instant.interval-entry Instant.close-stage Instant.step-b Instant.taken Instant.deferred Instant.skipped Instant.stamped Instant.with-candidates Instant.step-c
-    Instant.cancel Instant.cancel-by Instant.step-d Instant.choose Instant.choose-if Instant.step-e Instant.begin Instant.step-g Instant.sooner Instant.due Instant.at-a Instant.at-b Instant.new-at
-    Instant.late-at Instant.at-e Instant.at-f Instant.at-g Instant.occurred Calls.opened Calls.opening Calls.unknown Calls.refusal Calls.served Calls.instant History.processor-events
+    Instant.cancel Instant.cancel-by Instant.step-d Instant.choose Instant.choose-if Instant.step-e Instant.begin Instant.step-g Instant.sooner Instant.due Instant.at-a Instant.at-b Instant.taken-at
+    Instant.deferred-at Instant.at-e Instant.at-f Instant.at-g Instant.occurred Calls.opened Calls.opening Calls.unknown Calls.refusal Calls.served Calls.instant History.processor-events
     History.processor-events-in History.finish-events History.finish-events-in History.completion-events History.end-events History.take-events History.defer-events History.giving-events
     History.giving-events-in History.begin-events History.execution-events History.start-events History.happens Calls.after-call History.by-call History.after-calls History.history task tasks three
     plans-table calls-a history-a calls-b history-b calls-c history-c calls-d history-d calls-e history-e calls-f history-f calls-f′ history-f′ calls-waiting history-waiting

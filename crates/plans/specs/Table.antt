@@ -35,7 +35,7 @@ unfolding Words.bytesOf Words.numberAt Words.room Words.written Sets.member Sets
     Instant.counted Instant.closed-with Instant.close Instant.entry-with Instant.interval-entry Instant.close-stage Instant.step-b
     Instant.taken Instant.deferred Instant.skipped Instant.stamped Instant.with-candidates Instant.step-c Instant.cancel
     Instant.cancel-by Instant.step-d Instant.choose Instant.choose-if Instant.step-e Instant.begin Instant.step-g Instant.sooner
-    Instant.due Instant.at-a Instant.at-b Instant.new-at Instant.late-at Instant.steps-c-d Instant.steps-c-to-e Instant.at-e
+    Instant.due Instant.at-a Instant.at-b Instant.taken-at Instant.deferred-at Instant.steps-c-d Instant.steps-c-to-e Instant.at-e
     Instant.at-f Instant.at-g Instant.occurred Calls.opened Calls.opening Calls.unknown Calls.refusal Calls.served Calls.instant
     Calls.mark-refusal Calls.mark Calls.after-call Files.rises Files.release-refusal Files.with-release Files.releases-from
     Files.releases-of RuleEntries.skipped-entries RuleEntries.entries Run.released-from Run.released-after Run.run Entries.each

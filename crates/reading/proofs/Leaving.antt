@@ -12,7 +12,7 @@ use Rattle.sets.proofs.Laws.{by-test, united, same-task, member-task}
 use Rattle.table.specs.Head.{head-of}
 use Rattle.rules.specs.With.{at-clock}
 use Rattle.rules.specs.Order.{highest-of}
-use Rattle.rules.specs.Instant.{completed, after-done, without-done, step-a, close, step-b, taken, deferred, skipped, original, stamped, step-c, cancel, step-d, choose, step-e, begin, step-g, fresh-stage, at-a, at-b, new-at, late-at, at-e, at-f, at-g, occurred}
+use Rattle.rules.specs.Instant.{completed, after-done, without-done, step-a, close, step-b, taken, deferred, skipped, original, stamped, step-c, cancel, step-d, choose, step-e, begin, step-g, fresh-stage, at-a, at-b, taken-at, deferred-at, at-e, at-f, at-g, occurred}
 use Rattle.rules.specs.Calls.{opened, after-call}
 use Rattle.guarantees.specs.Types.{_≡_, refl, sym, ap, _∙_, subst, Bool, true, false, cond, _&&_, _||_, List, [], _∷_, ℕ, _+_, _<_, Table, Jobs, WaitingReleases, MaybeTask, NoTask, Task, CopyOut, NoCopyOut, CopyingOut, CopiedOut, Interval, Phase, Between, Within, State, Done, Stage, Call, Instant, Step}
 use mathlib.Core.List.{_++_}
@@ -73,11 +73,11 @@ held-b : (d : State) (t : ℕ) → held (at-b d t .state) ≡ held (at-a d t .st
 unfolding at-b
 held-b d t = b-held (at-a d t) t
 
-held-g : (d : State) (t set : ℕ) → held (at-g d t set) ≡ held (step-c (at-b d t .state) t (new-at d t set) (late-at d t set))
+held-g : (d : State) (t set : ℕ) → held (at-g d t set) ≡ held (step-c (at-b d t .state) t (taken-at d t set) (deferred-at d t set))
 unfolding at-g at-f at-e
 held-g d t set =
-    let new : ℕ = new-at d t set in
-    let c : State = step-c (at-b d t .state) t new (late-at d t set) in
+    let new : ℕ = taken-at d t set in
+    let c : State = step-c (at-b d t .state) t new (deferred-at d t set) in
     g-held (at-f d t set .state) t (held-at d t set)
     ∙ b-held (fresh-stage (at-e d t set)) t ∙ e-held (step-d c new (c .phase)) t ∙ d-held c new
 
@@ -103,7 +103,7 @@ c-long d t new late h = record {
 }
 
 g-long : (d : State) (t set : ℕ) → Long (held d) → Long (held (at-g d t set))
-g-long d t set h = subst Long (sym (held-g d t set)) (c-long (at-b d t .state) t (new-at d t set) (late-at d t set) (b-long d t h))
+g-long d t set h = subst Long (sym (held-g d t set)) (c-long (at-b d t .state) t (taken-at d t set) (deferred-at d t set) (b-long d t h))
 
 -- ---- for each test of a release
 
@@ -184,7 +184,7 @@ module _ (test : Release → Bool) where
   -- an instant
   instant-leaves : (present : ℕ) (tasks : present < 2 ^ 32) (d : State) (t set : ℕ) → Parted present tasks d (d .phase) → Long (held d)
       → tally test (moment-told (moment d t set)) + held-with (held (at-g d t set)) ≡ held-with (held d) + among test set (λ n. t)
-  unfolding moment-told occurred new-at late-at
+  unfolding moment-told occurred taken-at deferred-at
   instant-leaves present tasks d t set h long =
       let a : Stage = at-a d t in
       let b : State = at-b d t .state in

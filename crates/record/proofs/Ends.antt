@@ -6,7 +6,7 @@ use Prim.Native.Nat.{ℕ, _+_, _≤_}
 use native.Mathlib.Omega.{arith}
 use Rattle.rules.specs.With.{at-clock}
 use Rattle.rules.specs.Order.{highest-of}
-use Rattle.rules.specs.Instant.{fresh-stage, step-a, step-b, step-c, step-d, step-e, close, close-stage, over, closing, with-candidates, cancel, choose, at-a, at-b, at-e, at-f, at-g, new-at, late-at, occurred}
+use Rattle.rules.specs.Instant.{fresh-stage, step-a, step-b, step-c, step-d, step-e, close, close-stage, over, closing, with-candidates, cancel, choose, at-a, at-b, at-e, at-f, at-g, taken-at, deferred-at, occurred}
 use Rattle.guarantees.specs.Types.{MaybeTask, NoTask, Task, Interval, Phase, Between, Within, State, Done, NoJob, Job, Closed, NoInterval, Span, Stage}
 use Rattle.guarantees.specs.History.{completion-events, begin-events}
 use Rattle.guarantees.specs.Queries.{total, is-begin, is-completion}
@@ -103,8 +103,8 @@ module _ (d : State) (t set : ℕ) where
   unfolding at-e
   to-e =
       let b : State = at-b d t .state in
-      let new : ℕ = new-at d t set in
-      let c : State = step-c b t new (late-at d t set) in
+      let new : ℕ = taken-at d t set in
+      let c : State = step-c b t new (deferred-at d t set) in
       let x : State = step-d c new (c .phase) in
       e-open x t ∙ d-open c new ∙ (unfold step-c in c-open b new (b .phase))
 

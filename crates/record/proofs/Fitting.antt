@@ -7,7 +7,7 @@ use Rattle.sets.specs.Sets.{member}
 use Rattle.sets.proofs.Laws.{by-test}
 use Rattle.rules.specs.With.{at-clock}
 use Rattle.rules.specs.Order.{highest}
-use Rattle.rules.specs.Instant.{fresh-stage, processor-at, copyout-at, copyin-at, ended, completed, without-done, step-a, over, processor-task, copyout-task, copyin-task, promoted, next-of, awaiting-copyout, close, interval-entry, close-stage, step-b, original, stamped, with-candidates, step-c, cancel, step-d, choose, step-e, begin-processor, begin-copyout, begin, step-g, at-a, at-b, new-at, late-at, at-e, at-f, at-g, skipped, closing, occurred}
+use Rattle.rules.specs.Instant.{fresh-stage, processor-at, copyout-at, copyin-at, ended, completed, without-done, step-a, over, processor-task, copyout-task, copyin-task, promoted, next-of, awaiting-copyout, close, interval-entry, close-stage, step-b, original, stamped, with-candidates, step-c, cancel, step-d, choose, step-e, begin-processor, begin-copyout, begin, step-g, at-a, at-b, taken-at, deferred-at, at-e, at-f, at-g, skipped, closing, occurred}
 use Rattle.rules.specs.Entries.{done-entries, skipped-entries, closed-entries, entries}
 use Rattle.rules.specs.Calls.{opened}
 use Rattle.guarantees.proofs.Highest.{Best, best}
@@ -281,8 +281,8 @@ module _ (t : ℕ) (now : TimeFits t) where
     to-e : StateFits (at-e d t set)
     unfolding at-e
     to-e =
-        let new : ℕ = new-at d t set in
-        let late : ℕ = late-at d t set in
+        let new : ℕ = taken-at d t set in
+        let late : ℕ = deferred-at d t set in
         let c : State = step-c (at-b d t .state) t new late in
         e-fits (step-d c new (c .phase)) (d-fits c new (c-fits (at-b d t .state) new late (to-b .state)))
 

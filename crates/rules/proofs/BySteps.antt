@@ -2,7 +2,7 @@
 use Rattle.rules.specs.Types.{ℕ, Phase, Between, Within, State, Closed, NoInterval, Occurred, Stage, _≡_, refl, ap, _∙_}
 use mathlib.Core.Path.{ap₂}
 use Rattle.sets.proofs.Laws.{by-test}
-use Rattle.rules.specs.Instant.{over, close-stage, step-a, step-b, taken, deferred, skipped, held-over, step-e, steps-c-d, steps-c-to-e, steps-c-to-f, step-g, due, at-b, new-at, late-at, at-e, at-f, at-g, closing, occurred}
+use Rattle.rules.specs.Instant.{over, close-stage, step-a, step-b, taken, deferred, skipped, held-over, step-e, steps-c-d, steps-c-to-e, steps-c-to-f, step-g, due, at-b, taken-at, deferred-at, at-e, at-f, at-g, closing, occurred}
 
 -- before step b no interval has ended
 pub none-closed : (d : State) (t : ℕ) (x : Phase) → step-a d t x .closed ≡ NoInterval
@@ -27,12 +27,12 @@ pub record Steps (d : State) (t set taken-now deferred-now held : ℕ) (b f g : 
   pub g-is : g ≡ step-g f t held (f .phase)
 
 module _ {taken-now deferred-now held : ℕ} {b f g : State} (d : State) (t set : ℕ) (h : Steps d t set taken-now deferred-now held b f g) where
-  taken-is-taken : taken-now ≡ new-at d t set
-  unfolding new-at
+  taken-is-taken : taken-now ≡ taken-at d t set
+  unfolding taken-at
   taken-is-taken = h .taken-is ∙ ap (λ x. taken x set) (h .b-is)
 
-  deferred-is-deferred : deferred-now ≡ late-at d t set
-  unfolding late-at
+  deferred-is-deferred : deferred-now ≡ deferred-at d t set
+  unfolding deferred-at
   deferred-is-deferred = h .deferred-is ∙ ap (λ x. deferred x set) (h .b-is)
 
   pub is-f : steps-c-to-f b t taken-now deferred-now ≡ at-f d t set

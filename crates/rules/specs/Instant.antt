@@ -286,7 +286,10 @@ step-c d t taken deferred = record {
     release = stamped taken (original (d .waiting) t) 0 (d .jobs .release);
     blocked = stamped taken (λ k. 0) 0 (d .jobs .blocked);
   };
-  waiting = record { tasks = union (difference (d .waiting .tasks) taken) deferred; times = stamped deferred (λ k. t) 0 (d .waiting .times) };
+  waiting = record {
+    tasks = union (difference (d .waiting .tasks) taken) deferred;
+    times = stamped deferred (λ k. t) 0 (d .waiting .times);
+  };
   phase = with-candidates d taken (d .phase);
 }
 
@@ -448,15 +451,15 @@ at-a d t = step-a (at-clock d t) t (d .phase)
 unfoldable pub at-b : State → ℕ → Stage
 at-b d t = let a : Stage = at-a d t in step-b a t (a .state .phase)
 
-unfoldable pub new-at : State → ℕ → ℕ → ℕ
-new-at d t set = taken (at-b d t .state) set
+unfoldable pub taken-at : State → ℕ → ℕ → ℕ
+taken-at d t set = taken (at-b d t .state) set
 
-unfoldable pub late-at : State → ℕ → ℕ → ℕ
-late-at d t set = deferred (at-b d t .state) set
+unfoldable pub deferred-at : State → ℕ → ℕ → ℕ
+deferred-at d t set = deferred (at-b d t .state) set
 
 unfoldable pub at-e : State → ℕ → ℕ → State
 unfolding steps-c-to-e
-at-e d t set = steps-c-to-e (at-b d t .state) t (new-at d t set) (late-at d t set)
+at-e d t set = steps-c-to-e (at-b d t .state) t (taken-at d t set) (deferred-at d t set)
 
 unfoldable pub at-f : State → ℕ → ℕ → Stage
 at-f d t set = step-f (at-e d t set) t
@@ -465,7 +468,7 @@ unfoldable pub at-g : State → ℕ → ℕ → State
 at-g d t set =
     let b : State = at-b d t .state in
     let f : State = at-f d t set .state in
-    step-g f t (held-over (b .phase) (new-at d t set)) (f .phase)
+    step-g f t (held-over (b .phase) (taken-at d t set)) (f .phase)
 
 -- the interval that closed, of what steps b and f left
 abbrev pub closing : Closed → Closed → Closing
