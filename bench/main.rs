@@ -1,5 +1,5 @@
-//! Times the proved functions against plain Rust, in one run: that of records, that which reads them, and an instant of a dispatcher that is kept;
-//! and such an instant with a view after it against one without.
+//! Times the proved functions against plain Rust, in one run: that of records, that which reads them, that of waveforms, and an instant of a
+//! dispatcher that is kept; and such an instant with a view after it against one without.
 //! For each input the ratio proved/plain of the times, its median and spread over the repetitions. Both must give the same number, value and
 //! bytes, and at each instant the same answer.
 
@@ -16,6 +16,8 @@ use std::hint::black_box;
 use std::time::{Duration, Instant};
 
 const REPETITIONS: usize = 15;
+// More bytes than any waveform takes.
+const LONG: usize = 1 << 22;
 const SLICE: Duration = Duration::from_millis(8);
 
 /// What is timed: the proved function and the plain one on one input, with the slice that they are lent. The plain one also tells how many
@@ -39,6 +41,14 @@ fn reading(name: String, stored: &Stored) -> Work<'_> {
         name,
         proved: Box::new(|out| gateway::read(black_box(&stored.tasks), black_box(&stored.record), out)),
         plain: Box::new(|out| plain::read(black_box(&stored.tasks), black_box(&stored.record), out)),
+    }
+}
+
+fn drawing(name: String, input: &[u8]) -> Work<'_> {
+    Work {
+        name,
+        proved: Box::new(|out| gateway::waveform(black_box(input), out)),
+        plain: Box::new(|out| plain::waveform(black_box(input), out)),
     }
 }
 
@@ -67,12 +77,22 @@ impl Work<'_> {
 
     /// The comparisons, the times and the ratios, printed as one row.
     fn measure(&self) -> Times {
-        let mut out = vec![0; 1 << 19];
-        let (instants, needed) = self.compare(out.len());
-        // the lengths of slices at which the answer changes
+        self.compare_all(1 << 19);
+        self.measure_in(1 << 19)
+    }
+
+    /// On a slice that is long enough, and at the lengths of slices at which the answer changes; the value told.
+    fn compare_all(&self, room: usize) -> usize {
+        let (_, needed) = self.compare(room);
         self.compare(needed);
         self.compare(needed.saturating_sub(1));
+        needed
+    }
 
+    /// The times and the ratios with a slice of this length, printed as one row.
+    fn measure_in(&self, room: usize) -> Times {
+        let mut out = vec![0; room];
+        let (instants, _) = self.compare(room);
         alternate(&self.name, instants, &mut out[..], |out| (self.proved)(out), |out| (self.plain)(out))
     }
 }
@@ -189,6 +209,27 @@ fn hostile_records() -> f64 {
     worst
 }
 
+/// The waveforms of the inputs that are recorded; the largest ratio. First with slices just as long as they are, for which both make the run twice; then
+/// with more room than any dump of so many releases takes, for which the plain one makes it once.
+fn waveforms() -> (f64, f64) {
+    for (name, input) in inputs::refused() {
+        drawing(name.to_string(), &input).compare(4096);
+    }
+    heading("waveform");
+    let (mut exact, mut spare): (f64, f64) = (0.0, 0.0);
+    for (kind, worst) in [("waveform", &mut exact), ("with room", &mut spare)] {
+        for tasks in [4, 32] {
+            for releases in [64, 512, 4096] {
+                let input = inputs::mixed(tasks, releases);
+                let work = drawing(format!("{kind}, {releases} releases, {tasks} tasks"), &input);
+                let needed = work.compare_all(LONG);
+                *worst = worst.max(work.measure_in(if kind == "waveform" { needed } else { LONG }).ratio);
+            }
+        }
+    }
+    (exact, spare)
+}
+
 /// Instants of a dispatcher that is kept, with nothing around them; the largest ratio.
 fn kept_instants() -> f64 {
     heading("an instant by itself");
@@ -239,10 +280,12 @@ fn measure_instants(name: &str, input: &[u8], tasks: u8) -> Times {
 fn main() {
     let worst = records().max(true_records());
     let hostile = hostile_records();
+    let (exact, spare) = waveforms();
     let by_itself = kept_instants();
     let view = views();
     println!("the largest median ratio is {worst:.2}");
     println!("a hostile record takes at most {hostile:.2} times a true one of its length");
+    println!("the largest median ratio of a waveform is {exact:.2}, and with room to spare {spare:.2}");
     println!("the largest median ratio of an instant by itself is {by_itself:.2}");
     println!("a view takes at most {view:.2} of an instant");
 }

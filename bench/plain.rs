@@ -609,6 +609,179 @@ pub fn read(tasks: &[u8], record: &[u8], out: &mut [u8]) -> (u8, usize, u64) {
     (0, needed, state.instants)
 }
 
+const HEADER: &[u8] = b"$timescale 1 us $end\n\
+    $scope module gateway $end\n\
+    $var wire 8 a processor $end\n\
+    $var wire 8 b copy_in $end\n\
+    $var wire 8 c copy_out $end\n\
+    $var wire 1 d half $end\n\
+    $upscope $end\n\
+    $enddefinitions $end\n";
+
+// Lengths of a dump's lines: of a value of eight wires and of one. And more than a dump takes for each release: a record has at most three intervals
+// for each, an interval the ends of four phases, and an instant takes 52 bytes.
+const WIRES: usize = 12;
+const WIRE: usize = 3;
+const DUMP_EACH: usize = 13 * 52;
+
+/// The eight digits of each value, the first one in the lowest byte.
+const DIGITS: [u64; 256] = {
+    let mut all = [0; 256];
+    let mut n = 0;
+    while n < 256 {
+        let mut bit = 0;
+        while bit < 8 {
+            all[n] |= (48 + (n as u64 >> (7 - bit) & 1)) << (8 * bit);
+            bit += 1;
+        }
+        n += 1;
+    }
+    all
+};
+
+/// What a viewer shows: processor, copy-in and copy-out, a byte each from the lowest on, and the half.
+type Shown = u32;
+
+const NOBODY: Shown = 0x00ff_ffff;
+
+/// A run that nobody records.
+struct Unheard;
+
+impl Events for Unheard {
+    #[inline]
+    fn job(&mut self, _task: u8, _release: u64, _start: u64, _completion: u64, _blocked: u8) {}
+    #[inline]
+    fn interval(&mut self, _s: &State, _end: u64, _promoted: u8, _after: bool) {}
+    #[inline]
+    fn skipped(&mut self, _tasks: u32, _time: u64) {}
+}
+
+impl State {
+    /// After an instant: the first one opens an interval, so that the half is one of an interval.
+    #[inline]
+    fn shown(&self) -> Shown {
+        let processor = if self.open && self.processor != Unit::Free { self.executed } else { NONE };
+        let copy_in = if self.open && self.engine == Unit::CopyingIn { self.chosen } else { NONE };
+        let copy_out = if self.open && self.engine == Unit::CopyingOut { self.copied_out } else { NONE };
+        u32::from_le_bytes([processor, copy_in, copy_out, self.half])
+    }
+}
+
+/// What becomes of a dump's lines. `width` is the number of the time's digits; `changed` has a bit set in each byte that is new.
+trait Lines {
+    fn put(&mut self, time: u64, width: usize, changed: u32, shown: Shown);
+}
+
+/// Their length.
+struct Counted(usize);
+
+impl Lines for Counted {
+    #[inline]
+    fn put(&mut self, _time: u64, width: usize, changed: u32, _shown: Shown) {
+        let wires = [0xff, 0xff00, 0xff_0000].map(|byte| usize::from(changed & byte != 0));
+        self.0 += width + 2 + WIRES * (wires[0] + wires[1] + wires[2]) + WIRE * usize::from(changed >> 24 != 0);
+    }
+}
+
+/// They are laid into a slice that is long enough.
+struct Laid<'a> {
+    out: &'a mut [u8],
+    at: usize,
+}
+
+impl Lines for Laid<'_> {
+    #[inline]
+    fn put(&mut self, time: u64, width: usize, changed: u32, shown: Shown) {
+        let mark = &mut self.out[self.at..self.at + width + 2];
+        mark[0] = b'#';
+        let mut left = time;
+        for digit in mark[1..=width].iter_mut().rev() {
+            *digit = 48 + (left % 10) as u8;
+            left /= 10;
+        }
+        mark[width + 1] = b'\n';
+        self.at += width + 2;
+        for wave in 0..3 {
+            if changed >> (8 * wave) & 0xff != 0 {
+                let line = &mut self.out[self.at..self.at + WIRES];
+                line[0] = b'b';
+                line[1..9].copy_from_slice(&DIGITS[(shown >> (8 * wave) & 0xff) as usize].to_le_bytes());
+                line[9..].copy_from_slice(&[b' ', b'a' + wave as u8, b'\n']);
+                self.at += WIRES;
+            }
+        }
+        if changed >> 24 != 0 {
+            self.out[self.at..self.at + WIRE].copy_from_slice(&[48 + (shown >> 24) as u8, b'd', b'\n']);
+            self.at += WIRE;
+        }
+    }
+}
+
+/// The lines of a run. Its times rise, so that their digits are counted on.
+fn draw(s: &[u8], start: usize, state: &mut State, lines: &mut impl Lines) {
+    let mut at = start;
+    let (mut width, mut limit) = (1, 10);
+    // before the first line every value is new
+    let (mut before, mut all) = (NOBODY, u32::MAX);
+    loop {
+        let due = state.due();
+        let next = if at < s.len() { time_at(s, at) } else { u64::MAX };
+        let now = due.min(next);
+        if all != 0 && now != 0 {
+            lines.put(0, 1, all, NOBODY);
+            all = 0;
+        }
+        if now == u64::MAX {
+            return;
+        }
+        let mut released = 0;
+        while at < s.len() && time_at(s, at) == now {
+            released |= 1 << s[at + 1];
+            at += 10;
+        }
+        state.instant(now, released, &mut Unheard);
+        let shown = state.shown();
+        let changed = (shown ^ before) | all;
+        while now >= limit {
+            width += 1;
+            limit *= 10;
+        }
+        if changed != 0 {
+            lines.put(now, width, changed, shown);
+        }
+        (before, all) = (shown, 0);
+    }
+}
+
+/// The value change dump of an input: what is told is as for `record`. Where there is room for the longest of so many releases the run is made
+/// once, otherwise once more before it, for the length alone.
+pub fn waveform(s: &[u8], out: &mut [u8]) -> (u8, usize, u64) {
+    if s.is_empty() {
+        return (12, 0, 0);
+    }
+    let mut state = opened();
+    let start = match read_table(s, &mut state) {
+        Ok(start) => start,
+        Err((number, place)) => return (number, place, 0),
+    };
+    if let Err((number, place)) = check_releases(s, start, state.present) {
+        return (number, place, 0);
+    }
+    let releases = (s.len() - start) / 10;
+    if HEADER.len() + DUMP_EACH * (releases + 1) > out.len() {
+        let mut measured = state.clone();
+        let mut counted = Counted(HEADER.len());
+        draw(s, start, &mut measured, &mut counted);
+        if counted.0 > out.len() {
+            return (13, counted.0, measured.instants);
+        }
+    }
+    out[..HEADER.len()].copy_from_slice(HEADER);
+    let mut laid = Laid { out, at: HEADER.len() };
+    draw(s, start, &mut state, &mut laid);
+    (0, laid.at, state.instants)
+}
+
 /// What an instant tells, as the proved function does.
 #[derive(Clone, Copy, Default, PartialEq, Debug)]
 pub struct Told {

@@ -1,4 +1,5 @@
 /* Prints what comes of the input in a file:         example FILE [ROOM]
+ * or its waveform:                                  example --waveform FILE [ROOM]
  * or of a stored record, beside its task entries:   example --read TASKS RECORD [ROOM]
  * ROOM is the length of the slice that is lent. */
 #include "gateway.h"
@@ -8,7 +9,7 @@
 #include <stdlib.h>
 #include <string.h>
 
-static uint8_t first[1 << 16], second[1 << 19], out[1 << 19];
+static uint8_t first[1 << 16], second[1 << 19], out[1 << 20];
 
 /* Reads a file into `to`, and answers its length. */
 static size_t read_file(const char *path, uint8_t *to, size_t most)
@@ -40,10 +41,15 @@ static size_t read_room(const char *word)
     return errno != 0 || room > sizeof out ? sizeof out : room;
 }
 
-static void print(const char *what, uint8_t number, size_t told)
+/* What was written, and its bytes: a text as it is, others by two digits each. */
+static void print(const char *what, int is_text, uint8_t number, size_t told)
 {
     size_t written = number == 0 ? told : 0;
     printf("number %u, value %zu, %s of %zu bytes\n", (unsigned)number, told, what, written);
+    if (is_text) {
+        fwrite(out, 1, written, stdout);
+        return;
+    }
     for (size_t i = 0; i < written; i++) {
         printf("%02x%s", out[i], i + 1 == written || i % 32 == 31 ? "\n" : "");
     }
@@ -52,10 +58,11 @@ static void print(const char *what, uint8_t number, size_t told)
 int main(int argc, char **argv)
 {
     int reads = argc > 1 && strcmp(argv[1], "--read") == 0;
-    int files = reads ? 2 : 1;
-    char **paths = argv + 1 + reads;
-    if (argc - 1 - reads < files || argc - 1 - reads > files + 1) {
-        fprintf(stderr, "usage: %s FILE [ROOM], or %s --read TASKS RECORD [ROOM]\n", argv[0], argv[0]);
+    int draws = argc > 1 && strcmp(argv[1], "--waveform") == 0;
+    int files = reads ? 2 : 1, options = reads + draws;
+    char **paths = argv + 1 + options;
+    if (argc - 1 - options < files || argc - 1 - options > files + 1) {
+        fprintf(stderr, "usage: %s [--waveform] FILE [ROOM], or %s --read TASKS RECORD [ROOM]\n", argv[0], argv[0]);
         return 2;
     }
     size_t room = paths[files] != NULL ? read_room(paths[files]) : sizeof out;
@@ -63,10 +70,13 @@ int main(int argc, char **argv)
     if (reads) {
         size_t stored = read_file(paths[1], second, sizeof second);
         uint8_t number = gateway_read(first, length, second, stored, out, room, &told);
-        print("list", number, told);
+        print("list", 0, number, told);
+    } else if (draws) {
+        uint8_t number = gateway_waveform(first, length, out, room, &told);
+        print("waveform", 1, number, told);
     } else {
         uint8_t number = gateway_record(first, length, out, room, &told);
-        print("record", number, told);
+        print("record", 0, number, told);
     }
     if (fflush(stdout) != 0 || ferror(stdout)) {
         fprintf(stderr, "what comes of it cannot be printed\n");

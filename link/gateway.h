@@ -1,5 +1,5 @@
-/* The gateway's dispatcher for C: the record of a whole file, the reading of a stored record, and a dispatcher by instants. Link with
- * libgateway.a, for x86-64. docs/DRIVER.md is the page for those who write a driver. */
+/* The gateway's dispatcher for C: the record of a whole file, the reading of a stored record, the waveform of a whole file, and a dispatcher by
+ * instants. Link with libgateway.a, for x86-64. docs/DRIVER.md is the page for those who write a driver. */
 #ifndef GATEWAY_H
 #define GATEWAY_H
 
@@ -8,7 +8,7 @@
 #include <string.h>
 
 /* Of this header, the library, the pkg-config file and the Rust package: it stands here, and the others are held to it. */
-#define GATEWAY_VERSION "0.3.0"
+#define GATEWAY_VERSION "0.4.0"
 
 #ifdef __cplusplus
 extern "C" {
@@ -80,7 +80,7 @@ static inline const char *gateway_refusal_text(uint8_t number)
     }
 }
 
-/* ---- The record of a whole file, and the reading of one.
+/* ---- The record of a whole file, the reading of one, and the waveform of a whole file.
  *
  * Each writes what was asked for into the front of `out`.
  *
@@ -100,6 +100,11 @@ uint8_t gateway_record(const uint8_t *input, size_t input_length, uint8_t *out, 
  * `tasks`, that of an entry of the record from the start of `record`. A list takes at most 40,960 bytes. */
 uint8_t gateway_read(const uint8_t *tasks, size_t tasks_length, const uint8_t *record, size_t record_length, uint8_t *out,
                      size_t out_length, size_t *told);
+
+/* The waveform of an input, a value change dump (IEEE 1364) for a viewer of waves: the task on the processor, the tasks that the copy engine
+ * copies in and out, and the processor's half, at every tick of the run. docs/WAVEFORM.md names the waves. Nothing as long as a dump is
+ * kept: the run is made once for the length, and once more where `out` has room for it. */
+uint8_t gateway_waveform(const uint8_t *input, size_t input_length, uint8_t *out, size_t out_length, size_t *told);
 
 /* ---- The dispatcher by instants: one for each core.
  *

@@ -1,11 +1,11 @@
 #!/usr/bin/env bash
 # Build target/staticlib/libgateway.a, where what it is made of has changed. What two functions of one library call is compiled once for both and
-# then slower, so that the record function, the reading of a record and the dispatcher by instants are proved and compiled as libraries of their own; here
-# they are put into one. What it is at is said on standard error; what `rt` says goes into target/staticlib/NAME.log.
+# then slower, so that the record function, the reading of a record, the dispatcher by instants and the waveform are proved and compiled as libraries of
+# their own; here they are put into one. What it is at is said on standard error; what `rt` says goes into target/staticlib/NAME.log.
 set -eu
 unset CDPATH
 cd "$(dirname "$(readlink -f "$0")")/.."
-libraries=(exports exports_reading exports_instants)
+libraries=(exports exports_reading exports_instants exports_waves)
 out=target/staticlib
 note=$out/libgateway.made
 

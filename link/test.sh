@@ -44,6 +44,13 @@ try read_another_kind --read "$inputs/tasks" "$inputs/byte_behind"
 try read_a_release --read "$inputs/plan_a" "$inputs/record"
 try read_nothing --read "$inputs/tasks" "$inputs/empty"
 
+# the waveform: whole, where the slice is as long as it and a byte too short, and of what is refused
+try waveform_plan_a --waveform "$inputs/plan_a"
+try waveform_plan_a --waveform "$inputs/plan_a" 445
+try waveform_too_short --waveform "$inputs/plan_a" 444
+try waveform_cut_short --waveform "$inputs/cut"
+try waveform_empty --waveform "$inputs/empty"
+
 # what the examples refuse: a missing file, a length that is no number, too many words, and a disk that is full
 refuse() {
     local program status
@@ -63,6 +70,8 @@ refuse "$inputs/plan_a" x
 refuse "$inputs/plan_a" -1
 refuse "$inputs/plan_a" 1 1
 refuse --read "$inputs/tasks"
+refuse --waveform
+refuse --waveform "$inputs/plan_a" 1 1
 to=/dev/full refuse "$inputs/plan_a"
 try plan_a "$inputs/plan_a" 18446744073709551617
 

@@ -4,6 +4,7 @@
     python3 -m sim.compare file    --program PATH --seed 1 --count 2000 --damaged 2000
     python3 -m sim.compare record  --program PATH ...   (a program that writes the record's raw bytes)
     python3 -m sim.compare read    --program PATH ...   (a program that reads a stored record)
+    python3 -m sim.compare waveform --program PATH ...  (a program that writes a value change dump)
 
 An input is fixed by what is compared, the seed and its index, so a longer comparison begins with the
 inputs of a shorter one.
@@ -23,6 +24,7 @@ from sim.files import record
 from sim.lines import file_lines, text
 from sim.reading import read_lines
 from sim.sessions import session_lines
+from sim.waveform import dump
 
 SECONDS_EACH = 20
 
@@ -52,13 +54,21 @@ def expected_record(data):
         return b""
 
 
-EXPECTED = {"file": expected_file, "session": expected_session, "record": expected_record, "read": expected_read}
+def expected_waveform(data):
+    try:
+        return dump(data)
+    except Refused:
+        return b""
+
+
+EXPECTED = {"file": expected_file, "session": expected_session, "record": expected_record, "read": expected_read,
+            "waveform": expected_waveform}
 
 GOOD = {"file": generate.random_file, "session": generate.random_session, "record": generate.random_file,
-        "read": generate_records.random_stored}
+        "read": generate_records.random_stored, "waveform": generate.random_file}
 
 DAMAGED = {"file": generate.damaged_file, "session": generate.damaged_session, "record": generate.damaged_file,
-           "read": generate_records.damaged_stored}
+           "read": generate_records.damaged_stored, "waveform": generate.damaged_file}
 
 
 def inputs(what, seed, count, damaged):

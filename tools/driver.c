@@ -2,10 +2,10 @@
  * and so on: driver PROGRAM INPUTS OUTPUTS COUNT. Each run has a process of its own, since a program that is not proved may crash or not end: for
  * a run that a signal ended a line is printed, 'NUMBER crashed' or 'NUMBER late'. After the third that is late it stops.
  *
- * `gateway`, `session`, `reader` and `direct` read standard input and write standard output. `exports` calls a function for C: of its input the first byte
- * says which, 0 the record function and 1 that which reads a record, the next 8 are the length of the slice that is lent, and the rest is what
- * the function gets, of two slices the first behind its length in 4 bytes. What it answers, what it tells and the slice with some bytes behind it are
- * written. `instants` is link/session.c, over the dispatcher by instants. */
+ * `gateway`, `session`, `reader`, `waveform` and `direct` read standard input and write standard output; what `waveform` says on standard error stands there
+ * too. `exports` calls a function for C: of its input the first byte says which, 0 the record function, 1 that which reads a record and 2 that of waveforms,
+ * the next 8 are the length of the slice that is lent, and the rest is what the function gets, of two slices the first behind its length in 4 bytes. What it
+ * answers, what it tells and the slice with some bytes behind it are written. `instants` is link/session.c, over the dispatcher by instants. */
 #define _POSIX_C_SOURCE 200809L
 #include "gateway.h"
 
@@ -19,11 +19,12 @@
 #include <unistd.h>
 
 enum { SECONDS = 1, MOST_OUTPUT = 1 << 24, MOST_LATE = 3, OWN_FAULT = 3 };
-enum { MOST_INPUT = 1 << 20, MOST_LENT = 1 << 19, BEHIND = 64, FILL = 0xA5 };
+enum { MOST_INPUT = 1 << 20, MOST_LENT = 1 << 20, BEHIND = 64, FILL = 0xA5 };
 
 extern void gateway_main(void);
 extern void session_main(void);
 extern void reader_main(void);
+extern void waveform_main(void);
 extern void direct_main(void);
 extern int instants_main(void);
 
@@ -54,6 +55,16 @@ static uint8_t read_record(const uint8_t *rest, size_t length, uint8_t *out, siz
     return gateway_read(first, tasks, first + tasks, length - sizeof tasks - tasks, out, room, told);
 }
 
+/* The function that the first byte of an input names. */
+static uint8_t call(uint8_t which, const uint8_t *rest, size_t length, uint8_t *out, size_t room, size_t *told)
+{
+    switch (which) {
+    case 0: return gateway_record(rest, length, out, room, told);
+    case 1: return read_record(rest, length, out, room, told);
+    default: return gateway_waveform(rest, length, out, room, told);
+    }
+}
+
 static void exports_main(void)
 {
     static uint8_t input[MOST_INPUT], out[MOST_LENT + BEHIND];
@@ -68,11 +79,19 @@ static void exports_main(void)
     memset(out, FILL, sizeof out);
     const uint8_t *rest = input + 1 + sizeof room;
     size_t told = 0, left = (size_t)length - 1 - sizeof room;
-    uint8_t number = input[0] ? read_record(rest, left, out, room, &told) : gateway_record(rest, left, out, room, &told);
+    uint8_t number = call(input[0], rest, left, out, room, &told);
     uint64_t value = told;
     put(&number, sizeof number);
     put(&value, sizeof value);
     put(out, room + BEHIND);
+}
+
+static void waveform_start(void)
+{
+    if (dup2(1, 2) < 0) {
+        fault("standard error");
+    }
+    waveform_main();
 }
 
 static void instants_start(void)
@@ -84,7 +103,7 @@ static void instants_start(void)
 static const struct {
     const char *name;
     void (*start)(void);
-} programs[] = {{"gateway", gateway_main}, {"session", session_main}, {"reader", reader_main},
+} programs[] = {{"gateway", gateway_main}, {"session", session_main}, {"reader", reader_main},     {"waveform", waveform_start},
                 {"exports", exports_main}, {"direct", direct_main},   {"instants", instants_start}};
 
 static void redirect(const char *folder, long number, int flags, int to)

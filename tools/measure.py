@@ -21,7 +21,9 @@ from typing import NamedTuple
 from sim.compare import EXPECTED, inputs
 from sim.entries import Refused, parts_of, release_entry
 from sim.files import record
+from sim.lines import refusal_line
 from sim.reading import read
+from sim.waveform import dump
 from tools import direct, edits, limits, statements
 from tools.unproved import RUNS, NotBuilt, Workshop
 
@@ -50,6 +52,11 @@ def list_of(tasks, stored):
     return lambda lent=None: b"".join(release_entry(*release) for release in read(tasks, stored, lent))
 
 
+def dump_of(data):
+    """The function of waveforms, in the same way."""
+    return lambda lent=None: dump(data, lent)
+
+
 def told(write, room):
     """What the driver writes for a function for C: its number, the value that it tells, and the lent bytes."""
     memory = FILL * (room + BEHIND)
@@ -73,15 +80,27 @@ def exported(files, stored):
     """The inputs of the functions for C."""
     calls = [(bytes([0]), data, record_of(data)) for data in files]
     calls += [(bytes([1]), data, list_of(*parts_of(data))) for data in stored if parts_of(data) is not None]
+    calls += [(bytes([2]), data, dump_of(data)) for data in files]
     for index, (which, data, write) in enumerate(calls):
         room, expected = lent(write, SPARE[index % len(SPARE)])
         yield which + room + data, expected
 
 
+def waveform(data):
+    """What the program of waveforms writes, and where the input is refused what it says."""
+    try:
+        return dump(data)
+    except Refused as refused:
+        return f"waveform: the input is refused: {refusal_line(refused)}\n".encode()
+
+
 # The kind of input that a program has, and its inputs at the limits.
 KINDS = {
     "gateway": ("file", limits.files), "session": ("session", limits.sessions), "instants": ("session", limits.sessions),
-    "reader": ("read", limits.stored_records)}
+    "reader": ("read", limits.stored_records), "waveform": ("waveform", limits.files)}
+
+# What a program writes for an input of its kind, where that is more than a comparison with the simulator looks at.
+WRITES = {**EXPECTED, "waveform": waveform}
 
 
 @functools.cache
@@ -98,7 +117,7 @@ def cases(program, count):
     if program == "exports":
         return list(exported(given("gateway", count), given("reader", count)))
     kind, _ = KINDS[program]
-    return [(data, EXPECTED[kind](data)) for data in given(program, count)]
+    return [(data, WRITES[kind](data)) for data in given(program, count)]
 
 
 class Results(NamedTuple):

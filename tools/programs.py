@@ -19,7 +19,7 @@ import time
 from tools.output import Trouble, tell
 
 ROOT = pathlib.Path(__file__).resolve().parents[1]
-NAMES = ("gateway", "recorder", "reader")  # those that a command runs
+NAMES = ("gateway", "recorder", "reader", "waveform")  # those that a command runs
 CANNOT_WRITE = (errno.EACCES, errno.EPERM, errno.EROFS)
 PIECE = 1 << 16
 STACK = 1 << 20  # bytes, more than any of them takes

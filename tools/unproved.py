@@ -7,6 +7,7 @@ programs are the modules of one crate, each with its `main` exported under a nam
 import os
 import pathlib
 import platform
+import re
 import shutil
 import subprocess
 
@@ -14,12 +15,12 @@ from tools import direct
 
 DRIVER = pathlib.Path(__file__).with_name("driver.c")
 
-# What is run: three programs, the functions for C, and the calls of tools/direct.py, which are no crate of the repository.
-PROGRAMS = ("gateway", "session", "reader", "exports", "direct")
+# What is run: four programs, the functions for C, and the calls of tools/direct.py, which are no crate of the repository.
+PROGRAMS = ("gateway", "session", "reader", "waveform", "exports", "direct")
 
-# The functions for C are three libraries. Of two of them the driver makes one program, and over the third link/session.c is one, which drives a
+# The functions for C are four libraries. Of three of them the driver makes one program, and over the fourth link/session.c is one, which drives a
 # dispatcher by instants.
-MODULES = (*PROGRAMS, "exports_reading", "exports_instants")
+MODULES = (*PROGRAMS, "exports_reading", "exports_waves", "exports_instants")
 RUNS = (*PROGRAMS, "instants")
 
 
@@ -67,6 +68,16 @@ def as_module(text, program):
     return text.replace(head, f'#[no_mangle]\npub extern "C" fn {program}_main() {{')
 
 
+def set_apart(file, text, names):
+    """A source file of a crate and its text, with the crate's modules of these names called otherwise. Here every library is named to every
+    crate, where `rt` names those that a crate needs, and no module may have the name of one that is."""
+    for name in names:
+        at_root = rf"|\b{name}(?=::)" if file == "src/lib.rt" else ""
+        text = re.sub(rf"(?<=\bmod ){name}(?=;)|(?<=\bcrate::){name}\b{at_root}", f"{name}_inside", text)
+        file = f"src/{name}_inside.rt" if file == f"src/{name}.rt" else file
+    return file, text
+
+
 def run(command):
     done = subprocess.run(command, stdout=subprocess.PIPE, stderr=subprocess.STDOUT, check=False)
     if done.returncode != 0:
@@ -82,9 +93,11 @@ class Workshop:
         self.needs = dependencies((self.home / "libs" / "libs.txt").read_text())
         self.needs.update(dependencies((root / "crates.txt").read_text()))
         self.needs.update(direct=direct.NEEDS, instants=["exports_instants"])
-        self.needs["exports"] = [*self.needs["exports"], "exports_reading"]
-        for source in (root / "crates").glob("*/src"):
-            shutil.copytree(source, folder / source.parent.name / "src")
+        self.needs["exports"] = [*self.needs["exports"], "exports_reading", "exports_waves"]
+        for crate in (source.parent for source in (root / "crates").glob("*/src")):
+            shutil.copytree(crate / "src", folder / crate.name / "src", ignore=lambda *_: self._named_as_libraries(crate.name, ".rt"))
+            if self._named_as_libraries(crate.name):
+                self.put(crate.name, {f"src/{path.name}": path.read_text(encoding="utf-8") for path in (crate / "src").glob("*.rt")})
         (folder / "direct" / "src").mkdir(parents=True)
         (folder / "direct" / "src" / "main.rt").write_text(direct.SOURCE)
         (folder / "programs" / "src").mkdir(parents=True)
@@ -92,6 +105,10 @@ class Workshop:
     def reached(self, crate):
         """The programs that reach a crate, or are it."""
         return [program for program in RUNS if crate in ground_up([program], self.needs)]
+
+    def _named_as_libraries(self, crate, ending=""):
+        """The modules of a crate that have the name of a library."""
+        return [path.stem + ending for path in (self.root / "crates" / crate / "src").glob("*.rt") if path.stem in self.needs]
 
     def original(self, crate, file):
         """A file's text in the repository."""
@@ -101,7 +118,8 @@ class Workshop:
         """Change source files of a crate."""
         for file, text in files.items():
             if file.startswith("src/"):
-                (self.folder / crate / file).write_text(text, encoding="utf-8")
+                path, source = set_apart(file, text, self._named_as_libraries(crate))
+                (self.folder / crate / path).write_text(source, encoding="utf-8")
 
     def _module(self, program):
         main = self.folder / program / "src" / "main.rt"

@@ -1,11 +1,12 @@
 //! Prints what comes of the input in a file:         example FILE [ROOM]
+//! or its waveform:                                  example --waveform FILE [ROOM]
 //! or of a stored record, beside its task entries:   example --read TASKS RECORD [ROOM]
 //! ROOM is the length of the slice that is lent.
 
 use gateway::{Outcome, Refusal};
 use std::io::{self, BufWriter, Write};
 
-const MOST: usize = 1 << 19;
+const MOST: usize = 1 << 20;
 
 fn trouble(what: &str) -> ! {
     eprintln!("{what}");
@@ -25,7 +26,8 @@ fn room(word: Option<&&str>) -> usize {
     }
 }
 
-fn print(what: &str, outcome: Outcome, out: &[u8]) -> io::Result<()> {
+/// What was written, and its bytes: a text as it is, others by two digits each.
+fn print(what: &str, is_text: bool, outcome: Outcome, out: &[u8]) -> io::Result<()> {
     let (number, value, written) = match outcome {
         Outcome::Written(length) => (0, length, length),
         Outcome::TooShort(needed) => (Refusal::TOO_SHORT, needed, 0),
@@ -33,6 +35,10 @@ fn print(what: &str, outcome: Outcome, out: &[u8]) -> io::Result<()> {
     };
     let mut printed = BufWriter::new(io::stdout().lock());
     writeln!(printed, "number {number}, value {value}, {what} of {written} bytes")?;
+    if is_text {
+        printed.write_all(&out[..written])?;
+        return printed.flush();
+    }
     for line in out[..written].chunks(32) {
         writeln!(printed, "{}", line.iter().map(|byte| format!("{byte:02x}")).collect::<String>())?;
     }
@@ -46,14 +52,19 @@ fn main() {
         ["--read", tasks, record, ref more @ ..] if more.len() < 2 => {
             let mut out = vec![0; room(more.first())];
             let outcome = gateway::read(&read_file(tasks), &read_file(record), &mut out);
-            print("list", outcome, &out)
+            print("list", false, outcome, &out)
         }
-        [input, ref more @ ..] if more.len() < 2 && input != "--read" => {
+        ["--waveform", input, ref more @ ..] if more.len() < 2 => {
+            let mut out = vec![0; room(more.first())];
+            let outcome = gateway::waveform(&read_file(input), &mut out);
+            print("waveform", true, outcome, &out)
+        }
+        [input, ref more @ ..] if more.len() < 2 && !["--read", "--waveform"].contains(&input) => {
             let mut out = vec![0; room(more.first())];
             let outcome = gateway::record(&read_file(input), &mut out);
-            print("record", outcome, &out)
+            print("record", false, outcome, &out)
         }
-        _ => trouble(&format!("usage: {0} FILE [ROOM], or {0} --read TASKS RECORD [ROOM]", words[0])),
+        _ => trouble(&format!("usage: {0} [--waveform] FILE [ROOM], or {0} --read TASKS RECORD [ROOM]", words[0])),
     };
     if printed.is_err() {
         trouble("what comes of it cannot be printed");

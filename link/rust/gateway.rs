@@ -1,5 +1,5 @@
-//! The gateway's dispatcher, safe for Rust: the record of a whole file, the reading of a stored record, and a dispatcher by instants. Link with
-//! libgateway.a. docs/DRIVER.md of the repository is the page for those who write a driver.
+//! The gateway's dispatcher, safe for Rust: the record of a whole file, the reading of a stored record, the waveform of a whole file, and a
+//! dispatcher by instants. Link with libgateway.a. docs/DRIVER.md of the repository is the page for those who write a driver.
 #![warn(missing_docs)]
 
 #[path = "dispatcher.rs"]
@@ -29,6 +29,14 @@ mod raw {
             tasks_length: usize,
             record: *const u8,
             record_length: usize,
+            out: *mut u8,
+            out_length: usize,
+            told: *mut usize,
+        ) -> u8;
+
+        pub fn gateway_waveform(
+            input: *const u8,
+            input_length: usize,
             out: *mut u8,
             out_length: usize,
             told: *mut usize,
@@ -82,5 +90,14 @@ pub fn read(tasks: &[u8], record: &[u8], out: &mut [u8]) -> Outcome {
             &mut told,
         )
     };
+    Outcome::of(number, told)
+}
+
+/// Writes the waveform of `input`, a value change dump (IEEE 1364) for a viewer of waves, into the front of `out`. On a refusal, and where `out` is
+/// too short, `out` is as it was. docs/WAVEFORM.md of the repository names the waves.
+pub fn waveform(input: &[u8], out: &mut [u8]) -> Outcome {
+    let mut told = 0;
+    // As above.
+    let number = unsafe { raw::gateway_waveform(input.as_ptr(), input.len(), out.as_mut_ptr(), out.len(), &mut told) };
     Outcome::of(number, told)
 }

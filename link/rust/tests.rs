@@ -121,6 +121,26 @@ fn a_record_that_no_list_makes() {
 }
 
 #[test]
+fn the_waveform_of_plan_a() {
+    let (input, mut out) = ([plan(), releases()].concat(), vec![7; 1 << 10]);
+    let Outcome::Written(length) = gateway::waveform(&input, &mut out) else {
+        panic!("plan A is refused");
+    };
+    assert_eq!(out[length..], vec![7; (1 << 10) - length]);
+    let dump = String::from_utf8(out[..length].to_vec()).unwrap();
+    assert!(dump.starts_with("$timescale 1 us $end\n$scope module gateway $end\n"));
+    // at 3 the copy-in of 2 is broken off for the release of 1, and nothing else changes; at 17 nobody is left
+    assert!(dump.contains("\n#3\nb11111111 b\n#7\n") && dump.ends_with("\n#17\nb11111111 c\n"));
+
+    let mut short = vec![7; length - 1];
+    assert_eq!(gateway::waveform(&input, &mut short), Outcome::TooShort(length));
+    let cut = Refusal { number: 1, place: Some(68) };
+    assert_eq!(gateway::waveform(&input[..75], &mut short), Outcome::Refused(cut));
+    assert_eq!(short, vec![7; length - 1]);
+    assert_eq!(gateway::waveform(&input, &mut out[..length]), Outcome::Written(length));
+}
+
+#[test]
 fn refusals_in_words() {
     assert_eq!(Dispatcher::open(&[]).unwrap_err(), Refusal { number: 12, place: None });
     let twice = tasks(&[[1, 1, 1, 2, 3, 1], [1, 2, 0, 2, 4, 1]]);

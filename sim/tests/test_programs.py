@@ -44,7 +44,7 @@ class Simulator(unittest.TestCase):
         self.assertEqual(run_sim("read", TASKS[:3]), (0, b"X\n", b""))
 
     def test_usage(self):
-        self.assertEqual(run_sim("waveform", b"")[0], 2)
+        self.assertEqual(run_sim("waveforms", b"")[0], 2)
 
 
 # Programs to compare with: the simulator itself, and ones that are wrong.

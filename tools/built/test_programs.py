@@ -18,6 +18,7 @@ from sim.entries import release_entry, two_parts
 from sim.files import record
 from sim.lines import record_lines, text
 from sim.reading import read_lines
+from sim.waveform import dump
 from tools.plan import sound_plan
 
 ROOT = pathlib.Path(__file__).resolve().parents[2]
@@ -26,7 +27,7 @@ TASKS = PLAN[:48]
 CALLS = bytes([64]) + (0).to_bytes(8, "little") + (2).to_bytes(4, "little") + bytes([64]) + (2).to_bytes(8, "little") + bytes(4)
 SESSION = len(TASKS).to_bytes(4, "little") + TASKS + CALLS
 STORED = two_parts(TASKS, record(PLAN))
-INPUTS = {"gateway": PLAN, "recorder": PLAN, "session": SESSION, "reader": STORED}
+INPUTS = {"gateway": PLAN, "recorder": PLAN, "waveform": PLAN, "session": SESSION, "reader": STORED}
 
 
 def run(program, **streams):
@@ -60,7 +61,7 @@ class Reads(unittest.TestCase):
 
     def test_an_input_that_stops_in_the_middle(self):
         """A file that is cut off there would be a shorter input, whose run is not printed. A session has answered what came before."""
-        for program, printed in (("gateway", b""), ("recorder", b""), ("reader", b""), ("session", b"O\nA 0 2\n")):
+        for program, printed in (("gateway", b""), ("recorder", b""), ("waveform", b""), ("reader", b""), ("session", b"O\nA 0 2\n")):
             with self.subTest(program):
                 reader, writer = os.pipe()
                 os.set_blocking(reader, False)
@@ -95,7 +96,7 @@ class Writes(unittest.TestCase):
         """Into a pipe that does not wait, with a reader who is slower: what arrives is the front of what is printed, and no more comes."""
         data = long_run()
         stored = two_parts(data[:8 * len(TASKS) // 3], record(data))
-        for program, given, whole in (("gateway", data, text(record_lines(record(data))).encode()), ("recorder", data, record(data)),
+        for program, given, whole in (("gateway", data, text(record_lines(record(data))).encode()), ("recorder", data, record(data)), ("waveform", data, dump(data)),
                                       ("reader", stored, text(read_lines(stored)).encode())):
             with self.subTest(program):
                 reader, writer = os.pipe()
@@ -176,14 +177,15 @@ class Twice(unittest.TestCase):
 
 
 class Refusals(unittest.TestCase):
-    def test_the_recorder_says_why_it_wrote_nothing(self):
-        for data, line in ((b"", "R 12 0"), (b"\7", "R 2 0"), (TASKS + TASKS, "R 4 48")):
-            process = subprocess.run([str(ROOT / "target/bin/recorder")], input=data, capture_output=True, check=False)
-            self.assertEqual((process.stdout, process.stderr.decode()), (b"", f"recorder: the input is refused: {line}\n"))
+    def test_those_that_write_bytes_say_why_they_wrote_none(self):
+        for program, (data, line) in itertools.product(("recorder", "waveform"), ((b"", "R 12 0"), (b"\7", "R 2 0"), (TASKS + TASKS, "R 4 48"))):
+            process = subprocess.run([str(ROOT / "target/bin" / program)], input=data, capture_output=True, check=False)
+            self.assertEqual((process.stdout, process.stderr.decode()), (b"", f"{program}: the input is refused: {line}\n"))
 
-    def test_a_record_says_nothing(self):
-        process = subprocess.run([str(ROOT / "target/bin/recorder")], input=PLAN, capture_output=True, check=False)
-        self.assertEqual((process.stdout, process.stderr), (record(PLAN), b""))
+    def test_what_is_written_says_nothing(self):
+        for program, written in (("recorder", record(PLAN)), ("waveform", dump(PLAN))):
+            process = subprocess.run([str(ROOT / "target/bin" / program)], input=PLAN, capture_output=True, check=False)
+            self.assertEqual((process.stdout, process.stderr), (written, b""))
 
 
 if __name__ == "__main__":

@@ -8,18 +8,23 @@ from sim.entries import Refused
 from sim.files import record
 from sim.lines import file_lines, refusal_line, text
 from sim.reading import read_lines
+from sim.waveform import dump
 from tools import front
 from tools.output import Trouble
+
+
+# those that write bytes, and none where their input is refused
+WRITTEN = {"recorder": record, "waveform": dump}
 
 
 def simulated(name, pieces):
     """What a program prints, by the simulator."""
     data = b"".join(pieces)
-    if name == "recorder":
+    if name in WRITTEN:
         try:
-            yield record(data)
+            yield WRITTEN[name](data)
         except Refused as refused:
-            raise Trouble(f"recorder: the input is refused: {refusal_line(refused)}") from None
+            raise Trouble(f"{name}: the input is refused: {refusal_line(refused)}") from None
     else:
         yield text((file_lines if name == "gateway" else read_lines)(data)).encode()
 

@@ -18,12 +18,12 @@ if [ "$old" ]; then echo "rt: words proved (unchanged since it was last proved)"
 [ -e slow ] && sleep 2
 if [ -e fails ]; then echo "words: not proved"; rmdir target/at-work; exit 1; fi
 if [ ! -e "target/stamp/$2" ]; then
-case $2 in reader) kind=read ;; recorder) kind=record ;; *) kind=file ;; esac
+case $2 in reader) kind=read ;; recorder) kind=record ;; waveform) kind=waveform ;; *) kind=file ;; esac
 cat >"target/bin/$2" <<END
 #!/usr/bin/env bash
 if [ -e "$PWD/says" ]; then echo "$2: standard input: it fails" >&2; exit; fi
 cd "$PWD"
-if [ $kind = record ]; then python3 -m sim record 2> >(sed "s/^/recorder: the input is refused: /" >&2); exit 0; fi
+case $kind in record | waveform) python3 -m sim $kind 2> >(sed "s/^/$2: the input is refused: /" >&2); exit 0 ;; esac
 exec python3 -m sim $kind
 END
 chmod +x "target/bin/$2"
@@ -32,7 +32,7 @@ fi
 rmdir target/at-work
 """
 
-CRATES = "words:\ngateway: words io\nrecorder: words\nreader: words\n"
+CRATES = "words:\ngateway: words io\nrecorder: words\nreader: words\nwaveform: words\n"
 
 
 class House:
@@ -45,7 +45,7 @@ class House:
             shutil.copytree(ROOT / name, self.folder / name, ignore=shutil.ignore_patterns("tests", "__pycache__"))
         shutil.copy(ROOT / "gateway", self.folder)
         (self.folder / "crates.txt").write_text(CRATES, encoding="utf-8")
-        for name in ("words", "gateway", "recorder", "reader"):
+        for name in ("words", "gateway", "recorder", "reader", "waveform"):
             (self.folder / "crates" / name / "src").mkdir(parents=True)
             (self.folder / "crates" / name / "src/lib.rt").write_text(f"// {name}\n", encoding="utf-8")
         tools = pathlib.Path(folder, "bin")

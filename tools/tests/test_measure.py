@@ -10,8 +10,8 @@ from sim.files import record
 from sim.sessions import session_lines
 from tools import direct, limits
 from tools.edits import BadEdit, Change, code, edited_files, find, is_statement, parse
-from tools.measure import BEHIND, FILL, Results, ended_early, exported, judged, lent, list_of, record_of, summed, tally, told
-from tools.unproved import NotBuilt, as_module, dependencies, ground_up
+from tools.measure import BEHIND, FILL, Results, dump_of, ended_early, exported, judged, lent, list_of, record_of, summed, tally, told, waveform
+from tools.unproved import NotBuilt, as_module, dependencies, ground_up, set_apart
 
 SOURCE = """ghost use a.{b};
 // A comment.
@@ -103,6 +103,14 @@ class Building(unittest.TestCase):
         with self.assertRaises(NotBuilt):
             as_module("fn start() {\n}\n", "p")
 
+    def test_a_module_with_the_name_of_a_library_is_called_otherwise(self):
+        lib = "mod lines;\nmod lines_of;\npub use lines::put;\n"
+        self.assertEqual(set_apart("src/lib.rt", lib, ["lines"]), ("src/lib.rt", "mod lines_inside;\nmod lines_of;\npub use lines_inside::put;\n"))
+        # elsewhere the bare name is the library's
+        self.assertEqual(set_apart("src/lines.rt", "use lines::Text;\nuse crate::lines::put;\n", ["lines"]),
+                         ("src/lines_inside.rt", "use lines::Text;\nuse crate::lines_inside::put;\n"))
+        self.assertEqual(set_apart("src/lib.rt", lib, []), ("src/lib.rt", lib))
+
 
 class Counting(unittest.TestCase):
     def test_runs_that_differ_or_crash_count(self):
@@ -130,6 +138,7 @@ class Inputs(unittest.TestCase):
         stored = record(data)
         for write, bad, refusal in (
                 (record_of(data), record_of(data[:-1]), (1, len(limits.TABLE))),
+                (dump_of(data), dump_of(data[:-1]), (1, len(limits.TABLE))),
                 (list_of(limits.TABLE, stored), list_of(limits.TABLE, stored + b"\x07"), (2, len(stored))),
                 (list_of(limits.TABLE, stored), list_of(limits.TABLE, stored[24:]), (18, 0))):
             length, said = lent(write, 0)
@@ -141,9 +150,16 @@ class Inputs(unittest.TestCase):
     def test_the_driver_is_told_which_function_and_how_much_is_lent(self):
         data = limits.TABLE + limits.RELEASES[0]
         stored = two_parts(limits.TABLE, record(data))
-        (one, _), (other, _) = exported([data], [stored, stored[:40]])
+        (one, _), (other, _), (third, _) = exported([data], [stored, stored[:40]])
         self.assertEqual((one[0], one[9:]), (0, data))
         self.assertEqual((other[0], other[9:]), (1, stored))
+        self.assertEqual((third[0], third[9:]), (2, data))
+
+    def test_the_program_of_waveforms_says_why_it_writes_none(self):
+        data = limits.TABLE + limits.RELEASES[0]
+        self.assertEqual(waveform(data), EXPECTED["waveform"](data))
+        self.assertEqual(waveform(data[:-1]), f"waveform: the input is refused: R 1 {len(limits.TABLE)}\n".encode())
+        self.assertEqual(EXPECTED["waveform"](data[:-1]), b"")
 
     def test_the_limits_meet_every_refusal_of_a_file(self):
         lines = {EXPECTED["file"](data).split()[1] for data in limits.files() if EXPECTED["file"](data).startswith(b"R")}

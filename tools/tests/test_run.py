@@ -222,8 +222,8 @@ class Builds(Changed):
         self.assertEqual(self.run_plan()[1].splitlines()[0], "I 0 2 0 - 0 - 3 1 -")
 
     def test_build(self):
-        self.assertEqual(self.house.run("build")[:2], (0, "gateway, recorder, reader: proved and built\n"))
-        self.assertEqual(self.house.builds(), ["gateway", "recorder", "reader"])
+        self.assertEqual(self.house.run("build")[:2], (0, "gateway, recorder, reader, waveform: proved and built\n"))
+        self.assertEqual(self.house.builds(), ["gateway", "recorder", "reader", "waveform"])
 
     def test_a_build_holds_the_lock_when_the_command_is_killed(self):
         (self.house.folder / "slow").touch()

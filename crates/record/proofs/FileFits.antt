@@ -21,7 +21,7 @@ use Rattle.record.specs.Fits.{EntriesFit}
 use Rattle.record.proofs.FileClaim.{fed-file}
 use Rattle.record.proofs.Fitting.{StateFits, both-fit, to-g, moment-fits, opened-fits}
 
-served-step : (d : State) (t set : ℕ) → eqb (refusal d t set) 0 ≡ true → instant d t set ≡ record { state = at-g d t set; answer = Served (occurred d t set) }
+pub served-step : (d : State) (t set : ℕ) → eqb (refusal d t set) 0 ≡ true → instant d t set ≡ record { state = at-g d t set; answer = Served (occurred d t set) }
 unfolding instant served
 served-step d t set e = rw (e, instant)
 

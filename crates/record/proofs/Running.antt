@@ -75,27 +75,31 @@ module _ (d : State) (rs : List Release) (v : Fed d rs) (t : ℕ) (next : next-t
   go-early [] f l = absurd (not-over d rs t (f .0) (f .1) next)
   go-early (x ∷ cs) f l = omega (arith, subst (λ (w : Call). AllEarly (w ∷ cs)) (f .2) l .0, same (f .0) t (sym (f .1) ∙ next))
 
-  comes-early : t ≤ limits.last-instant
+  pub comes-early : t ≤ limits.last-instant
   comes-early = go-early (v .calls) (v .feeds) (v .early)
 
 -- ---- what is left behind moments that were made
 
-over : (k : ℕ) (d : State) (rs : List Release) → next-time d rs ≡ Never → run k d rs ≡ []
+pub over : (k : ℕ) (d : State) (rs : List Release) → next-time d rs ≡ Never → run k d rs ≡ []
 unfolding run
 over zero d rs e = refl
 over (suc k) d rs e = rw (e, run)
 
 -- no instant is refused behind them
-behind : (d : State) (rs : List Release) (ms : List Moment) (d' : State) (rs' : List Release) → Leads d rs ms d' rs' → Fed d rs → Fed d' rs'
+pub behind : (d : State) (rs : List Release) (ms : List Moment) (d' : State) (rs' : List Release) → Leads d rs ms d' rs' → Fed d rs → Fed d' rs'
 unfolding Leads
 behind d rs [] d' rs' h v = subst (λ (z : State). Fed z rs') (h .0) (subst (λ (z : List Release). Fed d z) (h .1) v)
 behind d rs (m ∷ ms) d' rs' h v =
     behind (m .state) (released-after (m .time) rs) ms d' rs' (h .2)
     (subst (λ (a : Moment). Fed (a .state) (released-after (m .time) rs)) (sym (h .1)) (goes d rs v (m .time) (h .0) .1))
 
+-- no instant is at the last tick: where it stands, nothing is pending any more
+pub none-left : (d : State) (rs : List Release) → Fed d rs → Stands (2 ^ 64 - 1) (next-time d rs) → next-time d rs ≡ Never
+none-left d rs v h = ⊎-elim (λ next. absurd (omega (arith, comes-early d rs v _ next))) (λ z. z .1) (h .is)
+
 -- ---- a piece of a run
 
-fed : {s : List ℕ} {c : Cursor} → Served s c → Fed (c .state) (releases-at s (c .at))
+pub fed : {s : List ℕ} {c : Cursor} → Served s c → Fed (c .state) (releases-at s (c .at))
 fed v = record { calls = v .calls; feeds = v .feeds; all-served = v .all-served; early = v .early }
 
 module _ (s : List ℕ) (at : ℕ) (d : Dispatcher) {budget : ℕ} {out : List ℕ} {x : Piece} {out' : List ℕ}
@@ -117,13 +121,10 @@ module _ (s : List ℕ) (at : ℕ) (d : Dispatcher) {budget : ℕ} {out : List �
   pub served-on : Served s (record { state = state-of (x .state); at = at + x .read })
   served-on = let f = fed-on in record { within = within; calls = f .calls; feeds = f .feeds; all-served = f .all-served; early = f .early }
 
-  -- no instant is at the last tick: where it stands, nothing is pending any more
   none-next : x .ended ≡ true → next-time (state-of (x .state)) (releases-at s (at + x .read)) ≡ Never
   none-next e =
-      ⊎-elim
-      (λ next. absurd (omega (arith, comes-early (state-of (x .state)) (releases-at s (at + x .read)) fed-on _ next)))
-      (λ z. z .1)
-      (subst (λ (rs : List Release). Stands (2 ^ 64 - 1) (next-time (state-of (x .state)) rs)) (behind-part s at (x .read)) (m .ended-is e .1) .is)
+      none-left (state-of (x .state)) (releases-at s (at + x .read)) fed-on
+      (subst (λ (rs : List Release). Stands (2 ^ 64 - 1) (next-time (state-of (x .state)) rs)) (behind-part s at (x .read)) (m .ended-is e .1))
 
   moments-are : run budget (state-of d) (releases-at s at) ≡ m .moments ++ run (x .left) (state-of (x .state)) (releases-at s (at + x .read))
   moments-are =

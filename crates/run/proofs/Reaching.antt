@@ -90,6 +90,41 @@ along d rs (m ∷ ms) d' rs' h k =
         → run (suc n) d rs ≡ moment d (m .time) (released-at (m .time) rs) ∷ run n (at-g d (m .time) (released-at (m .time) rs)) (released-after (m .time) rs)
     first n e = unfold run in rw (e, run)
 
+-- ---- one instant, with the releases from a place of the input on
+
+module _ (rest : List ℕ) (at : ℕ) {k : Kept} {b : Beside} {out : List ℕ} {x : Advanced} {k' : Kept} {b' : Beside} {out' : List ℕ}
+    (made : Advances (take (length rest - at) (drop at rest)) k b out x k' b' out') where
+  next-is : Stands (x .time) (next-time (read k b) (releases-at rest at))
+  next-is = subst (λ (rs : List Release). Stands (x .time) (next-time (read k b) rs)) (in-part rest at) (made .time-is)
+
+  -- the last tick stands for none
+  pub none-before : x .time ≡ 2 ^ 64 - 1 → Stands (2 ^ 64 - 1) (next-time (read k b) (releases-at rest at))
+  none-before e = subst (λ (n : ℕ). Stands n (next-time (read k b) (releases-at rest at))) e next-is
+
+  module _ (on : x .time ≡ 2 ^ 64 - 1 → ⊥) where
+    abbrev step : Made (take (length rest - at) (drop at rest)) k b out x k' b' out'
+    step = made .made on
+
+    pub steps-made : Steps (x .time) (released-at (x .time) (releases-at rest at)) k b out (x .size) k' b' out'
+    steps-made = with-set (ap (released-at (x .time)) (in-part rest at)) (step .steps)
+
+    pub next-made : next-time (read k b) (releases-at rest at) ≡ Tick (x .time)
+    next-made = ⊎-elim (λ e. e) (λ z. absurd (on (z .0))) (next-is .is)
+
+    pub behind-made : released-after (x .time) (releases-at rest at) ≡ releases-at rest (at + x .read)
+    behind-made =
+        sym (sym (behind-part rest at (x .read))
+        ∙ ap (releases-at (take (length rest - at) (drop at rest))) (sym (step .gathered .1))
+        ∙ step .gathered .2 .after ∙ ap (released-after (x .time)) (in-part rest at))
+
+    pub reads-within : at ≤ length rest → at + x .read ≤ length rest
+    reads-within l = omega (arith, l, step .gathered .1, step .gathered .2 .within, ap length (rest-whole at rest), length-drop at rest)
+
+    -- so it leads from one state to the next
+    pub leads-on : Leads (read k b) (releases-at rest at) (moment (read k b) (x .time) (released-at (x .time) (releases-at rest at)) ∷ []) (read k' b') (releases-at rest (at + x .read))
+    unfolding Leads
+    leads-on = (next-made, refl, (sym (steps-made .state), behind-made))
+
 -- ---- how far a piece has come
 
 pub record Reached (rest : List ℕ) (d : State) (budget : ℕ) (before : List ℕ) (k : Kept) (b : Beside) (at size left : ℕ) (out : List ℕ) : Type 0 where
@@ -119,36 +154,18 @@ module _ {rest : List ℕ} {d : State} {budget : ℕ} {before : List ℕ} {k : K
     (g : Reached rest d budget before k b at size left out) where
   module _ {x : Advanced} {k' : Kept} {b' : Beside} {rest-after : List ℕ}
       (made : Advances (take (length rest - at) (drop at rest)) k b (take (length out - size) (drop size out)) x k' b' rest-after) where
-    pub next-is : Stands (x .time) (next-time (read k b) (releases-at rest at))
-    next-is = subst (λ (rs : List Release). Stands (x .time) (next-time (read k b) rs)) (in-part rest at) (made .time-is)
-
     pub at-last : x .time ≡ 2 ^ 64 - 1 → Stands (2 ^ 64 - 1) (next-time (read k b) (releases-at rest at))
-    at-last e = subst (λ (n : ℕ). Stands n (next-time (read k b) (releases-at rest at))) e next-is
+    at-last e = none-before rest at made e
 
     module _ (on : x .time ≡ 2 ^ 64 - 1 → ⊥) where
       abbrev t : ℕ
       t = x .time
 
-      abbrev rs : List Release
-      rs = releases-at rest at
-
-      step : Made (take (length rest - at) (drop at rest)) k b (take (length out - size) (drop size out)) x k' b' rest-after
-      step = made .made on
-
       steps : Steps (x .time) (released-at (x .time) (releases-at rest at)) k b (take (length out - size) (drop size out)) (x .size) k' b' rest-after
-      steps = with-set (ap (released-at t) (in-part rest at)) (step .steps)
-
-      next-in : next-time (read k b) (releases-at rest at) ≡ Tick (x .time)
-      next-in = ⊎-elim (λ e. e) (λ z. absurd (on (z .0))) (next-is .is)
-
-      behind : released-after (x .time) (releases-at rest at) ≡ releases-at rest (at + x .read)
-      behind =
-          sym (sym (behind-part rest at (x .read))
-          ∙ ap (releases-at (take (length rest - at) (drop at rest))) (sym (step .gathered .1))
-          ∙ step .gathered .2 .after ∙ ap (released-after t) (in-part rest at))
+      steps = steps-made rest at made on
 
       pub reads : at + x .read ≤ length rest
-      reads = omega (arith, g .within, step .gathered .1, step .gathered .2 .within, ap length (rest-whole at rest), length-drop at rest)
+      reads = reads-within rest at made on (g .within)
 
       abbrev next : Moment
       next = moment (read k b) (x .time) (released-at (x .time) (releases-at rest at))
@@ -174,7 +191,7 @@ module _ {rest : List ℕ} {d : State} {budget : ℕ} {before : List ℕ} {k : K
           let all : record-bytes (g .moments ++ (next ∷ [])) ≡ done ++ bytes = bytes-both (g .moments) (next ∷ []) ∙ ap (λ (z : List ℕ). done ++ z) (bytes-one next) in
           record {
             moments = g .moments ++ (next ∷ []);
-            leads = one-more d (releases-at rest 0) (g .moments) (read k b) (releases-at rest at) t (g .leads) next-in (sym (steps .state)) behind;
+            leads = one-more d (releases-at rest 0) (g .moments) (read k b) (releases-at rest at) t (g .leads) (next-made rest at made on) (sym (steps .state)) (behind-made rest at made on);
             within = reads;
             left-is = omega (arith, g .left-is, length-append (g .moments) (next ∷ []));
             size-is = ap₂ (λ (i j : ℕ). i + j) (g .size-is) size-is ∙ sym (ap length all ∙ length-append done bytes);

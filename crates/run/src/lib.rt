@@ -9,6 +9,7 @@ pub use check::check_behind;
 pub use check::check_file;
 use dispatcher::Dispatcher;
 use entries::Release;
+pub use instant::advance;
 pub use pieces::next_piece;
 
 // The release before the one that is checked.

@@ -7,7 +7,7 @@ use lib.ListN.{length}
 use Rattle.rules.specs.Kept.{kept, by-task, beside}
 use Rattle.dispatcher.specs.Dispatcher.{state-of}
 use Rattle.run.proofs.Slices.{rest-same}
-use Rattle.run.proofs.Reaching.{Reached, begins, next-is, at-last, reads, puts, moves, same-kept, same-by-task, ends, stops}
+use Rattle.run.proofs.Reaching.{Reached, begins, at-last, reads, puts, moves, same-kept, same-by-task, ends, stops}
 use borrow.Author.Needs.{needs}
 use Rattle.run.proofs.pieces.next_piece.Statement.{statement}
 use Rattle.run.proofs.pieces.next_piece.Tie as tie

@@ -1,0 +1,10 @@
+pub mod Laying
+pub mod Numbers
+pub mod Seeing
+pub mod Readable
+pub mod Drawing
+pub mod Whole
+pub mod Outcomes
+pub mod Examples
+pub mod Reading
+pub mod Viewing

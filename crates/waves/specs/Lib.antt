@@ -1,0 +1,9 @@
+pub mod Types
+pub mod Dump
+pub mod Samples
+pub mod Readable
+pub mod Writing
+pub mod Printing
+pub mod Drawing
+pub mod Viewer
+pub mod Viewed
