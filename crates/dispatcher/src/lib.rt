@@ -14,6 +14,7 @@ pub use refusing::mark_refusal;
 pub use refusing::refusal;
 use rules::Answer;
 use rules::MarkAnswer;
+use rules::at;
 pub use stepping::steps;
 use table::Columns;
 use table::Refusal;
@@ -23,12 +24,12 @@ pub use telling::WORDS;
 // and of each task's job the release time and the count of blocked intervals, and the time of its waiting release. C and Rust keep
 // these very arrays.
 pub struct Dispatcher {
-    pub times: [u64; 7],
+    pub times: at::Times,
     pub release: [u64; 32],
     pub waits: [u64; 32],
-    pub sets: [u32; 6],
+    pub sets: at::Sets,
     pub columns: Columns,
-    pub codes: [u8; 9],
+    pub codes: at::Codes,
     pub priority: [u8; 32],
     pub blocked: [u8; 32],
 }

@@ -13,14 +13,14 @@ ghost use Rattle.dispatcher.specs.Promises.{MarksAt};
 // That there are six sets is told where they are lent as a slice. Nothing is left of this in the program.
 fn sets_seen(sets: &[u32]) {}
 
-fn six(sets: &[u32; 6])
+fn six(sets: &at::Sets)
     ensures { λ _. ⌜ length (now (sets .entry)) ≡ 6 ⌝ }
 {
     sets_seen(sets);
 }
 
 // One task's mark set or taken away.
-pub fn marked_with(task: u8, mark: u8, sets: &mut [u32; 6])
+pub fn marked_with(task: u8, mark: u8, sets: &mut at::Sets)
     ensures { λ _. ⌜ MarksAt task mark (now (sets .entry)) (now (sets .exit)) ⌝ }
 {
     six(sets);

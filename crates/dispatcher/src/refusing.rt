@@ -9,7 +9,7 @@ ghost use Rattle.entries.specs.Limits as limits;
 ghost use Rattle.dispatcher.specs.Promises.{NotAfter, Refuses, MarkRefuses};
 
 // Whether there was an instant at or after `t`: 0 is allowed first.
-fn not_after(t: u64, times: &[u64; 7], codes: &[u8; 9]) -> bool
+fn not_after(t: u64, times: &at::Times, codes: &at::Codes) -> bool
     ensures { λ r. ⌜ NotAfter t (now (times .entry)) (now (codes .entry)) r ⌝ }
 {
     if codes[at::TIMED] == 0 {
@@ -32,9 +32,9 @@ fn too_late(t: u64, set: u32) -> bool
 pub fn refusal<'a>(
     t: u64,
     set: u32,
-    times: &'a [u64; 7],
-    sets: &'a [u32; 6],
-    codes: &'a [u8; 9],
+    times: &'a at::Times,
+    sets: &'a at::Sets,
+    codes: &'a at::Codes,
 ) -> u8
     ensures { λ x. ⌜ Refuses t set (now (times .entry)) (now (sets .entry)) (now (codes .entry)) x ⌝ }
 {
@@ -54,7 +54,7 @@ pub fn refusal<'a>(
 }
 
 // A mark call: 16, 6, 17, in this order; 0 is none.
-pub fn mark_refusal(task: u8, mark: u8, sets: &[u32; 6]) -> u8
+pub fn mark_refusal(task: u8, mark: u8, sets: &at::Sets) -> u8
     ensures { λ r. ⌜ MarkRefuses task mark (now (sets .entry)) r ⌝ }
 {
     if !sets::contains(sets[at::PRESENT], task) {

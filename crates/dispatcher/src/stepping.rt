@@ -21,9 +21,9 @@ const AFTER: u64 = 2;
 
 fn end_copyout(
     t: u64,
-    times: &[u64; 7],
-    sets: &mut [u32; 6],
-    codes: &mut [u8; 9],
+    times: &at::Times,
+    sets: &mut at::Sets,
+    codes: &mut at::Codes,
     release: &[u64; 32],
     blocked: &[u8; 32],
     told: &mut [u64; WORDS],
@@ -44,9 +44,9 @@ fn end_copyout(
 
 fn end_before(
     t: u64,
-    times: &mut [u64; 7],
-    sets: &mut [u32; 6],
-    codes: &mut [u8; 9],
+    times: &mut at::Times,
+    sets: &mut at::Sets,
+    codes: &mut at::Codes,
     priority: &[u8; 32],
     blocked: &mut [u8; 32],
     told: &mut [u64; WORDS],
@@ -68,9 +68,9 @@ fn end_before(
 
 fn end_after(
     t: u64,
-    times: &mut [u64; 7],
-    sets: &mut [u32; 6],
-    codes: &mut [u8; 9],
+    times: &mut at::Times,
+    sets: &mut at::Sets,
+    codes: &mut at::Codes,
     priority: &[u8; 32],
     columns: &Columns,
     blocked: &mut [u8; 32],
@@ -98,9 +98,9 @@ fn end_after(
 pub fn steps<'a>(
     t: u64,
     set: u32,
-    times: &mut [u64; 7],
-    sets: &mut [u32; 6],
-    codes: &mut [u8; 9],
+    times: &mut at::Times,
+    sets: &mut at::Sets,
+    codes: &mut at::Codes,
     priority: &'a [u8; 32],
     columns: &'a Columns,
     release: &mut [u64; 32],

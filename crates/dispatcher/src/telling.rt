@@ -48,7 +48,7 @@ pub fn tell_job(e: JobEntry, told: &mut [u64; WORDS])
 }
 
 // The words of an interval's entry, of the numbers of its units: an entry that is made first and taken apart afterwards is slower.
-fn processor_word(codes: &[u8; 9]) -> u64
+fn processor_word(codes: &at::Codes) -> u64
     ensures { λ x. ⌜ ProcessorWord (now (codes .entry)) x ⌝ }
 {
     if codes[at::PROCESSOR] == codes::IDLE {
@@ -57,7 +57,7 @@ fn processor_word(codes: &[u8; 9]) -> u64
     wide(codes[at::TASK])
 }
 
-fn copyout_word(codes: &[u8; 9]) -> u64
+fn copyout_word(codes: &at::Codes) -> u64
     ensures { λ x. ⌜ CopyOutWord (now (codes .entry)) x ⌝ }
 {
     if codes[at::COPYOUT] == codes::NO_COPYOUT {
@@ -66,7 +66,7 @@ fn copyout_word(codes: &[u8; 9]) -> u64
     wide(codes[at::OUTTASK])
 }
 
-fn copyin_word(codes: &[u8; 9]) -> u64
+fn copyin_word(codes: &at::Codes) -> u64
     ensures { λ x. ⌜ CopyInWord (now (codes .entry)) x ⌝ }
 {
     if codes[at::COPYIN] < codes::COPYING {
@@ -75,7 +75,7 @@ fn copyin_word(codes: &[u8; 9]) -> u64
     wide(codes[at::INTASK])
 }
 
-fn fate_word(codes: &[u8; 9]) -> u64
+fn fate_word(codes: &at::Codes) -> u64
     ensures { λ x. ⌜ FateWord (now (codes .entry)) x ⌝ }
 {
     let kind = codes[at::COPYIN];
@@ -97,8 +97,8 @@ fn promoted_word(n: u8) -> u64
 pub fn tell_interval(
     t: u64,
     promoted: u8,
-    times: &[u64; 7],
-    codes: &[u8; 9],
+    times: &at::Times,
+    codes: &at::Codes,
     told: &mut [u64; WORDS],
 )
     ensures { λ _. ⌜ TellsInterval t promoted (now (times .entry)) (now (codes .entry)) (now (told .entry)) (now (told .exit)) ⌝ }
@@ -115,7 +115,7 @@ pub fn tell_interval(
 }
 
 // The next due time, if there is one, and whether there is.
-pub fn tell_due(times: &[u64; 7], codes: &[u8; 9], told: &mut [u64; WORDS]) -> u64
+pub fn tell_due(times: &at::Times, codes: &at::Codes, told: &mut [u64; WORDS]) -> u64
     ensures { λ x. ⌜ TellsDue (now (times .entry)) (now (codes .entry)) (now (told .entry)) (now (told .exit)) x ⌝ }
 {
     let tick = rules::due_tick(times, codes);

@@ -1,5 +1,5 @@
-// The waveform of an input for programs in C and Rust: slices and numbers, and no type of this repository. It is a library of its own for the reason
-// that exports_reading is one.
+// The waveform of an input for programs in C and Rust: slices and numbers, and no type of this repository. It is a library of its own for
+// the reason that exports_reading is one.
 ghost use mathlib.Core.Path.{_≡_};
 ghost use Rattle.record.specs.Writing.{outcome-number, outcome-value};
 ghost use Rattle.waves.specs.Writing.{dumped};

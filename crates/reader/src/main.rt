@@ -19,7 +19,8 @@ ghost use lib.ListN.{length};
 // A piece of the record, and room for many lines.
 const INPUT: usize = 8192;
 
-// Room for the input that a file's releases make, behind as many bytes of task entries as are enough to read (rules/specs/Cut, `OpensFromFront`).
+// Room for the input that a file's releases make, behind as many bytes of task entries as are enough to read (rules/specs/Cut,
+// `OpensFromFront`).
 const LIST: usize = limits::HEAD_MOST + limits::LONGEST_LIST;
 
 // A piece of a run: what many instants leave.
@@ -111,8 +112,8 @@ fn carry(input: &mut [u8], refusal: Refusal, end: usize) -> usize
     streams::keep(input, table::place_of(refusal), end)
 }
 
-// Reads a piece behind the `kept` bytes that were carried over. Where `place` bytes of the record, more than any list yields, are before it,
-// it is not read again.
+// Reads a piece behind the `kept` bytes that were carried over. Where `place` bytes of the record, more than any list yields, are before
+// it, it is not read again.
 fn next_piece(
     source: Source,
     place: usize,

@@ -98,8 +98,8 @@ fn note(keys: &mut [u64], n: Noted, told: Telling) -> Noted
     }
 }
 
-// The releases of a record's entries, noted behind those that `before` counts, and the first refusal: 2 for a kind other than 16 to 18, then
-// 1 for an entry that is cut short. Of a record in pieces, the bytes from there on go on with the next piece.
+// The releases of a record's entries, noted behind those that `before` counts, and the first refusal: 2 for a kind other than 16 to 18,
+// then 1 for an entry that is cut short. Of a record in pieces, the bytes from there on go on with the next piece.
 pub fn collect(stored: &[u8], before: Noted, keys: &mut [u64]) -> Collected
     ensures { λ r. ⌜ Collects (now (stored .entry)) before (now (keys .entry)) r (now (keys .exit)) ⌝ }
 {

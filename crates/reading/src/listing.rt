@@ -19,7 +19,8 @@ ghost use Rattle.reading.specs.Reading.{listed-if, read-told, reading};
 ghost use Rattle.reading.specs.Parts.{releases-in, few, some, Opened, Lent};
 ghost use Rattle.reading.specs.Acceptance.{ReadWithClaim};
 
-// A record of few bytes tells of few releases: no entry that tells of one is shorter than a release entry. Then less memory is cleared first.
+// A record of few bytes tells of few releases: no entry that tells of one is shorter than a release entry. Then less memory is cleared
+// first.
 const SOME: usize = 2048;
 
 const FEW: usize = 512;
@@ -35,7 +36,8 @@ fn write_list(list: &[u8], out: &mut [u8]) -> Outcome
     Outcome::Recorded(size)
 }
 
-// The list of the releases that the numbers stand for, where its run has this record; else 18. `input` has room for the input that they make.
+// The list of the releases that the numbers stand for, where its run has this record; else 18. `input` has room for the input that they
+// make.
 fn read_listed(
     tasks: &[u8],
     head: Head,
@@ -46,7 +48,8 @@ fn read_listed(
 ) -> Outcome
     requires { ⌜ Opened (now tasks) head ⌝ }
     requires { ⌜ length (now tasks) + size 2 * length (now keys) ≤ length (now input) ⌝ }
-    ensures { λ r. ⌜ Wrote (listed-if (now (tasks .entry)) (now (stored .entry)) (now (out .entry)) (releases-in (now (keys .entry)))) r (now (out .exit)) ⌝ }
+    ensures { λ r. ⌜ Wrote (listed-if (now (tasks .entry)) (now (stored .entry)) (now (out .entry)) (releases-in (now (keys .entry))))
+        r (now (out .exit)) ⌝ }
 {
     let end = lay_input(tasks, keys, input);
     if yields(&input[..end], head, stored) {
@@ -67,7 +70,8 @@ fn read_record(
 ) -> Outcome
     requires { ⌜ Opened (now tasks) head ⌝ }
     requires { ⌜ Lent (now tasks) (now stored) (now keys) (now input) ⌝ }
-    ensures { λ r. ⌜ Wrote (read-told (now (tasks .entry)) (now (stored .entry)) (now (out .entry)) (told (now (stored .entry)))) r (now (out .exit)) ⌝ }
+    ensures { λ r. ⌜ Wrote (read-told (now (tasks .entry)) (now (stored .entry)) (now (out .entry)) (told (now (stored .entry))))
+        r (now (out .exit)) ⌝ }
 {
     let none = Noted {
         count: 0,
@@ -93,7 +97,8 @@ fn read_record(
 fn read_few(tasks: &[u8], head: Head, stored: &[u8], out: &mut [u8]) -> Outcome
     requires { ⌜ Opened (now tasks) head ⌝ }
     requires { ⌜ length (now stored) ≤ few * size 2 ⌝ }
-    ensures { λ r. ⌜ Wrote (read-told (now (tasks .entry)) (now (stored .entry)) (now (out .entry)) (told (now (stored .entry)))) r (now (out .exit)) ⌝ }
+    ensures { λ r. ⌜ Wrote (read-told (now (tasks .entry)) (now (stored .entry)) (now (out .entry)) (told (now (stored .entry))))
+        r (now (out .exit)) ⌝ }
 {
     let mut keys = [0u64; FEW];
     let mut input = [0u8; limits::LONGEST_HEAD + FEW * RELEASE_SIZE];
@@ -103,7 +108,8 @@ fn read_few(tasks: &[u8], head: Head, stored: &[u8], out: &mut [u8]) -> Outcome
 fn read_some(tasks: &[u8], head: Head, stored: &[u8], out: &mut [u8]) -> Outcome
     requires { ⌜ Opened (now tasks) head ⌝ }
     requires { ⌜ length (now stored) ≤ some * size 2 ⌝ }
-    ensures { λ r. ⌜ Wrote (read-told (now (tasks .entry)) (now (stored .entry)) (now (out .entry)) (told (now (stored .entry)))) r (now (out .exit)) ⌝ }
+    ensures { λ r. ⌜ Wrote (read-told (now (tasks .entry)) (now (stored .entry)) (now (out .entry)) (told (now (stored .entry))))
+        r (now (out .exit)) ⌝ }
 {
     let mut keys = [0u64; SOME];
     let mut input = [0u8; limits::LONGEST_HEAD + SOME * RELEASE_SIZE];
@@ -112,7 +118,8 @@ fn read_some(tasks: &[u8], head: Head, stored: &[u8], out: &mut [u8]) -> Outcome
 
 fn read_any(tasks: &[u8], head: Head, stored: &[u8], out: &mut [u8]) -> Outcome
     requires { ⌜ Opened (now tasks) head ⌝ }
-    ensures { λ r. ⌜ Wrote (read-told (now (tasks .entry)) (now (stored .entry)) (now (out .entry)) (told (now (stored .entry)))) r (now (out .exit)) ⌝ }
+    ensures { λ r. ⌜ Wrote (read-told (now (tasks .entry)) (now (stored .entry)) (now (out .entry)) (told (now (stored .entry))))
+        r (now (out .exit)) ⌝ }
 {
     let mut keys = [0u64; limits::RELEASES];
     let mut input = [0u8; limits::LONGEST_FILE];
@@ -122,7 +129,8 @@ fn read_any(tasks: &[u8], head: Head, stored: &[u8], out: &mut [u8]) -> Outcome
 // With as much memory as the record asks for.
 fn read_opened(tasks: &[u8], head: Head, stored: &[u8], out: &mut [u8]) -> Outcome
     requires { ⌜ Opened (now tasks) head ⌝ }
-    ensures { λ r. ⌜ Wrote (read-told (now (tasks .entry)) (now (stored .entry)) (now (out .entry)) (told (now (stored .entry)))) r (now (out .exit)) ⌝ }
+    ensures { λ r. ⌜ Wrote (read-told (now (tasks .entry)) (now (stored .entry)) (now (out .entry)) (told (now (stored .entry))))
+        r (now (out .exit)) ⌝ }
 {
     if stored.len() <= FEW * RELEASE_SIZE {
         return read_few(tasks, head, stored, out);

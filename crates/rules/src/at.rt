@@ -46,3 +46,10 @@ pub const COPYIN: usize = 6;
 pub const INTASK: usize = 7;
 
 pub const TIMED: usize = 8;
+
+// The three arrays, each as long as it has numbers.
+pub type Times = [u64; 7];
+
+pub type Sets = [u32; 6];
+
+pub type Codes = [u8; 9];

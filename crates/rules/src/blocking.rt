@@ -22,8 +22,8 @@ pub fn blockable(kind: u8, n: u8, present: u32, priority: &[u8; 32]) -> u32
 // of a task that is not in the table, which no state that calls made has, is compared with the others.
 fn count_waiting(
     waiting: u32,
-    sets: &[u32; 6],
-    codes: &[u8; 9],
+    sets: &at::Sets,
+    codes: &at::Codes,
     priority: &[u8; 32],
     blocked: &mut [u8; 32],
 )
@@ -43,7 +43,12 @@ fn count_waiting(
 // One more blocked interval for each job that the interval blocks, of those released in it or before it that a later one executes. Where
 // the processor idled or none waits there is nothing to count, as in most intervals: these tests are inlined, and the rest, which is called
 // twice, is not.
-pub fn count_blocked(sets: &[u32; 6], codes: &[u8; 9], priority: &[u8; 32], blocked: &mut [u8; 32])
+pub fn count_blocked(
+    sets: &at::Sets,
+    codes: &at::Codes,
+    priority: &[u8; 32],
+    blocked: &mut [u8; 32],
+)
     ensures { λ _. ⌜ CountsAt (now (priority .entry)) (now (sets .entry)) (now (codes .entry))
         (now (blocked .entry)) (now (blocked .exit)) ⌝ }
 {

@@ -10,7 +10,7 @@ fn sets_seen(sets: &[u32]) {}
 
 fn codes_seen(codes: &[u8]) {}
 
-fn whole(times: &[u64; 7], sets: &[u32; 6], codes: &[u8; 9])
+fn whole(times: &at::Times, sets: &at::Sets, codes: &at::Codes)
     ensures { λ _. ⌜ Whole (kept (now (times .entry)) (now (sets .entry)) (now (codes .entry))) ⌝ }
 {
     times_seen(times);
@@ -19,7 +19,7 @@ fn whole(times: &[u64; 7], sets: &[u32; 6], codes: &[u8; 9])
 }
 
 // The instant's time.
-pub fn stamp(t: u64, times: &mut [u64; 7], sets: &[u32; 6], codes: &mut [u8; 9])
+pub fn stamp(t: u64, times: &mut at::Times, sets: &at::Sets, codes: &mut at::Codes)
     ensures { λ _. ⌜ TimedAt t (now (sets .entry))
         (now (times .entry)) (now (codes .entry)) (now (times .exit)) (now (codes .exit)) ⌝ }
 {

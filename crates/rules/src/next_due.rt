@@ -22,7 +22,7 @@ fn tick(t: u64) -> u64
     t
 }
 
-fn copyout_tick(times: &[u64; 7], codes: &[u8; 9]) -> u64
+fn copyout_tick(times: &at::Times, codes: &at::Codes) -> u64
     ensures { λ x. ⌜ CopyOutTick (now (times .entry)) (now (codes .entry)) x ⌝ }
 {
     if codes[at::COPYOUT] == codes::COPYING_OUT {
@@ -31,7 +31,7 @@ fn copyout_tick(times: &[u64; 7], codes: &[u8; 9]) -> u64
     u64::MAX
 }
 
-fn engine_tick(times: &[u64; 7], codes: &[u8; 9]) -> u64
+fn engine_tick(times: &at::Times, codes: &at::Codes) -> u64
     ensures { λ x. ⌜ EngineTick (now (times .entry)) (now (codes .entry)) x ⌝ }
 {
     let due = copyout_tick(times, codes);
@@ -41,7 +41,7 @@ fn engine_tick(times: &[u64; 7], codes: &[u8; 9]) -> u64
     due
 }
 
-pub fn due_tick(times: &[u64; 7], codes: &[u8; 9]) -> u64
+pub fn due_tick(times: &at::Times, codes: &at::Codes) -> u64
     ensures { λ x. ⌜ DueTick (now (times .entry)) (now (codes .entry)) x ⌝ }
 {
     if codes[at::COPYIN] == codes::NO_INTERVAL {
@@ -59,7 +59,7 @@ pub fn due_tick(times: &[u64; 7], codes: &[u8; 9]) -> u64
 }
 
 // Whether some phase is under way.
-pub fn some_due(codes: &[u8; 9]) -> bool
+pub fn some_due(codes: &at::Codes) -> bool
     ensures { λ x. ⌜ SomeDue (now (codes .entry)) x ⌝ }
 {
     let copyin = codes[at::COPYIN];

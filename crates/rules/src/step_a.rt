@@ -11,7 +11,7 @@ ghost use lib.ListN.{getD};
 ghost use Rattle.rules.specs.Kept.{copyout-ends};
 ghost use Rattle.rules.specs.Steps.{CompletedJob, CopiedOutAt, CopyInSet, ProcessorTo, OthersEndAt};
 
-pub fn copyout_ends(t: u64, times: &[u64; 7], codes: &[u8; 9]) -> bool
+pub fn copyout_ends(t: u64, times: &at::Times, codes: &at::Codes) -> bool
     ensures { λ r. ⌜ r ≡ copyout-ends t (now (times .entry)) (now (codes .entry)) ⌝ }
 {
     if codes[at::COPYIN] == codes::NO_INTERVAL {
@@ -26,8 +26,8 @@ pub fn copyout_ends(t: u64, times: &[u64; 7], codes: &[u8; 9]) -> bool
 // The job whose copy-out ends now.
 pub fn completed_job(
     t: u64,
-    times: &[u64; 7],
-    codes: &[u8; 9],
+    times: &at::Times,
+    codes: &at::Codes,
     release: &[u64; 32],
     blocked: &[u8; 32],
 ) -> JobEntry
@@ -44,14 +44,14 @@ pub fn completed_job(
 }
 
 // It is pending no more.
-pub fn copied_out(sets: &mut [u32; 6], codes: &mut [u8; 9])
+pub fn copied_out(sets: &mut at::Sets, codes: &mut at::Codes)
     ensures { λ _. ⌜ CopiedOutAt (now (sets .entry)) (now (codes .entry)) (now (sets .exit)) (now (codes .exit)) ⌝ }
 {
     sets[at::PENDING] = sets::remove(sets[at::PENDING], codes[at::OUTTASK]);
     codes[at::COPYOUT] = codes::COPIED_OUT;
 }
 
-fn copyin_ends(kind: u8, t: u64, times: &[u64; 7], codes: &mut [u8; 9])
+fn copyin_ends(kind: u8, t: u64, times: &at::Times, codes: &mut at::Codes)
     requires { ⌜ kind ≡ getD (now codes) 6 0 ⌝ }
     ensures { λ _. ⌜ CopyInSet t (now (times .entry)) (now (codes .entry)) (now (codes .exit)) ⌝ }
 {
@@ -63,7 +63,7 @@ fn copyin_ends(kind: u8, t: u64, times: &[u64; 7], codes: &mut [u8; 9])
 }
 
 // The processor's own copy-in is followed by the execution.
-fn processor_ends(t: u64, times: &mut [u64; 7], codes: &mut [u8; 9], columns: &Columns)
+fn processor_ends(t: u64, times: &mut at::Times, codes: &mut at::Codes, columns: &Columns)
     ensures { λ _. ⌜ ProcessorTo t (now (columns .entry))
         (now (times .entry)) (now (codes .entry)) (now (times .exit)) (now (codes .exit)) ⌝ }
 {
@@ -84,7 +84,7 @@ fn processor_ends(t: u64, times: &mut [u64; 7], codes: &mut [u8; 9], columns: &C
 }
 
 // The other two phases, where no copy-out ends now, or its job has been completed.
-pub fn others_end(t: u64, times: &mut [u64; 7], codes: &mut [u8; 9], columns: &Columns)
+pub fn others_end(t: u64, times: &mut at::Times, codes: &mut at::Codes, columns: &Columns)
     ensures { λ _. ⌜ OthersEndAt t (now (columns .entry))
         (now (times .entry)) (now (codes .entry)) (now (times .exit)) (now (codes .exit)) ⌝ }
 {

@@ -30,7 +30,7 @@ fn settled(kind: u8) -> bool
 }
 
 // R6: an interval is open and both units are at their ends.
-pub fn is_over(codes: &[u8; 9]) -> bool
+pub fn is_over(codes: &at::Codes) -> bool
     ensures { λ x. ⌜ OverAt (now (codes .entry)) x ⌝ }
 {
     let copyin = codes[at::COPYIN];
@@ -50,7 +50,7 @@ pub fn is_over(codes: &[u8; 9]) -> bool
 
 // R4, at an interval's end: where the copy-in was cancelled or thrown out, or none was chosen, the highest-priority marked job released
 // in the interval and ready is promoted, or NO_TASK.
-pub fn promoted(sets: &[u32; 6], codes: &[u8; 9], priority: &[u8; 32]) -> u8
+pub fn promoted(sets: &at::Sets, codes: &at::Codes, priority: &[u8; 32]) -> u8
     ensures { λ x. ⌜ PromotedAt (now (priority .entry)) (now (sets .entry)) (now (codes .entry)) x ⌝ }
 {
     if codes[at::COPYIN] == codes::LOADED {
@@ -111,7 +111,7 @@ fn copyin_fate(kind: u8) -> u8
 }
 
 // What is recorded of the interval, as it stands, with its end and the task promoted.
-pub fn interval_entry(t: u64, promoted: u8, times: &[u64; 7], codes: &[u8; 9]) -> IntervalEntry
+pub fn interval_entry(t: u64, promoted: u8, times: &at::Times, codes: &at::Codes) -> IntervalEntry
     ensures { λ x. ⌜ EntryAt t promoted (now (times .entry)) (now (codes .entry)) x ⌝ }
 {
     let processor = codes[at::PROCESSOR];
@@ -141,7 +141,7 @@ fn next_copyout(kind: u8) -> u8
 }
 
 // R5: the next interval executes the promoted job, else the loaded one, else none.
-fn set_next(promoted: u8, sets: &mut [u32; 6], codes: &mut [u8; 9])
+fn set_next(promoted: u8, sets: &mut at::Sets, codes: &mut at::Codes)
     ensures { λ _. ⌜ NextSet promoted (now (sets .entry)) (now (codes .entry)) (now (sets .exit)) (now (codes .exit)) ⌝ }
 {
     if promoted < codes::NO_TASK {
@@ -161,7 +161,7 @@ fn set_next(promoted: u8, sets: &mut [u32; 6], codes: &mut [u8; 9])
 }
 
 // The interval ends, where the blocked intervals are counted already.
-pub fn close(promoted: u8, times: &mut [u64; 7], sets: &mut [u32; 6], codes: &mut [u8; 9])
+pub fn close(promoted: u8, times: &mut at::Times, sets: &mut at::Sets, codes: &mut at::Codes)
     ensures { λ _. ⌜ ClosedAt promoted
         (kept (now (times .entry)) (now (sets .entry)) (now (codes .entry)))
         (kept (now (times .exit)) (now (sets .exit)) (now (codes .exit))) ⌝ }

@@ -22,7 +22,7 @@ pub fn released(pending: u32, waiting: u32, set: u32) -> ReleaseFates
 }
 
 // The releases that belong to the interval that step g begins.
-pub fn held_over(codes: &[u8; 9], taken: u32) -> u32
+pub fn held_over(codes: &at::Codes, taken: u32) -> u32
     ensures { λ x. ⌜ HeldOverAt (now (codes .entry)) taken x ⌝ }
 {
     if codes[at::COPYIN] == codes::NO_INTERVAL {

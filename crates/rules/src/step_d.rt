@@ -33,7 +33,7 @@ fn given_way(kind: u8) -> u8
     codes::CANCELLED
 }
 
-fn give_way(taken: u32, sets: &mut [u32; 6], codes: &mut [u8; 9], priority: &[u8; 32])
+fn give_way(taken: u32, sets: &mut at::Sets, codes: &mut at::Codes, priority: &[u8; 32])
     ensures { λ _. ⌜ GivesWayAt taken (now (priority .entry))
         (now (sets .entry)) (now (codes .entry)) (now (sets .exit)) (now (codes .exit)) ⌝ }
 {
@@ -55,7 +55,7 @@ fn fits(x: u32)
 {}
 
 // Nothing is left of this in the program.
-fn sets_fit(sets: &[u32; 6])
+fn sets_fit(sets: &at::Sets)
     ensures { λ _. ⌜ SetsFit (now (sets .entry)) ⌝ }
 {
     fits(sets[at::PENDING]);
@@ -71,8 +71,8 @@ pub fn take_releases(
     t: u64,
     taken: u32,
     deferred: u32,
-    sets: &mut [u32; 6],
-    codes: &mut [u8; 9],
+    sets: &mut at::Sets,
+    codes: &mut at::Codes,
     priority: &[u8; 32],
     release: &mut [u64; 32],
     blocked: &mut [u8; 32],

@@ -10,9 +10,9 @@ ghost use Rattle.rules.specs.Steps.{MadeChoice, ChosenAt};
 
 pub fn make_choice(
     t: u64,
-    times: &mut [u64; 7],
-    sets: &mut [u32; 6],
-    codes: &mut [u8; 9],
+    times: &mut at::Times,
+    sets: &mut at::Sets,
+    codes: &mut at::Codes,
     priority: &[u8; 32],
     columns: &Columns,
 )
@@ -35,9 +35,9 @@ pub fn make_choice(
 
 pub fn choose(
     t: u64,
-    times: &mut [u64; 7],
-    sets: &mut [u32; 6],
-    codes: &mut [u8; 9],
+    times: &mut at::Times,
+    sets: &mut at::Sets,
+    codes: &mut at::Codes,
     priority: &[u8; 32],
     columns: &Columns,
 )

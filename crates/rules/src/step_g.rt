@@ -9,7 +9,7 @@ ghost use Prim.Native.Nat.{_-_};
 ghost use Rattle.rules.specs.Kept.{kept};
 ghost use Rattle.rules.specs.Steps.{WantedAt, SetTo, OpenedAt, BegunAt};
 
-fn is_wanted(sets: &[u32; 6], codes: &[u8; 9]) -> bool
+fn is_wanted(sets: &at::Sets, codes: &at::Codes) -> bool
     ensures { λ x. ⌜ WantedAt (now (sets .entry)) (now (codes .entry)) x ⌝ }
 {
     let ready = sets[at::READY];
@@ -29,8 +29,8 @@ fn set_processor(
     work: u8,
     n: u8,
     t: u64,
-    times: &mut [u64; 7],
-    codes: &mut [u8; 9],
+    times: &mut at::Times,
+    codes: &mut at::Codes,
     columns: &Columns,
 )
     ensures { λ _. ⌜ SetTo work n t (now (columns .entry))
@@ -65,9 +65,9 @@ fn swapped(half: u8) -> u8
 fn open_interval(
     t: u64,
     taken: u32,
-    times: &mut [u64; 7],
-    sets: &mut [u32; 6],
-    codes: &mut [u8; 9],
+    times: &mut at::Times,
+    sets: &mut at::Sets,
+    codes: &mut at::Codes,
     priority: &[u8; 32],
     columns: &Columns,
 )
@@ -100,9 +100,9 @@ fn open_interval(
 pub fn begin_interval(
     t: u64,
     taken: u32,
-    times: &mut [u64; 7],
-    sets: &mut [u32; 6],
-    codes: &mut [u8; 9],
+    times: &mut at::Times,
+    sets: &mut at::Sets,
+    codes: &mut at::Codes,
     priority: &[u8; 32],
     columns: &Columns,
 )

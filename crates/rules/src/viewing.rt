@@ -49,7 +49,7 @@ fn half_shown(half: u8) -> u8
     0
 }
 
-fn none_open(sets: &[u32; 6], codes: &[u8; 9]) -> View
+fn none_open(sets: &at::Sets, codes: &at::Codes) -> View
     ensures { λ x. ⌜ NoneOpen (now (sets .entry)) (now (codes .entry)) x ⌝ }
 {
     View {
@@ -69,7 +69,7 @@ fn none_open(sets: &[u32; 6], codes: &[u8; 9]) -> View
     }
 }
 
-fn one_open<'a>(times: &'a [u64; 7], sets: &'a [u32; 6], codes: &'a [u8; 9]) -> View
+fn one_open<'a>(times: &'a at::Times, sets: &'a at::Sets, codes: &'a at::Codes) -> View
     ensures { λ x. ⌜ OneOpen (now (times .entry)) (now (sets .entry)) (now (codes .entry)) x ⌝ }
 {
     let works = is_working(codes[at::PROCESSOR]);
@@ -92,7 +92,7 @@ fn one_open<'a>(times: &'a [u64; 7], sets: &'a [u32; 6], codes: &'a [u8; 9]) -> 
     }
 }
 
-pub fn viewed<'a>(times: &'a [u64; 7], sets: &'a [u32; 6], codes: &'a [u8; 9]) -> View
+pub fn viewed<'a>(times: &'a at::Times, sets: &'a at::Sets, codes: &'a at::Codes) -> View
     ensures { λ x. ⌜ ViewedAt (now (times .entry)) (now (sets .entry)) (now (codes .entry)) x ⌝ }
 {
     if codes[at::COPYIN] == codes::NO_INTERVAL {

@@ -16,9 +16,9 @@ ghost use Rattle.run.specs.Advance.{CopyOutEnds, EndsBefore, EndsAfter, 
 // Step a of the copy-out: the job that is done.
 fn end_copyout(
     t: u64,
-    times: &[u64; 7],
-    sets: &mut [u32; 6],
-    codes: &mut [u8; 9],
+    times: &at::Times,
+    sets: &mut at::Sets,
+    codes: &mut at::Codes,
     release: &[u64; 32],
     blocked: &[u8; 32],
     out: &mut [u8],
@@ -41,9 +41,9 @@ fn end_copyout(
 // Step b: the interval that ends before the releases.
 fn end_before(
     t: u64,
-    times: &mut [u64; 7],
-    sets: &mut [u32; 6],
-    codes: &mut [u8; 9],
+    times: &mut at::Times,
+    sets: &mut at::Sets,
+    codes: &mut at::Codes,
     priority: &[u8; 32],
     blocked: &mut [u8; 32],
     out: &mut [u8],
@@ -67,9 +67,9 @@ fn end_before(
 // Steps e and f: the choice, and the interval that ends after the releases. Where none is open there is nothing to do.
 fn end_after<'a>(
     t: u64,
-    times: &mut [u64; 7],
-    sets: &mut [u32; 6],
-    codes: &mut [u8; 9],
+    times: &mut at::Times,
+    sets: &mut at::Sets,
+    codes: &mut at::Codes,
     priority: &'a [u8; 32],
     columns: &'a Columns,
     blocked: &mut [u8; 32],
@@ -99,9 +99,9 @@ fn end_after<'a>(
 fn steps<'a>(
     t: u64,
     set: u32,
-    times: &mut [u64; 7],
-    sets: &mut [u32; 6],
-    codes: &mut [u8; 9],
+    times: &mut at::Times,
+    sets: &mut at::Sets,
+    codes: &mut at::Codes,
     priority: &'a [u8; 32],
     columns: &'a Columns,
     release: &mut [u64; 32],
@@ -155,9 +155,9 @@ fn steps<'a>(
 // they fit whole. The table's arrays are lent together, and so for one lifetime.
 pub fn advance<'a>(
     rest: &[u8],
-    times: &mut [u64; 7],
-    sets: &mut [u32; 6],
-    codes: &mut [u8; 9],
+    times: &mut at::Times,
+    sets: &mut at::Sets,
+    codes: &mut at::Codes,
     priority: &'a [u8; 32],
     columns: &'a Columns,
     release: &mut [u64; 32],

@@ -1,5 +1,6 @@
 // The releases of a file's run, read from the bytes as their time comes. The slices that are lent have the releases that are left.
 use entries::RELEASE_SIZE;
+use rules::at;
 ghost use Prim.Native.Nat.{_-_, _^_, _<_};
 ghost use Rattle.rules.specs.Steps.{Stands};
 ghost use Rattle.run.specs.Listed.{releases-at};
@@ -38,7 +39,7 @@ pub fn gather(rest: &[u8], t: u64) -> Batch
 }
 
 // When the next instant of a run is: the sooner of its next release and the next due time; the last tick stands for none.
-pub fn next_tick(rest: &[u8], times: &[u64; 7], codes: &[u8; 9]) -> u64
+pub fn next_tick(rest: &[u8], times: &at::Times, codes: &at::Codes) -> u64
     ensures { λ x. ⌜ NextTick (now (rest .entry)) (now (times .entry)) (now (codes .entry)) x ⌝ }
 {
     rules::least(first_tick(rest), rules::due_tick(times, codes))

@@ -1,5 +1,5 @@
-// Drives a dispatcher from standard input. The input is 4 bytes, lowest first, with the length of the opening bytes; the opening
-// bytes, which are task entries; then call entries until the input ends. The lines of the opening and of each call are printed. At the first
+// Drives a dispatcher from standard input. The input is 4 bytes, lowest first, with the length of the opening bytes; the opening bytes,
+// which are task entries; then call entries until the input ends. The lines of the opening and of each call are printed. At the first
 // read or write that fails the program stops, and says so in a line on standard error.
 use dispatcher::Dispatcher;
 use entries::CallEntry;

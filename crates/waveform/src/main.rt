@@ -1,6 +1,6 @@
-// Reads an input on standard input and writes its run as a value change dump to standard output, instant by instant: nothing where the input is
-// refused, and then the R line on standard error says why. A read that fails is no input, and at the first write that fails the program stops;
-// either is said in a line on standard error.
+// Reads an input on standard input and writes its run as a value change dump to standard output, instant by instant: nothing where the
+// input is refused, and then the R line on standard error says why. A read that fails is no input, and at the first write that fails the
+// program stops; either is said in a line on standard error.
 use entries::limits;
 use rules::View;
 use rules::at;

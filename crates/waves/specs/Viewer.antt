@@ -1,5 +1,5 @@
--- A viewer: it reads a value change dump as IEEE 1364 has it, as far as dumps of wires go, and shows each variable's value at every tick. It
--- does not know how a dump is made.
+-- A viewer: it reads a value change dump as IEEE 1364 has it, as far as dumps of wires go, and shows each variable's value at every tick.
+-- It does not know how a dump is made.
 use lib.Dec.{eqb, ltb, leb}
 use mathlib.Core.Bool.{not, _||_}
 use Prim.Native.Nat.{_-_}

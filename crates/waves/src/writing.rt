@@ -7,6 +7,7 @@ use entries::RELEASE_SIZE;
 use entries::limits;
 use record::Outcome;
 use rules::View;
+use rules::at;
 use table::Head;
 use table::Refusal;
 ghost use mathlib.Core.Path.{_≡_};
@@ -59,7 +60,7 @@ fn keep_piece(piece: &[u8], out: &mut [u8], place: usize, keep: bool)
     }
 }
 
-fn shown<'a>(times: &'a [u64; 7], sets: &'a [u32; 6], codes: &'a [u8; 9]) -> Shown
+fn shown<'a>(times: &'a at::Times, sets: &'a at::Sets, codes: &'a at::Codes) -> Shown
     ensures { λ x. ⌜ SeenIn (now (times .entry)) (now (sets .entry)) (now (codes .entry)) x ⌝ }
 {
     let v = rules::viewed(times, sets, codes);
@@ -109,8 +110,8 @@ fn shown_by(v: View) -> Shown
     }
 }
 
-// What an instant adds to a dump, by the views before and after it, for whoever makes one instant by instant: in the front of a slice that has
-// room for any.
+// What an instant adds to a dump, by the views before and after it, for whoever makes one instant by instant: in the front of a slice
+// that has room for any.
 pub fn put_instant(out: &mut [u8], begun: bool, t: u64, before: View, after: View) -> usize
     ensures { λ r. ⌜ PutsInstant «begun» t before after (now (out .entry)) r (now (out .exit)) ⌝ }
 {
