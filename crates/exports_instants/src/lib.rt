@@ -4,10 +4,13 @@
 // one. The names carry the version of the layout, of what a dispatcher keeps and what an answer tells: where it changes they do, so that
 // a program with the header of another layout is not linked.
 use dispatcher::Dispatcher;
+use dispatcher::WORDS;
+use rules::at;
+use table::Columns;
 use table::Refusal;
 ghost use mathlib.Core.Path.{_≡_};
-ghost use Rattle.rules.specs.Kept.{kept, beside, by-task, read};
-ghost use Rattle.dispatcher.specs.Dispatcher.{state-of};
+ghost use Rattle.rules.specs.Kept.{kept, beside, by-task};
+ghost use Rattle.dispatcher.specs.Dispatcher.{kept-of, beside-of};
 ghost use Rattle.exports_instants.specs.Promises.{Answered, Shows, Marked, OpenedAt};
 
 // An instant of the dispatcher that the arrays keep: 0 and what occurred in `told`, or the number of the refusal. What every instant looks
@@ -16,12 +19,12 @@ ghost use Rattle.exports_instants.specs.Promises.{Answered, Shows, Marke
 pub extern "C" fn gateway_instant_v3<'a>(
     time: u64,
     set: u32,
-    times: &mut [u64; 7],
-    sets: &mut [u32; 6],
-    codes: &mut [u8; 9],
-    told: &mut [u64; 19],
+    times: &mut at::Times,
+    sets: &mut at::Sets,
+    codes: &mut at::Codes,
+    told: &mut [u64; WORDS],
     priority: &'a [u8; 32],
-    columns: &'a [u32; 96],
+    columns: &'a Columns,
     release: &mut [u64; 32],
     blocked: &mut [u8; 32],
     waits: &mut [u64; 32],
@@ -59,9 +62,9 @@ pub extern "C" fn gateway_instant_v3<'a>(
 // in registers.
 #[no_mangle]
 pub extern "C" fn gateway_now_v3<'a>(
-    times: &'a [u64; 7],
-    sets: &'a [u32; 6],
-    codes: &'a [u8; 9],
+    times: &'a at::Times,
+    sets: &'a at::Sets,
+    codes: &'a at::Codes,
     ticks: &mut [u64; 4],
     tasks: &mut [u32; 3],
     units: &mut [u8; 6],
@@ -86,7 +89,7 @@ pub extern "C" fn gateway_now_v3<'a>(
 
 // A mark call on the dispatcher whose sets are lent: 0, or the number of the refusal.
 #[no_mangle]
-pub extern "C" fn gateway_mark_v3(sets: &mut [u32; 6], task: u8, mark: u8) -> u8
+pub extern "C" fn gateway_mark_v3(sets: &mut at::Sets, task: u8, mark: u8) -> u8
     ensures { λ r. ⌜ Marked (now (sets .entry)) task mark r (now (sets .exit)) ⌝ }
 {
     let number = dispatcher::mark_refusal(task, mark, sets);
@@ -97,33 +100,35 @@ pub extern "C" fn gateway_mark_v3(sets: &mut [u32; 6], task: u8, mark: u8) -> u8
     0
 }
 
-// A dispatcher into the arrays that keep it.
-fn put_state(
-    d: Dispatcher,
-    times: &mut [u64; 7],
-    sets: &mut [u32; 6],
-    codes: &mut [u8; 9],
-    priority: &mut [u8; 32],
-    columns: &mut [u32; 96],
-    release: &mut [u64; 32],
-    blocked: &mut [u8; 32],
-    waits: &mut [u64; 32],
-)
-    ensures { λ _. ⌜ read (kept (now (times .exit)) (now (sets .exit)) (now (codes .exit)))
-        (beside (now (priority .exit)) (now (columns .exit)) (by-task (now (release .exit)) (now (blocked .exit)) (now (waits .exit))))
-        ≡ state-of d ⌝ }
+// The numbers of a dispatcher into the arrays that keep them.
+fn put_numbers(d: Dispatcher, times: &mut at::Times, sets: &mut at::Sets, codes: &mut at::Codes)
+    ensures { λ _. ⌜ kept (now (times .exit)) (now (sets .exit)) (now (codes .exit)) ≡ kept-of d ⌝ }
 {
     let kept_times = d.times;
     let kept_sets = d.sets;
     let kept_codes = d.codes;
+    *times = kept_times;
+    *sets = kept_sets;
+    *codes = kept_codes;
+}
+
+// What stands beside them, task by task.
+fn put_tasks(
+    d: Dispatcher,
+    priority: &mut [u8; 32],
+    columns: &mut Columns,
+    release: &mut [u64; 32],
+    blocked: &mut [u8; 32],
+    waits: &mut [u64; 32],
+)
+    ensures { λ _. ⌜ beside (now (priority .exit)) (now (columns .exit))
+        (by-task (now (release .exit)) (now (blocked .exit)) (now (waits .exit))) ≡ beside-of d ⌝ }
+{
     let kept_priority = d.priority;
     let kept_columns = d.columns;
     let kept_release = d.release;
     let kept_blocked = d.blocked;
     let kept_waits = d.waits;
-    *times = kept_times;
-    *sets = kept_sets;
-    *codes = kept_codes;
     *priority = kept_priority;
     *columns = kept_columns;
     *release = kept_release;
@@ -135,11 +140,11 @@ fn put_state(
 #[no_mangle]
 pub extern "C" fn gateway_open_v3(
     entries: &[u8],
-    times: &mut [u64; 7],
-    sets: &mut [u32; 6],
-    codes: &mut [u8; 9],
+    times: &mut at::Times,
+    sets: &mut at::Sets,
+    codes: &mut at::Codes,
     priority: &mut [u8; 32],
-    columns: &mut [u32; 96],
+    columns: &mut Columns,
     release: &mut [u64; 32],
     blocked: &mut [u8; 32],
     waits: &mut [u64; 32],
@@ -158,17 +163,8 @@ pub extern "C" fn gateway_open_v3(
     match refusal {
         Refusal::NoRefusal => {
             let state = opening.state;
-            put_state(
-                state,
-                times,
-                sets,
-                codes,
-                priority,
-                columns,
-                release,
-                blocked,
-                waits,
-            );
+            put_numbers(state, times, sets, codes);
+            put_tasks(state, priority, columns, release, blocked, waits);
             0
         }
         Refusal::Alone(number) => number,

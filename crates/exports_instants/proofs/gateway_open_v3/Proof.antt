@@ -1,6 +1,7 @@
 -- `exports_instants::gateway_open_v3` meets its contract: what opening answers, put where it is kept. Assumes nothing.
-use mathlib.Core.Path.{sym, ap}
+use mathlib.Core.Path.{sym, ap, ap₂}
 use Rattle.table.specs.Refusals.{refusal-number}
+use Rattle.rules.specs.Kept.{read}
 use Rattle.exports_instants.proofs.Keeping.{opened-at, not-opened-at, is-alone, is-at-entry}
 use borrow.Author.Needs.{needs}
 use Rattle.exports_instants.proofs.gateway_open_v3.Statement.{statement}
@@ -8,9 +9,11 @@ use Rattle.exports_instants.proofs.gateway_open_v3.Tie as tie
 
 returns : tie.Need-returns
 returns c =
-    let c10 = c .before .before .before .before .before .before .before .before .before .before in
-    let c13 = c10 .before .before .before in
-    opened-at _ _ _ _ _ (c13 .«open» .result) _ (c13 .«open» .ensures) (c10 .enum-told .given .1) (c .put-state .ensures) (c10 .before .before .place-of .ensures)
+    let c6 = c .before .before .before .before .before .before in
+    let c11 = c6 .before .before .before .before .before in
+    let c14 = c11 .before .before .before in
+    opened-at _ _ _ _ _ (c14 .«open» .result) _ (c14 .«open» .ensures) (c11 .enum-told .given .1)
+    (ap₂ read (c6 .put-numbers .ensures) (c .put-tasks .ensures)) (c11 .before .before .place-of .ensures)
 
 returns-2 : tie.Need-returns-2
 returns-2 c =
@@ -26,5 +29,5 @@ pub gateway-open-v3-spec : {M : Type 1} → statement M
 gateway-open-v3-spec =
     tie.close
     (tie.spec
-    (λ c κs. search needs) (λ c κs. search needs) (λ c. search needs) (λ c κs. search needs) (λ c. search needs)
-    (λ c. search needs) returns returns-2 returns-3)
+    (λ c κs. search needs) (λ c κs. search needs) (λ c. search needs) (λ c κs. search needs) (λ c κs. search needs)
+    (λ c. search needs) (λ c. search needs) returns returns-2 returns-3)
