@@ -4,6 +4,7 @@ use mathlib.Core.Path.{_≡_, refl, sym, ap, _∙_, subst}
 use mathlib.Core.Bool.{Bool, true, false, cond, _&&_, _||_, true≢false, false≢true}
 use mathlib.Core.List.{List, [], _∷_, _++_}
 use Rattle.table.specs.declared.Table.{Table}
+use Rattle.entries.specs.declared.JobEntry.{JobEntry}
 use Rattle.entries.specs.declared.MaybeTask.the-variants.{NoTask, Task}
 use Rattle.rules.specs.declared.Due.the-variants.{Never, Tick}
 use Rattle.table.specs.declared.Refusal.the-variants.{NoRefusal}
@@ -23,7 +24,7 @@ use Rattle.rules.specs.Calls.{opening}
 use Rattle.guarantees.specs.History
 use Rattle.rules.specs.declared.Call.{Call}
 use Rattle.guarantees.specs.History.{Event, Takes, history, after-calls, EmptySets}
-use Rattle.guarantees.specs.Queries.{details, is-task, takes, completes, after, first, each, total, upto, situation, NoneOpen, waiting, original, taking, completion}
+use Rattle.guarantees.specs.Queries.{details, is-task, takes, completes, after, first, each, total, upto, situation, NoneOpen, waiting, original, taking, start, waited, intervals, completion}
 use Rattle.guarantees.specs.Claim.{Holds, Completed, TakenLater, AllCompleted, Claim, Demand3}
 use Rattle.sets.proofs.Laws.{by-test, same-task}
 use Rattle.histories.specs.Histories.{task, tasks, three, plans-table, Accepts, Refuses, PlansAccepted, WrongRefused, calls-a, history-a, calls-b, history-b, calls-c, history-c, calls-d, history-d, calls-e, history-e, calls-f, history-f, calls-f′, history-f′, calls-waiting, history-waiting, second-lower, second-finished, thrown-out-runs, third-idle, third-lower, copyout-late, four-intervals, copyout-not-at-once, completion-late, completion-missing, completion-unexecuted, begins-late, no-ticks, not-executed, loaded-late, promoted-early, execution-long, promoted-unmarked, starts-unasked, starts-twice, stops-unstarted, cut-short, one-waits, never-taken, two-wait, waited-unexecuted, before-13, before-17, job-1, Tells, OneEntry, WaitedEntry, taken-late, waits-for-nothing, taken-twice, completed-twice, runs-unreleased, executed-again, another-tick, instants-fall, nobody-promoted, promoted-late, promoted-beside-the-loaded, begins-twice, ends-twice, finishes-twice, gives-way-twice, Marks, calls-one, taken-another, up-to-5, ReleasesRefused, PlanEntries}
@@ -381,6 +382,27 @@ wrong-refused = (
 
 -- ---- the entries
 
+-- an entry that tells the truth, by the place among the events of the taking of its job, which is marked
+tells : (es : List Event) (k taken : ℕ) (e : JobEntry)
+    → es ≡ take k es ++ (Takes (e .task) taken true ∷ drop (k + 1) es)
+    → taking (e .task) (drop (k + 1) es) ≡ Never
+    → e .release ≡ original (waiting (e .task) Never (take k es)) taken
+    → start (e .task) (drop (k + 1) es) ≡ Tick (e .start)
+    → e .blocked ≡ lower-in (plans-table .priority) (e .task) (waited (e .task) (situation NoneOpen (take k es)) (intervals (drop (k + 1) es)))
+    → Tells es (e .completion) e
+tells es k taken e taking-is last-taken release start-is blocked = record {
+  before = take k es;
+  after = drop (k + 1) es;
+  taken = taken;
+  marked = true;
+  taking-is = taking-is;
+  last-taken = last-taken;
+  release = release;
+  execution-start = start-is;
+  completion = refl;
+  blocked = blocked;
+}
+
 -- the walk along a history finds the last job of task 1, and no other
 walked : (es : List Event) (t r s c b : ℕ) (h : Tells es t (job-1 r s c b))
     → Found 1 r (situation NoneOpen (h .before)) (h .after) (tally 1 nothing es)
@@ -408,18 +430,7 @@ job-found = (refl, refl, refl)
 pub one-entry : OneEntry
 unfolding OneEntry before-13 history-b plans-table three after first each until lower-in
 one-entry = (
-  record {
-    before = take 11 before-13;
-    after = drop 12 before-13;
-    taken = 4;
-    marked = true;
-    taking-is = refl;
-    last-taken = refl;
-    release = refl;
-    execution-start = refl;
-    completion = refl;
-    blocked = refl;
-  },
+  tells before-13 11 4 (job-1 4 9 13 1) refl refl refl refl refl,
   λ h. other-tick 4 3 (λ e. omega arith) (sym (job-found .0) ∙ its-release before-13 13 3 9 13 1 h),
   λ h. other-tick 9 8 (λ e. omega arith) (sym (job-found .1) ∙ its-start before-13 13 4 8 13 1 h),
   λ h. let e : _≡_ {A = ℕ} 12 13 = h .completion in omega arith,
@@ -434,18 +445,7 @@ waited-found = (refl, refl)
 pub waited-entry : WaitedEntry
 unfolding WaitedEntry before-17 history-waiting plans-table three after first each until lower-in
 waited-entry = (
-  record {
-    before = take 26 before-17;
-    after = drop 27 before-17;
-    taken = 11;
-    marked = true;
-    taking-is = refl;
-    last-taken = refl;
-    release = refl;
-    execution-start = refl;
-    completion = refl;
-    blocked = refl;
-  },
+  tells before-17 26 11 (job-1 3 13 17 0) refl refl refl refl refl,
   λ h. other-tick 3 11 (λ e. omega arith) (sym (waited-found .0) ∙ its-release before-17 17 11 13 17 0 h),
   λ h. other-tick 3 2 (λ e. omega arith) (sym (waited-found .0) ∙ its-release before-17 17 2 13 17 0 h),
   λ h. let e : _≡_ {A = ℕ} 1 0 = its-count before-17 17 3 13 17 1 h ∙ waited-found .1 in omega arith,

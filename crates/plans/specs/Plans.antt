@@ -95,27 +95,23 @@ record-E =
     job 1 2 6 10 1 ++
     interval 9 10 1 none 0 1 none 0 none
 
--- 4/13: "Plan F then runs as F' does, with its second job shown as released at 5": 174 bytes
-unfoldable pub record-F : List ℕ
-record-F =
+-- task 1 alone, its first job released at 0 and its second shown as released at r, up to the second one's completion
+unfoldable pub two-jobs : ℕ → List ℕ
+two-jobs r =
     interval 0 2 0 none 0 none 1 1 none ++
     interval 2 5 1 1 1 none none 0 none ++
     job 1 0 2 6 0 ++
     interval 5 8 0 none 0 1 1 1 none ++
     interval 8 11 1 1 1 none none 0 none ++
-    job 1 5 8 12 0 ++
-    interval 11 12 0 none 0 1 none 0 none
+    job 1 r 8 12 0
+
+-- 4/13: "Plan F then runs as F' does, with its second job shown as released at 5": 174 bytes
+unfoldable pub record-F : List ℕ
+record-F = two-jobs 5 ++ interval 11 12 0 none 0 1 none 0 none
 
 -- plan F': 174 bytes
 unfoldable pub record-F′ : List ℕ
-record-F′ =
-    interval 0 2 0 none 0 none 1 1 none ++
-    interval 2 5 1 1 1 none none 0 none ++
-    job 1 0 2 6 0 ++
-    interval 5 8 0 none 0 1 1 1 none ++
-    interval 8 11 1 1 1 none none 0 none ++
-    job 1 6 8 12 0 ++
-    interval 11 12 0 none 0 1 none 0 none
+record-F′ = two-jobs 6 ++ interval 11 12 0 none 0 1 none 0 none
 
 -- ---- The records of 2/13
 

@@ -3,19 +3,14 @@ use mathlib.Core.List.{List, [], _∷_, _++_}
 use Prim.Native.Nat.{ℕ}
 use Rattle.rules.specs.declared.Call.the-variants.{Instant, Mark}
 use Rattle.plans.specs.Rows.{Row, recorded, answered, answered-behind}
-use Rattle.plans.specs.Plans.{release, tasks, none, interval, job, skipped}
+use Rattle.plans.specs.Plans.{release, tasks, none, interval, job, skipped, two-jobs}
 
 -- ---- The records
 
 -- at 6 the release that came at 5 is taken, and that of this instant waits in its turn: 249 bytes
 unfoldable pub record-in-its-turn : List ℕ
 record-in-its-turn =
-    interval 0 2 0 none 0 none 1 1 none ++
-    interval 2 5 1 1 1 none none 0 none ++
-    job 1 0 2 6 0 ++
-    interval 5 8 0 none 0 1 1 1 none ++
-    interval 8 11 1 1 1 none none 0 none ++
-    job 1 5 8 12 0 ++
+    two-jobs 5 ++
     interval 11 14 0 none 0 1 1 1 none ++
     interval 14 17 1 1 1 none none 0 none ++
     job 1 6 14 18 0 ++
@@ -64,14 +59,7 @@ record-from-the-taking =
 
 -- the calls of the row for 17: as plan F, with the release at 3
 unfoldable pub record-marks : List ℕ
-record-marks =
-    interval 0 2 0 none 0 none 1 1 none ++
-    interval 2 5 1 1 1 none none 0 none ++
-    job 1 0 2 6 0 ++
-    interval 5 8 0 none 0 1 1 1 none ++
-    interval 8 11 1 1 1 none none 0 none ++
-    job 1 3 8 12 0 ++
-    interval 11 12 0 none 0 1 none 0 none
+record-marks = two-jobs 3 ++ interval 11 12 0 none 0 1 none 0 none
 
 -- ---- States that no calls make
 --

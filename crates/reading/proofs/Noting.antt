@@ -67,18 +67,23 @@ module _ (n : Noted) (t : Telling) (keys : List ℕ) where
   }
 
   module _ (e : t .counts ≡ true) (f : (t .release .task < 256) × (t .release .time < 2 ^ 64)) where
-    -- more than there is room for
-    pub notes-full : length keys ≤ n .count → NotesMore n t keys (record { count = n .count; possible = false }) keys
-    notes-full l = record {
+    -- one that cannot be noted, whatever came before it
+    notes-not : ((rs : List Release) → Notes rs n keys → AllEarly (rs ++ (r ∷ [])) → length (rs ++ (r ∷ [])) ≤ length keys → ⊥)
+        → NotesMore n t keys (record { count = n .count; possible = false }) keys
+    notes-not none = record {
       same-length = refl;
       within = λ h. h;
       more = λ rs h. rw e (record {
         fit = fit-more rs r (h .fit) f;
         within = h .within;
         noted = λ x. absurd (false≢true x);
-        not = λ x early few. go rs h (early-less rs r early .0) (omega (arith, longer rs r)) (n .possible) refl;
+        not = λ x. none rs h;
       });
     }
+
+    -- more than there is room for
+    pub notes-full : length keys ≤ n .count → NotesMore n t keys (record { count = n .count; possible = false }) keys
+    notes-full l = notes-not (λ rs h early few. go rs h (early-less rs r early .0) (omega (arith, longer rs r)) (n .possible) refl)
       where
         go : (rs : List Release) → Notes rs n keys → AllEarly rs → length rs < length keys → (b : Bool) → n .possible ≡ b → ⊥
         go rs h early few true x =
@@ -87,16 +92,7 @@ module _ (n : Noted) (t : Telling) (keys : List ℕ) where
 
     -- one that is too late
     pub notes-late : 1000000000 < t .release .time → NotesMore n t keys (record { count = n .count; possible = false }) keys
-    notes-late l = record {
-      same-length = refl;
-      within = λ h. h;
-      more = λ rs h. rw e (record {
-        fit = fit-more rs r (h .fit) f;
-        within = h .within;
-        noted = λ x. absurd (false≢true x);
-        not = λ x early few. omega (arith, early-less rs r early .1);
-      });
-    }
+    notes-late l = notes-not (λ rs h early few. omega (arith, early-less rs r early .1))
 
     pub notes-one : n .count < length keys → t .release .time ≤ 1000000000
         → NotesMore n t keys (record { count = n .count + 1; possible = n .possible }) (set keys (n .count) (key (t .release)))
