@@ -15,11 +15,11 @@ use Rattle.entries.specs.Limits as limits
 use Rattle.table.specs.Head.{behind-head, task-refusal, with-task, with-marked, head-from, head-of}
 use Rattle.table.proofs.Laws.{head-within}
 use Rattle.table.specs.declared.Table.{Table}
-use Rattle.record.specs.Types.{TaskParameters, Release, Entry, Malformed, TaskEntry, ReleaseEntry, Last, NoneBefore, Before, Head, Refusal, NoRefusal, Alone, AtEntry, RefusedInput, TooShort, Recorded}
+use Rattle.record.specs.Types.{TaskParameters, Release, Entry, Malformed, TaskEntry, ReleaseEntry, Last, NoneBefore, Before, Head, Refusal, NoRefusal, Alone, AtEntry, Outcome, RefusedInput, TooShort, Recorded}
 use Rattle.run.specs.Files.{Checked, Rejected, Releases, refusal-of, with-release, release-refusal, releases-from, releases-behind, releases-of, head-unless, file-head}
 use Rattle.run.specs.Listed.{releases-at}
 use Rattle.run.specs.Run.{moments-of, record-bytes}
-use Rattle.record.specs.Writing.{Wrote, written, written-of, file}
+use Rattle.record.specs.Writing.{Written, outcome-number, outcome-value, Wrote, WroteInNumbers, written, written-of, file}
 use Rattle.record.specs.Cursor.{start, Served, run-bytes, budget-at, Runs, ReadWhole}
 use Rattle.run.proofs.Checking.{release-whole, few, passed-on, takes}
 use Rattle.run.proofs.Listing.{here, none, how-many}
@@ -27,6 +27,9 @@ use Rattle.record.proofs.Bound.{record-bound}
 use Rattle.record.proofs.FileClaim.{fed-file}
 
 -- ---- the outcomes
+
+pub in-numbers : {w : Written} {outcome : Outcome} {memory : List ℕ} → Wrote w outcome memory → WroteInNumbers w outcome memory
+in-numbers e = record { wrote = e; number = ap outcome-number (e .outcome-is); value = ap outcome-value (e .outcome-is) }
 
 module _ (bytes before : List ℕ) where
   pub fits : (size : ℕ) (after : List ℕ) → size ≡ length bytes → length bytes ≤ length before → after ≡ laid 0 bytes before → Wrote (written bytes before) (Recorded size) after
@@ -218,6 +221,12 @@ module _ (s : List ℕ) (k : Head) (is : k ≡ file-head s) where
       }
       late some e (Alone m) g f = absurd (alone {r = Alone m} refl (sym (ap (λ (x : Head). x .refusal) f) ∙ h))
       late some e (AtEntry m at) g f = absurd (at-entry {r = AtEntry m at} refl (sym (ap (λ (x : Head). x .refusal) f) ∙ h))
+
+  pub runs-whole : k .refusal ≡ NoRefusal → Runs s (start k)
+  runs-whole h = runs s k (accepted-whole h .whole) (accepted-whole h .releases)
+
+  pub record-whole : k .refusal ≡ NoRefusal → (lent : List ℕ) → file s lent ≡ written (run-bytes s (start k) (budget-at s (start k))) lent
+  record-whole h = whole-file s k (accepted-whole h .whole) (accepted-whole h .releases)
 
   pub refused-whole : (lent : List ℕ) (r : Refusal) → k .refusal ≡ r → (r ≡ NoRefusal → ⊥) → Wrote (file s lent) (RefusedInput r) lent
   refused-whole lent r h n =

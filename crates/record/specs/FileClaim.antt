@@ -20,7 +20,7 @@ use Rattle.guarantees.specs.Entries.{skips, done, completions, closed}
 use Rattle.guarantees.specs.Claim.{Claim, AllCompleted}
 use Rattle.run.specs.Files.{Releases, releases-of}
 use Rattle.run.specs.Run.{Moment, first-time, released-at, released-after, moments-of}
-use Rattle.record.specs.Writing.{Wrote, file, outcome-number, outcome-value}
+use Rattle.record.specs.Writing.{WroteInNumbers, file}
 
 -- ---- The calls that feed a file to the dispatcher by instants
 
@@ -117,8 +117,5 @@ AcceptedWithClaim s = (rs : List Release) → releases-of s ≡ Releases rs → 
 
 -- what comes of an input and a lent slice, and the claim for the run of the input where it is accepted
 pub record WroteWithClaim (s before : List ℕ) (outcome : Outcome) (after : List ℕ) : Type 0 where
-  pub wrote : Wrote (file s before) outcome after
-  -- and in document 01's numbers: the refusal's, and the place, the length needed or the record's length
-  pub number : outcome-number outcome ≡ outcome-number (file s before .outcome)
-  pub value : outcome-value outcome ≡ outcome-value (file s before .outcome)
+  pub answered : WroteInNumbers (file s before) outcome after
   pub claim : AcceptedWithClaim s

@@ -42,3 +42,9 @@ file s lent = written-of s lent (releases-of s)
 pub record Wrote (w : Written) (outcome : Outcome) (memory : List ℕ) : Type 0 where
   pub outcome-is : outcome ≡ w .outcome
   pub holds : memory ≡ w .memory
+
+-- and in document 01's numbers: the refusal's, and the place, the length needed or the length of what was written
+pub record WroteInNumbers (w : Written) (outcome : Outcome) (memory : List ℕ) : Type 0 where
+  pub wrote : Wrote w outcome memory
+  pub number : outcome-number outcome ≡ outcome-number (w .outcome)
+  pub value : outcome-value outcome ≡ outcome-value (w .outcome)

@@ -1,7 +1,7 @@
 -- What a viewer shows of a dump.
 use mathlib.Core.Path.{_≡_}
 use Rattle.run.specs.Files.{Releases, releases-of}
-use Rattle.record.specs.Writing.{Wrote, outcome-number, outcome-value}
+use Rattle.record.specs.Writing.{WroteInNumbers}
 use Rattle.waves.specs.Types.{true, false, List, [], _∷_, ℕ, Release, Outcome, Shown}
 use Rattle.waves.specs.Dump.{Sample, ascii, dump}
 use Rattle.waves.specs.Samples.{shown-of, samples-of, values-at}
@@ -44,7 +44,5 @@ AcceptedViews s =
 -- ---- On a promise: what comes of an input and a lent slice, in document 01's numbers too, and what a viewer shows of an input's dump
 
 pub record WroteWithViews (s before : List ℕ) (outcome : Outcome) (after : List ℕ) : Type 0 where
-  pub wrote : Wrote (dumped s before) outcome after
-  pub number : outcome-number outcome ≡ outcome-number (dumped s before .outcome)
-  pub value : outcome-value outcome ≡ outcome-value (dumped s before .outcome)
+  pub answered : WroteInNumbers (dumped s before) outcome after
   pub views : AcceptedViews s

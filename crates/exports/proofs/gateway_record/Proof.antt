@@ -1,7 +1,6 @@
 -- `exports::gateway_record` meets its contract: what `record::write` answers, as two numbers. Assumes nothing.
-use mathlib.Core.Path.{_∙_, ap}
+use mathlib.Core.Path.{_∙_}
 use borrow.Author.Needs.{needs}
-use Rattle.record.specs.Writing.{outcome-number, outcome-value}
 use Rattle.exports.proofs.gateway_record.Statement.{statement}
 use Rattle.exports.proofs.gateway_record.Tie as tie
 
@@ -20,8 +19,8 @@ same-length c = search needs
 returns : tie.Need-returns
 returns c =
     let write = c .before .before .before .before .write .ensures in
-    let wrote = write .wrote in
-    (c .number-of .ensures ∙ ap outcome-number (wrote .outcome-is), (c .before .value-of .ensures ∙ ap outcome-value (wrote .outcome-is), (wrote .holds, write .claim)))
+    let answered = write .answered in
+    (c .number-of .ensures ∙ answered .number, (c .before .value-of .ensures ∙ answered .value, (answered .wrote .holds, write .claim)))
 
 pub gateway-record-spec : {M : Type 1} → statement M
 gateway-record-spec = tie.close (tie.spec write-requires value-of-requires number-of-requires same-length returns)

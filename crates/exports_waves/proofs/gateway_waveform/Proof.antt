@@ -1,7 +1,6 @@
 -- `exports_waves::gateway_waveform` meets its contract: what `waves::write` answers, as two numbers. Assumes nothing.
-use mathlib.Core.Path.{_∙_, ap}
+use mathlib.Core.Path.{_∙_}
 use borrow.Author.Needs.{needs}
-use Rattle.record.specs.Writing.{outcome-number, outcome-value}
 use Rattle.exports_waves.proofs.gateway_waveform.Statement.{statement}
 use Rattle.exports_waves.proofs.gateway_waveform.Tie as tie
 
@@ -20,8 +19,8 @@ same-length c = search needs
 returns : tie.Need-returns
 returns c =
     let write = c .before .before .before .before .write .ensures in
-    let wrote = write .wrote in
-    (c .number-of .ensures ∙ ap outcome-number (wrote .outcome-is), (c .before .value-of .ensures ∙ ap outcome-value (wrote .outcome-is), (wrote .holds, write .views)))
+    let answered = write .answered in
+    (c .number-of .ensures ∙ answered .number, (c .before .value-of .ensures ∙ answered .value, (answered .wrote .holds, write .views)))
 
 pub gateway-waveform-spec : {M : Type 1} → statement M
 gateway-waveform-spec = tie.close (tie.spec write-requires value-of-requires number-of-requires same-length returns)

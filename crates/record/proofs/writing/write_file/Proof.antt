@@ -1,6 +1,6 @@
 -- `record::write_file` meets its contract: by what checking the file found. Assumes nothing.
 use mathlib.Core.Path.{refl}
-use Rattle.record.proofs.Outcomes.{accepted-whole, refused-whole, runs, whole-file, alone, at-entry}
+use Rattle.record.proofs.Outcomes.{runs-whole, record-whole, refused-whole, alone, at-entry}
 use borrow.Author.Needs.{needs}
 use Rattle.record.proofs.writing.write_file.Statement.{statement}
 use Rattle.record.proofs.writing.write_file.Tie as tie
@@ -9,34 +9,11 @@ use Rattle.record.proofs.writing.write_file.Lts as lts
 use Rattle.record.proofs.writing.write_run.Reads as write-run-reads
 use Rattle.run.proofs.check_file.Reads as check-file-reads
 
-check-file-requires : tie.Need-check-file-requires
-check-file-requires c κs = search needs
-
-enum-told : tie.Need-enum-told
-enum-told c = search needs
-
-write-run-requires : tie.Need-write-run-requires
-write-run-requires c κs =
-    let check = c .before .before .before .check-file in
-    let s = c .before .before .before .before .before .before .args .s .now in
-    let read = accepted-whole s (check .result) (check .ensures) (c .before .enum-told .given .1) in
-    runs s (check .result) (read .whole) (read .releases)
-
-enum-told-2 : tie.Need-enum-told-2
-enum-told-2 c = search needs
-
-enum-told-3 : tie.Need-enum-told-3
-enum-told-3 c = search needs
-
-same-length : tie.Need-same-length
-same-length c = search needs
-
 returns : tie.Need-returns
 returns c =
     let check = c .before .before .before .before .before .before .check-file in
     let a = c .before .before .before .before .before .before .before .before .before .args in
-    let read = accepted-whole (a .s .now) (check .result) (check .ensures) (c .before .before .before .before .enum-told .given .1) in
-    rw (whole-file (a .s .now) (check .result) (read .whole) (read .releases) (a .out .now)) (c .before .before .write-run .ensures)
+    rw (record-whole (a .s .now) (check .result) (check .ensures) (c .before .before .before .before .enum-told .given .1) (a .out .now)) (c .before .before .write-run .ensures)
 
 returns-2 : tie.Need-returns-2
 returns-2 c =
@@ -54,12 +31,6 @@ pub write-file-spec : {M : Type 1} → statement M
 write-file-spec =
     tie.close
     (tie.spec
-    check-file-requires
-    enum-told
-    write-run-requires
-    enum-told-2
-    enum-told-3
-    same-length
-    returns
-    returns-2
-    returns-3)
+    (λ c κs. search needs) (λ c. search needs)
+    (λ c κs. runs-whole _ _ (c .before .before .before .check-file .ensures) (c .before .enum-told .given .1))
+    (λ c. search needs) (λ c. search needs) (λ c. search needs) returns returns-2 returns-3)
