@@ -35,17 +35,14 @@ fn served(d: Dispatcher, t: u64, set: u32) -> Step
         &mut waits,
         &mut told,
     );
-    let priority = d.priority;
-    let columns = d.columns;
     let next = Dispatcher {
         times,
         release,
         waits,
         sets,
-        columns,
         codes,
-        priority,
         blocked,
+        ..d
     };
     Step {
         state: next,

@@ -123,17 +123,7 @@ pub fn steps<'a>(
     let first = end_before(t, times, sets, codes, priority, blocked, told);
     let r = rules::released(sets[at::PENDING], sets[at::WAITING], set);
     let held = rules::held_over(codes, r.taken);
-    rules::take_releases(
-        t,
-        r.taken,
-        r.deferred,
-        sets,
-        codes,
-        priority,
-        release,
-        blocked,
-        waits,
-    );
+    rules::take_releases(t, r, sets, codes, priority, release, blocked, waits);
     let last = end_after(t, times, sets, codes, priority, columns, blocked, told);
     rules::begin_interval(t, held, times, sets, codes, priority, columns);
     let next = tell_due(times, codes, told);

@@ -1,6 +1,7 @@
 // d. If a marked release was taken whose priority is higher than that of a copy-in under way on the engine, this copy-in is
 // cancelled and its job is ready again (R3). It also throws out a lower-priority copy-in that the engine has already finished in the
 // open interval.
+use crate::ReleaseFates;
 use crate::arrays::defer;
 use crate::arrays::take;
 use crate::at;
@@ -64,13 +65,12 @@ fn sets_fit(sets: &at::Sets)
     fits(sets[at::WAITING]);
 }
 
-// Steps c and d, with the tasks whose release is taken and those whose release waits. Most instants of a run have no release, and then
+// Steps c and d, by what becomes of the releases: some are taken, and some wait. Most instants of a run have no release, and then
 // nothing changes. The jobs that are taken are pending and ready, and the marked ones candidates in the open interval; where none is open,
 // nothing reads the candidates.
 pub fn take_releases(
     t: u64,
-    taken: u32,
-    deferred: u32,
+    r: ReleaseFates,
     sets: &mut at::Sets,
     codes: &mut at::Codes,
     priority: &[u8; 32],
@@ -78,10 +78,12 @@ pub fn take_releases(
     blocked: &mut [u8; 32],
     waits: &mut [u64; 32],
 )
-    ensures { λ _. ⌜ TakesAt t taken deferred (now (priority .entry))
+    ensures { λ _. ⌜ TakesAt t (r .taken) (r .deferred) (now (priority .entry))
         (now (sets .entry)) (now (codes .entry)) (by-task (now (release .entry)) (now (blocked .entry)) (now (waits .entry)))
         (now (sets .exit)) (now (codes .exit)) (by-task (now (release .exit)) (now (blocked .exit)) (now (waits .exit))) ⌝ }
 {
+    let taken = r.taken;
+    let deferred = r.deferred;
     if sets::union(taken, deferred) == 0 {
         sets_fit(sets);
         return;

@@ -11,7 +11,7 @@ use rules::codes;
 use table::Columns;
 ghost use Prim.Native.Nat.{_≤_, _<_, _-_, _^_};
 ghost use Rattle.rules.specs.Kept.{kept, by-task, beside};
-ghost use Rattle.run.specs.Advance.{CopyOutEnds, EndsBefore, EndsAfter, Steps, Advances};
+ghost use Rattle.run.specs.Advance.{CopyOutEnds, EndsBefore, EndsAfter, Advances};
 
 // Step a of the copy-out: the job that is done.
 fn end_copyout(
@@ -95,64 +95,8 @@ fn end_after<'a>(
     place
 }
 
-// Steps a to g: the place behind the entries.
-fn steps<'a>(
-    t: u64,
-    set: u32,
-    times: &mut at::Times,
-    sets: &mut at::Sets,
-    codes: &mut at::Codes,
-    priority: &'a [u8; 32],
-    columns: &'a Columns,
-    release: &mut [u64; 32],
-    blocked: &mut [u8; 32],
-    waits: &mut [u64; 32],
-    out: &mut [u8],
-) -> usize
-    ensures { λ x. ⌜ Steps t set
-        (kept (now (times .entry)) (now (sets .entry)) (now (codes .entry)))
-        (beside (now (priority .entry)) (now (columns .entry))
-        (by-task (now (release .entry)) (now (blocked .entry)) (now (waits .entry))))
-        (now (out .entry)) x
-        (kept (now (times .exit)) (now (sets .exit)) (now (codes .exit)))
-        (beside (now (priority .entry)) (now (columns .entry)) (by-task (now (release .exit)) (now (blocked .exit)) (now (waits .exit))))
-        (now (out .exit)) ⌝ }
-{
-    rules::stamp(t, times, sets, codes);
-    let done = end_copyout(t, times, sets, codes, release, blocked, out);
-    rules::others_end(t, times, codes, columns);
-    let first = end_before(t, times, sets, codes, priority, blocked, out, done);
-    let r = rules::released(sets[at::PENDING], sets[at::WAITING], set);
-    let skipped = skips_at(out, first, r.skipped, t);
-    let held = rules::held_over(codes, r.taken);
-    rules::take_releases(
-        t,
-        r.taken,
-        r.deferred,
-        sets,
-        codes,
-        priority,
-        release,
-        blocked,
-        waits,
-    );
-    let last = end_after(
-        t,
-        times,
-        sets,
-        codes,
-        priority,
-        columns,
-        blocked,
-        out,
-        skipped,
-    );
-    rules::begin_interval(t, held, times, sets, codes, priority, columns);
-    last
-}
-
-// The next instant of a run: `rest` has the releases that are left. The entries that it leaves are put into the front of `out`, as far as
-// they fit whole. The table's arrays are lent together, and so for one lifetime.
+// The next instant of a run, steps a to g: `rest` has the releases that are left. The entries that it leaves are put into the front of
+// `out`, as far as they fit whole. The table's arrays are lent together, and so for one lifetime.
 pub fn advance<'a>(
     rest: &[u8],
     times: &mut at::Times,
@@ -174,30 +118,37 @@ pub fn advance<'a>(
         (beside (now (priority .entry)) (now (columns .entry)) (by-task (now (release .exit)) (now (blocked .exit)) (now (waits .exit))))
         (now (out .exit)) ⌝ }
 {
-    let time = next_tick(rest, times, codes);
-    if time == u64::MAX {
+    let t = next_tick(rest, times, codes);
+    if t == u64::MAX {
         return Advanced {
-            time,
+            time: t,
             read: 0,
             size: 0,
         };
     }
-    let batch = gather(rest, time);
-    let size = steps(
-        time,
-        batch.set,
+    let batch = gather(rest, t);
+    rules::stamp(t, times, sets, codes);
+    let done = end_copyout(t, times, sets, codes, release, blocked, out);
+    rules::others_end(t, times, codes, columns);
+    let first = end_before(t, times, sets, codes, priority, blocked, out, done);
+    let r = rules::released(sets[at::PENDING], sets[at::WAITING], batch.set);
+    let skipped = skips_at(out, first, r.skipped, t);
+    let held = rules::held_over(codes, r.taken);
+    rules::take_releases(t, r, sets, codes, priority, release, blocked, waits);
+    let size = end_after(
+        t,
         times,
         sets,
         codes,
         priority,
         columns,
-        release,
         blocked,
-        waits,
         out,
+        skipped,
     );
+    rules::begin_interval(t, held, times, sets, codes, priority, columns);
     Advanced {
-        time,
+        time: t,
         read: batch.read,
         size,
     }

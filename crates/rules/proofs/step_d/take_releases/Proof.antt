@@ -13,12 +13,12 @@ returns : tie.Need-returns
 returns c times columns w =
     let u = c .before .before .before in
     let a = u .before .args in
-    let z = union-empty (a .taken) (a .deferred) (search needs) (search needs) (sym (u .union .ensures) ∙ c .before .before .if1 .taken) in
+    let z = union-empty (a .r .taken) (a .r .deferred) (search needs) (search needs) (sym (u .union .ensures) ∙ c .before .before .if1 .taken) in
     let k = kept times (a .sets .now) (a .codes .now) in
     let s = c .sets-fit .ensures in
     record {
       whole = w;
-      state = none-released (memory-in k (beside (a .priority .now) columns (by-task (a .release .now) (a .blocked .now) (a .waits .now)))) (registers-in k) (a .t) (a .taken) (a .deferred)
+      state = none-released (memory-in k (beside (a .priority .now) columns (by-task (a .release .now) (a .blocked .now) (a .waits .now)))) (registers-in k) (a .t) (a .r .taken) (a .r .deferred)
           (s .pending-fits) (s .ready-fits) (s .candidates-fit) (s .waiting-fits) (z .0) (z .1);
     }
 
@@ -34,7 +34,7 @@ returns-2 c times columns w =
     let e = c2 .before in
     let k = e .before in
     let a = k .before .before .before .before .before .before .before .args in
-    let m = releases-taken (a .priority .now) columns (by-task (a .release .now) (a .blocked .now) (a .waits .now)) _ (a .t) (a .taken) (a .deferred)
+    let m = releases-taken (a .priority .now) columns (by-task (a .release .now) (a .blocked .now) (a .waits .now)) _ (a .t) (a .r .taken) (a .r .deferred)
     (e .difference .result) (c2 .union2 .result) (c3 .union3 .result) (c4 .union4 .result) (i .intersection .result) (c5 .union5 .result)
     (kept times (a .sets .now) (a .codes .now)) w (e .difference .ensures) (c2 .union2 .ensures) (c3 .union3 .ensures) (c4 .union4 .ensures) (i .intersection .ensures) (c5 .union5 .ensures)
     (k .take .ensures .0) (k .take .ensures .1) (d .defer .ensures) in

@@ -1,7 +1,15 @@
--- `run::advance` meets its contract: the next instant's time and releases, and its steps. Assumes nothing.
-use mathlib.Core.Path.{refl}
+-- `run::advance` meets its contract: the next instant's time and releases, and the steps, one behind the other. Assumes nothing.
+use mathlib.Core.Path.{refl, _∙_, ap}
+use mathlib.Core.List.{[]}
+use native.Mathlib.Omega.{arith}
+use Rattle.rules.specs.declared.ReleaseFates.{ReleaseFates}
 use Rattle.rules.specs.Registers.{state-in}
+use Rattle.rules.specs.Instant.{taken, deferred, skipped}
+use Rattle.rules.specs.Kept.{kept, by-task, beside, read}
+use Rattle.rules.proofs.Instants.{Left, left}
+use Rattle.run.proofs.Slices.{skips-most}
 use Rattle.run.proofs.Advancing.{with-set}
+use Rattle.run.proofs.InOrder.{all-put, job-most, span-place}
 use borrow.Author.Needs.{needs}
 use Rattle.run.proofs.instant.advance.Statement.{statement}
 use Rattle.run.proofs.instant.advance.Tie as tie
@@ -14,20 +22,84 @@ returns c = record {
   made = λ e. absurd (e (c .if1 .taken));
 }
 
-gather-requires : tie.Need-gather-requires
-gather-requires c κs = search needs
+-- little is put before: a job, an interval, 32 skipped releases
+end-before-requires : tie.Need-end-before-requires
+end-before-requires c κs =
+    let at = c .before .before .before .before .before .before .before .before .before .before .before .before .before .before .before .before .before .stamp .ensures (beside [] [] (by-task [] [] [])) in
+    let o = c .before .before .before .before .before .before .before .before .before .before .end-copyout .ensures [] [] [] (at .whole) in
+    omega (arith, job-most o)
+
+skips-at-requires : tie.Need-skips-at-requires
+skips-at-requires c κs =
+    let at = c .before .before .before .before .before .before .before .before .before .before .before .before .before .before .before .before .before .before .before .before .before .before .before .before .stamp .ensures (beside [] [] (by-task [] [] [])) in
+    let o = c .before .before .before .before .before .before .before .before .before .before .before .before .before .before .before .before .before .end-copyout .ensures [] [] [] (at .whole) in
+    let a = c .before .before .before .before .before .before .before .before .before .before .before .before .others-end .ensures [] _ (o .copies .no-more) (by-task [] [] []) (o .copies .whole) in
+    let b = c .before .before .before .before .before .before .end-before .ensures [] [] [] (a .whole) in
+    omega (arith, job-most o, span-place b)
+
+end-after-requires : tie.Need-end-after-requires
+end-after-requires c κs =
+    let c15 = c .before .before .before .before .before .before .before .before .before .before .before .before .before .before .before in
+    let c22 = c15 .before .before .before .before .before .before .before in
+    let c28 = c22 .before .before .before .before .before .before in
+    let c40 = c28 .before .before .before .before .before .before .before .before .before .before .before .before in
+    let at = c40 .stamp .ensures (beside [] [] (by-task [] [] [])) in
+    let o = c28 .before .before .before .before .before .end-copyout .ensures [] [] [] (at .whole) in
+    let a = c28 .others-end .ensures [] _ (o .copies .no-more) (by-task [] [] []) (o .copies .whole) in
+    let b = c22 .end-before .ensures [] [] [] (a .whole) in
+    omega (arith, job-most o, span-place b, c15 .skips-at .ensures .place-is, skips-most 32 (c15 .before .before .released .result .skipped) (c40 .before .before .before .before .before .before .next-tick .result))
+
+same-length : tie.Need-same-length
+same-length c =
+    let c21 = c .before .before .before .before .before .before .before .before .before .before .before .before .before .before .before .before .before .before .before .before .before in
+    let c28 = c21 .before .before .before .before .before .before .before in
+    let c39 = c28 .before .before .before .before .before .before .before .before .before .before .before in
+    c .before .before .before .before .before .out4 .given ∙ c21 .out3 .given ∙ c28 .out2 .given ∙ c39 .out .given
 
 returns-2 : tie.Need-returns-2
-unfolding state-in
+unfolding state-in taken deferred skipped
 returns-2 c =
-    let s = c .before .before .before .before .before .before .before .before .before .before .before .before .before .before .before .before .before .args in
-    let g = c .before .before .before .before .before .before .before .before .before .before .gather .ensures in
+    let c6 = c .before .before .before .before .before .before in
+    let c12 = c6 .before .before .before .before .before .before in
+    let c18 = c12 .before .before .before .before .before .before in
+    let c24 = c18 .before .before .before .before .before .before in
+    let c29 = c24 .before .before .before .before .before in
+    let c35 = c29 .before .before .before .before .before .before in
+    let c47 = c35 .before .before .before .before .before .before .before .before .before .before .before .before in
+    let c53 = c47 .before .before .before .before .before .before in
+    let s = c53 .before .before .before .before .before .args in
+    let t = c53 .next-tick .result in
+    let batch = c47 .before .before .before .before .gather in
+    let o₀ = by-task (s .release .now) (s .blocked .now) (s .waits .now) in
+    let at = c47 .stamp .ensures (beside (s .priority .now) (s .columns .now) o₀) in
+    let o = c35 .before .before .before .before .before .end-copyout .ensures (s .priority .now) (s .columns .now) (s .waits .now) (at .whole) in
+    let a = c35 .others-end .ensures (s .priority .now) _ (o .copies .no-more) o₀ (o .copies .whole) in
+    let b = c29 .end-before .ensures (s .columns .now) (s .release .now) (s .waits .now) (a .whole) in
+    let x = c12 .take-releases .ensures _ (s .columns .now) (b .whole) in
+    let f = c6 .end-after .ensures _ _ (x .whole) in
+    let g = c .begin-interval .ensures _ (f .whole) in
+    let d = read (kept (s .times .now) (s .sets .now) (s .codes .now)) (beside (s .priority .now) (s .columns .now) o₀) in
+    let r = c24 .released .ensures in
+    let h : Left d t (batch .result .set) _ _ _ _ _ _ _ _ _ = record {
+      timed-is = at .state;
+      a-is = a .state ∙ o .copies .state;
+      b-is = b .state;
+      taken-is = ap (λ (z : ReleaseFates). z .taken) r;
+      deferred-is = ap (λ (z : ReleaseFates). z .deferred) r;
+      held-is = c18 .held-over .ensures (c29 .end-before .last .1 .0) (c29 .end-before .last .1 .1 .0);
+      x-is = x .state;
+      f-is = f .state;
+      g-is = g .state;
+    } in
     record {
-      time-is = c .before .before .before .before .before .before .before .before .before .before .before .before .next-tick .ensures (s .sets .now);
-      ended = λ e. absurd (c .before .before .before .before .before .before .before .before .before .before .before .if1 .left e);
+      time-is = c53 .next-tick .ensures (s .sets .now);
+      ended = λ e. absurd (c47 .before .before .before .before .before .if1 .left e);
       made = λ e. record {
-        gathered = (c .before .before .before .before .before .before .before .before .before .before .gather .result, refl, g);
-        steps = with-set (g .set-is) (c .before .before .steps .ensures);
+        gathered = (batch .result, refl, batch .ensures);
+        steps = with-set (batch .ensures .set-is) (record {
+          state = left d t (batch .result .set) h;
+          puts = all-put d t (batch .result .set) h (ap (λ (z : ReleaseFates). z .skipped) r) (o .puts) (b .puts) (c18 .before .before .before .before .skips-at .ensures) (f .puts);
+        });
       };
     }
 
@@ -35,5 +107,7 @@ pub advance-spec : {M : Type 1} → statement M
 advance-spec =
     tie.close
     (tie.spec
-    (λ c κs. search needs) returns gather-requires (λ c κs. search needs) (λ c. search needs)
-    returns-2)
+    (λ c κs. search needs) returns (λ c κs. search needs) (λ c κs. search needs) (λ c κs. search needs)
+    (λ c κs. search needs) end-before-requires (λ c. search needs) (λ c. search needs) (λ c κs. search needs)
+    skips-at-requires (λ c κs. search needs) (λ c κs. search needs) end-after-requires (λ c κs. search needs)
+    same-length returns-2)
