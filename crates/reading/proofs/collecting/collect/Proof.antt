@@ -43,7 +43,8 @@ returns : tie.Need-returns Inv-loop μ-loop
 returns c =
     let v = c .before .before .before .before .before .before .loop in
     let entry = c .before .before .before .before .record-entry-at in
-    subst (λ (n : ℕ). Collects (c .before .before .before .before .before .before .before .before .before .args .stored .now) (c .before .before .before .before .before .before .before .before .before .args .before) (c .before .before .before .before .before .before .before .before .before .args .keys .now) (record { noted = v .noted; refusal = AtEntry n (v .at) }) (v .keys)) (sym (c .fault-of .ensures))
+    let a = c .before .before .before .before .before .before .before .before .before .args in
+    subst (λ (n : ℕ). Collects (a .stored .now) (a .before) (a .keys .now) (record { noted = v .noted; refusal = AtEntry n (v .at) }) (v .keys)) (sym (c .fault-of .ensures))
     (faulty (v .inv .0) (v .inv .1) (c .before .before .before .before .before .loop-test .taken) (entry .result) (sym (entry .ensures)) (sym (c .before .before .before .decode .ensures) ∙ c .before .enum-told .given .1))
 
 note-requires : tie.Need-note-requires Inv-loop μ-loop
@@ -66,8 +67,10 @@ loop-less c =
 loop-again : tie.Need-loop-again Inv-loop μ-loop
 loop-again c =
     let v = c .before .before .before .before .before .before .before .before .before .before .before .loop in
-    let entry = c .before .before .before .before .before .before .before .before .before .record-entry-at in (
-      goes-on (v .inv .0) (v .inv .1) (c .before .before .before .before .before .before .before .before .before .before .loop-test .taken) (c .before .before .before .before .before .before .told .given .0 .0) _ _ (ap decoded (sym (entry .ensures)) ∙ sym (c .before .before .before .before .before .before .before .before .decode .ensures) ∙ c .before .before .before .before .before .before .told .given .1) (c .before .before .before .note .ensures),
+    let entry = c .before .before .before .before .before .before .before .before .before .record-entry-at in
+    let told = c .before .before .before .before .before .before .told .given in
+    let is = ap decoded (sym (entry .ensures)) ∙ sym (c .before .before .before .before .before .before .before .before .decode .ensures) ∙ told .1 in (
+      goes-on (v .inv .0) (v .inv .1) (c .before .before .before .before .before .before .before .before .before .before .loop-test .taken) (told .0 .0) _ _ is (c .before .before .before .note .ensures),
       c .before .before .before .note .ensures .same-length ∙ v .inv .1,
     )
 

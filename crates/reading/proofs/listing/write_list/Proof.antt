@@ -23,7 +23,10 @@ same-length c = search needs
 returns-2 : tie.Need-returns-2
 returns-2 c =
     let a = c .before .before .before .before .before .before .before .args in
-    fits (a .list .now) (a .out .now) _ _ (c .before .before .copy .ensures .0) (c .before .before .before .before .if1 .left) (c .before .before .copy .ensures .1 ∙ ap (λ (x : List ℕ). x ++ drop (length (a .list .now)) (a .out .now)) (take-all (length (a .list .now)) (a .list .now) (omega arith)) ∙ ap (λ (n : ℕ). a .list .now ++ drop n (a .out .now)) (sym (zero-add (length (a .list .now)))))
+    let copy = c .before .before .copy .ensures in
+    let n = length (a .list .now) in
+    fits (a .list .now) (a .out .now) _ _ (copy .0) (c .before .before .before .before .if1 .left)
+    (copy .1 ∙ ap (λ (x : List ℕ). x ++ drop n (a .out .now)) (take-all n (a .list .now) (omega arith)) ∙ ap (λ (k : ℕ). a .list .now ++ drop k (a .out .now)) (sym (zero-add n)))
 
 pub write-list-spec : {M : Type 1} → statement M
 write-list-spec = tie.close (tie.spec returns copy-requires same-length returns-2)

@@ -40,7 +40,10 @@ put-release-requires c κs = search needs
 add-at : tie.Need-add-at Inv-loop μ-loop
 add-at c =
     let put = c .before .before .put-release in
-    omega (arith, size-is (c .before .before .before .before .before .before .loop .inv) (c .before .before .before .before .before .before .before .before .before .pre) (c .before .before .before .before .before .loop-test .taken) _ _ (put .ensures), c .before .before .before .before .before .before .loop .inv .place, c .before .before .before .before .before .before .loop .inv .same, c .before .before .before .before .before .before .before .before .before .pre, c .before .before .before .before .before .loop-test .taken)
+    let v = c .before .before .before .before .before .before .loop .inv in
+    let f = c .before .before .before .before .before .before .before .before .before in
+    let test = c .before .before .before .before .before .loop-test .taken in
+    omega (arith, size-is v (f .pre) test _ _ (put .ensures), v .place, v .same, f .pre, test)
 
 add-i : tie.Need-add-i Inv-loop μ-loop
 add-i c = omega (arith, c .before .before .before .before .before .loop-test .taken)

@@ -30,9 +30,10 @@ same-length c = search needs
 
 returns : tie.Need-returns
 returns c =
-    let a = c .before .before .before .before .before .before .before .before .before .before .before .args in
+    let f = c .before .before .before .before .before .before .before .before .before .before .before in
+    let a = f .args in
     let copy = c .before .before .before .before .before .before .copy in
-    rebuilt-from (a .tasks .now) (a .keys .now) (a .out .now) (c .before .before .before .before .before .before .before .before .before .before .before .pre) (copy .result) (copy .ensures .0) (copy .last .1 .0) (c .before .before .lay .last .1 .0) (copy .ensures .1) (c .before .before .lay .ensures)
+    rebuilt-from (a .tasks .now) (a .keys .now) (a .out .now) (f .pre) (copy .result) (copy .ensures .0) (copy .last .1 .0) (c .before .before .lay .last .1 .0) (copy .ensures .1) (c .before .before .lay .ensures)
 
 pub lay-input-spec : {M : Type 1} → statement M
 lay-input-spec =

@@ -48,13 +48,20 @@ returns c =
 add-size : tie.Need-add-size Inv-loop μ-loop
 add-size c =
     let v = c .before .before .before .before .before .before .before .before .before .loop in
-    omega (arith, reaches (v .d) (v .inv .0) (c .before .before .before .before .before .next-piece .ensures) (c .before .before .goes-on-with .ensures .same (not-false _ (c .before .if1 .left))), c .before .before .before .before .before .before .before .before .before .before .before .before .before .before .good .1 .1 .1 .0 .0)
+    let same = c .before .before .goes-on-with .ensures .same (not-false _ (c .before .if1 .left)) in
+    omega (arith, reaches (v .d) (v .inv .0) (c .before .before .before .before .before .next-piece .ensures) same, c .before .before .before .before .before .before .before .before .before .before .before .before .before .before .good .1 .1 .1 .0 .0)
 
 add-at : tie.Need-add-at Inv-loop μ-loop
-add-at c = let v = c .before .before .before .before .before .before .before .before .before .before .loop in let f = c .before .before .before .before .before .before .before .before .before .before .before .before .before .before .before in omega (arith, within (f .args .s .now) (v .at) (v .d) (c .before .before .before .before .before .before .next-piece .ensures) (v .inv .0 .served), f .good .0 .0)
+add-at c =
+    let v = c .before .before .before .before .before .before .before .before .before .before .loop in
+    let f = c .before .before .before .before .before .before .before .before .before .before .before .before .before .before .before in
+    omega (arith, within (f .args .s .now) (v .at) (v .d) (c .before .before .before .before .before .before .next-piece .ensures) (v .inv .0 .served), f .good .0 .0)
 
 loop-less : tie.Need-loop-less Inv-loop μ-loop
-loop-less c = let m = c .before .before .before .before .before .before .before .next-piece .ensures in omega (arith, moves-on m (c .before .before .before .before .before .before .before .before .before .before .loop-test .taken) (omega (arith, c .before .before .before .before .before .before .before .before .before .before .before .loop .inv .1)))
+loop-less c =
+    let m = c .before .before .before .before .before .before .before .next-piece .ensures in
+    let test = c .before .before .before .before .before .before .before .before .before .before in
+    omega (arith, moves-on m (test .loop-test .taken) (omega (arith, test .before .loop .inv .1)))
 
 loop-again : tie.Need-loop-again Inv-loop μ-loop
 loop-again c =

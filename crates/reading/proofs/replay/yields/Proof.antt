@@ -11,7 +11,7 @@ use Rattle.run.specs.Files.{refusal-of, releases-from, head-unless, file-head}
 use Rattle.run.proofs.Checking.{file-behind}
 use Rattle.reading.specs.Parts.{ReadHead}
 use Rattle.run.proofs.Advancing.{releases-within}
-use Rattle.record.proofs.Outcomes.{accepted-whole, runs, alone, at-entry}
+use Rattle.record.proofs.Outcomes.{runs-whole, alone, at-entry}
 use Rattle.reading.proofs.Holding.{yields-accepted, yields-refused}
 use borrow.Author.Needs.{needs}
 use Rattle.reading.proofs.replay.yields.Statement.{statement}
@@ -29,30 +29,29 @@ enum-told : tie.Need-enum-told
 enum-told c = search needs
 
 sub-n : tie.Need-sub-n
-sub-n c = rw (whole (c .before .before .before .before .before .before .args .s .now) (c .before .before .before .before .before .before .args .head) (c .before .before .before .before .before .before .pre) (c .before .before .before .check-behind .ensures)) (releases-within (c .before .before .before .before .before .before .args .s .now))
+sub-n c =
+    let f = c .before .before .before .before .before .before in
+    rw (whole (f .args .s .now) (f .args .head) (f .pre) (c .before .before .before .check-behind .ensures)) (releases-within (f .args .s .now))
 
 mul-budget : tie.Need-mul-budget
 mul-budget c =
-    let check = c .before .before .before .check-behind in
-    let s = c .before .before .before .before .before .before .args .s .now in
-    let read = accepted-whole s (check .result) (whole (c .before .before .before .before .before .before .args .s .now) (c .before .before .before .before .before .before .args .head) (c .before .before .before .before .before .before .pre) (check .ensures)) (c .before .enum-told .given .1) in
-    let runs = runs s (check .result) (read .whole) (read .releases) in
+    let f = c .before .before .before .before .before .before in
+    let is = whole (f .args .s .now) (f .args .head) (f .pre) (c .before .before .before .check-behind .ensures) in
+    let runs = runs-whole (f .args .s .now) _ is (c .before .enum-told .given .1) in
     omega (arith, runs .few)
 
 add-budget : tie.Need-add-budget
 add-budget c =
-    let check = c .before .before .before .check-behind in
-    let s = c .before .before .before .before .before .before .args .s .now in
-    let read = accepted-whole s (check .result) (whole (c .before .before .before .before .before .before .args .s .now) (c .before .before .before .before .before .before .args .head) (c .before .before .before .before .before .before .pre) (check .ensures)) (c .before .enum-told .given .1) in
-    let runs = runs s (check .result) (read .whole) (read .releases) in
+    let f = c .before .before .before .before .before .before in
+    let is = whole (f .args .s .now) (f .args .head) (f .pre) (c .before .before .before .check-behind .ensures) in
+    let runs = runs-whole (f .args .s .now) _ is (c .before .enum-told .given .1) in
     omega (arith, runs .few)
 
 replays-requires : tie.Need-replays-requires
 replays-requires c κs =
-    let check = c .before .before .before .check-behind in
-    let s = c .before .before .before .before .before .before .args .s .now in
-    let read = accepted-whole s (check .result) (whole (c .before .before .before .before .before .before .args .s .now) (c .before .before .before .before .before .before .args .head) (c .before .before .before .before .before .before .pre) (check .ensures)) (c .before .enum-told .given .1) in
-    let runs = runs s (check .result) (read .whole) (read .releases) in
+    let f = c .before .before .before .before .before .before in
+    let is = whole (f .args .s .now) (f .args .head) (f .pre) (c .before .before .before .check-behind .ensures) in
+    let runs = runs-whole (f .args .s .now) _ is (c .before .enum-told .given .1) in
     record { kept = λ e. absurd (false≢true e); few = omega (arith, runs .few); served = runs .served }
 
 enum-told-2 : tie.Need-enum-told-2
@@ -64,17 +63,21 @@ enum-told-3 c = search needs
 returns : tie.Need-returns
 returns c =
     let check = c .before .before .before .before .check-behind in
-    c .replays .ensures ∙ yields-accepted (c .before .before .before .before .before .before .before .args .s .now) (check .result) (whole (c .before .before .before .before .before .before .before .args .s .now) (c .before .before .before .before .before .before .before .args .head) (c .before .before .before .before .before .before .before .pre) (check .ensures)) (c .before .before .before .before .before .before .before .args .stored .now) (c .before .before .enum-told .given .1)
+    let f = c .before .before .before .before .before .before .before in
+    let is = whole (f .args .s .now) (f .args .head) (f .pre) (check .ensures) in
+    c .replays .ensures ∙ yields-accepted (f .args .s .now) (check .result) is (f .args .stored .now) (c .before .before .enum-told .given .1)
 
 returns-2 : tie.Need-returns-2
 returns-2 c =
     let check = c .before .before .check-behind in
-    yields-refused (c .before .before .before .before .before .args .s .now) (check .result) (whole (c .before .before .before .before .before .args .s .now) (c .before .before .before .before .before .args .head) (c .before .before .before .before .before .pre) (check .ensures)) (c .before .before .before .before .before .args .stored .now) (alone (c .enum-told2 .given .1))
+    let f = c .before .before .before .before .before in
+    yields-refused (f .args .s .now) (check .result) (whole (f .args .s .now) (f .args .head) (f .pre) (check .ensures)) (f .args .stored .now) (alone (c .enum-told2 .given .1))
 
 returns-3 : tie.Need-returns-3
 returns-3 c =
     let check = c .before .before .check-behind in
-    yields-refused (c .before .before .before .before .before .args .s .now) (check .result) (whole (c .before .before .before .before .before .args .s .now) (c .before .before .before .before .before .args .head) (c .before .before .before .before .before .pre) (check .ensures)) (c .before .before .before .before .before .args .stored .now) (at-entry (c .enum-told3 .given .1))
+    let f = c .before .before .before .before .before in
+    yields-refused (f .args .s .now) (check .result) (whole (f .args .s .now) (f .args .head) (f .pre) (check .ensures)) (f .args .stored .now) (at-entry (c .enum-told3 .given .1))
 
 pub yields-spec : {M : Type 1} → statement M
 yields-spec =
