@@ -7,7 +7,7 @@ use lib.ListN.{getD, set}
 use Rattle.sets.specs.Sets.{member}
 use Rattle.entries.specs.Entries.{task-byte}
 use Rattle.rules.specs.With.{at-clock}
-use Rattle.rules.specs.Order.{outranks}
+use Rattle.rules.specs.Order.{highest, outranks}
 use Rattle.rules.specs.Blocking.{blockable, CanBlock}
 use Rattle.rules.specs.Instant.{copyin-at, settled, processor-task, copyout-task, copyin-task, copyin-fate, is-over, promoted, resting, awaiting-execution, over, blocks, counted, without-promoted, next-of, awaiting-copyout, processor-at, step-a, step-d, steps-c-d, step-e, begin, step-g, closed-with, entry-with, begin-processor, work-of, wanted, held-over, sooner, copyout-due, copyin-due, due}
 use Rattle.rules.specs.Registers.{as-task, as-next, as-outgoing, as-processor, as-copyout, as-copyin, processor-in, copyin-in, interval-in, phase-in}
@@ -197,10 +197,11 @@ TakesAt t taken deferred priority sets codes o sets' codes' o' =
 abbrev pub ChosenAt : ℕ → List ℕ → List ℕ → Kept → Kept → Type 0
 ChosenAt t priority columns k k' = Step (λ d. step-e d t (d .phase)) priority columns k k'
 
--- where the choice has not been made and the engine is free
-abbrev pub MadeChoice : ℕ → List ℕ → List ℕ → Kept → Kept → Type 0
-MadeChoice t priority columns k k' =
-    getD (k .codes) 6 0 ≡ 0 → (getD (k .codes) 4 0 ≡ 1 → ⊥) → ChosenAt t priority columns k k'
+-- where n is the highest of the ready, the choice has not been made and the engine is free
+abbrev pub MadeChoice : ℕ → ℕ → List ℕ → Kept → Kept → Type 0
+MadeChoice n t columns k k' =
+    (priority : List ℕ) → as-task n ≡ highest priority (getD (k .sets) 2 0)
+    → getD (k .codes) 6 0 ≡ 0 → (getD (k .codes) 4 0 ≡ 1 → ⊥) → ChosenAt t priority columns k k'
 
 -- ---- g
 

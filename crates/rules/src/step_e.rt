@@ -8,23 +8,22 @@ use table::Columns;
 ghost use Rattle.rules.specs.Kept.{kept};
 ghost use Rattle.rules.specs.Steps.{MadeChoice, ChosenAt};
 
+// The first of the ready jobs is n's, or there is none.
 pub fn make_choice(
+    n: u8,
     t: u64,
     times: &mut at::Times,
     sets: &mut at::Sets,
     codes: &mut at::Codes,
-    priority: &[u8; 32],
     columns: &Columns,
 )
-    ensures { λ _. ⌜ MadeChoice t (now (priority .entry)) (now (columns .entry))
+    ensures { λ _. ⌜ MadeChoice n t (now (columns .entry))
         (kept (now (times .entry)) (now (sets .entry)) (now (codes .entry)))
         (kept (now (times .exit)) (now (sets .exit)) (now (codes .exit))) ⌝ }
 {
-    let ready = sets[at::READY];
-    let n = first(priority, ready);
     if n < codes::NO_TASK {
         let inuntil = later(t, table::copyin_length(columns, n));
-        sets[at::READY] = sets::remove(ready, n);
+        sets[at::READY] = sets::remove(sets[at::READY], n);
         codes[at::COPYIN] = codes::COPYING;
         codes[at::INTASK] = n;
         times[at::INUNTIL] = inuntil;
@@ -51,5 +50,6 @@ pub fn choose(
     if codes[at::COPYOUT] == codes::COPYING_OUT {
         return;
     }
-    make_choice(t, times, sets, codes, priority, columns);
+    let n = first(priority, sets[at::READY]);
+    make_choice(n, t, times, sets, codes, columns);
 }

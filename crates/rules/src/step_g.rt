@@ -1,6 +1,7 @@
 // g. If no interval is open and some job is loaded, promoted, ready or waiting for copy-out, an interval begins.
 use crate::at;
 use crate::codes;
+use crate::order::first;
 use crate::step_e::make_choice;
 use crate::times::later;
 use table::Columns;
@@ -89,7 +90,8 @@ fn open_interval(
     set_processor(work, n, t, times, codes, columns);
     if copyout == codes::NO_COPYOUT {
         times[at::OUTUNTIL] = t;
-        make_choice(t, times, sets, codes, priority, columns);
+        let chosen = first(priority, sets[at::READY]);
+        make_choice(chosen, t, times, sets, codes, columns);
         return;
     }
     let outuntil = later(t, table::copyout_length(columns, out));

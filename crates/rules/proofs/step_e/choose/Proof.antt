@@ -17,12 +17,12 @@ returns-2 c o w =
 
 returns-3 : tie.Need-returns-3
 returns-3 c o w =
-    let f = c .before .before .before .before in
-    c .make-choice .ensures (f .before .before .if1 .left) (f .if2 .left) o w
+    let f = c .before .before .before .before .before .before in
+    c .make-choice .ensures (f .before .before .before .before .args .priority .now) (c .before .before .before .before .first .ensures) (f .before .before .if1 .left) (f .if2 .left) o w
 
 pub choose-spec : {M : Type 1} → statement M
 choose-spec =
     tie.close
     (tie.spec
-    (λ c. search needs) returns (λ c. search needs) returns-2 (λ c κs. search needs)
-    returns-3)
+    (λ c. search needs) returns (λ c. search needs) returns-2 (λ c. search needs)
+    (λ c κs. search needs) (λ c κs. search needs) returns-3)

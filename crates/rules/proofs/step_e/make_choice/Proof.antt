@@ -6,21 +6,19 @@ use Rattle.rules.proofs.step_e.make_choice.Statement.{statement}
 use Rattle.rules.proofs.step_e.make_choice.Tie as tie
 
 returns : tie.Need-returns
-returns c e f o w =
-    let g = c .before .before .before .before .before in
-    let a = g .before .before .args in
-    chosen-now (beside (a .priority .now) (a .columns .now) o) (a .t) (g .first .result) (c .remove .result) (c .before .later .result) (c .before .before .copyin-length .result)
-    (kept (a .times .now) (a .sets .now) (a .codes .now)) w e f (g .first .ensures) (c .before .before .before .before .if1 .taken) (c .before .before .copyin-length .ensures) (c .before .later .ensures) (c .remove .ensures)
+returns c priority h e f o w =
+    let a = c .before .before .before .before .before .before .args in
+    chosen-now (beside priority (a .columns .now) o) (a .t) (a .n) (c .remove .result) (c .before .before .later .result) (c .before .before .before .copyin-length .result)
+    (kept (a .times .now) (a .sets .now) (a .codes .now)) w e f h (c .before .before .before .before .before .if1 .taken) (c .before .before .before .copyin-length .ensures) (c .before .before .later .ensures) (c .remove .ensures)
 
 returns-2 : tie.Need-returns-2
-returns-2 c e f o w =
-    let a = c .before .before .before .args in
-    none-chosen (beside (a .priority .now) (a .columns .now) o) (a .t) (c .before .first .result)
-    (kept (a .times .now) (a .sets .now) (a .codes .now)) w e f (c .before .first .ensures) (c .if1 .left)
+returns-2 c priority h e f o w =
+    let a = c .before .args in
+    none-chosen (beside priority (a .columns .now) o) (a .t) (a .n) (kept (a .times .now) (a .sets .now) (a .codes .now)) w e f h (c .if1 .left)
 
 pub make-choice-spec : {M : Type 1} → statement M
 make-choice-spec =
     tie.close
     (tie.spec
-    (λ c. search needs) (λ c κs. search needs) (λ c κs. search needs) (λ c κs. search needs) (λ c κs. search needs)
-    (λ c. search needs) (λ c. search needs) (λ c. search needs) (λ c. search needs) returns (λ c. search needs) returns-2)
+    (λ c κs. search needs) (λ c κs. search needs) (λ c. search needs) (λ c κs. search needs) (λ c. search needs)
+    (λ c. search needs) (λ c. search needs) (λ c. search needs) returns (λ c. search needs) returns-2)
