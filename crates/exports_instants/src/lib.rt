@@ -58,8 +58,7 @@ pub extern "C" fn gateway_instant_v3<'a>(
 }
 
 // What goes on now in the dispatcher that the first three arrays keep: begin and ends; pending, waiting and marked; whether an interval
-// is open, its work, and the four values. It is looked at once for each array: so few numbers are wanted at a time that all of them stay
-// in registers.
+// is open, its work, and the four values.
 #[no_mangle]
 pub extern "C" fn gateway_now_v3<'a>(
     times: &'a at::Times,
@@ -74,17 +73,7 @@ pub extern "C" fn gateway_now_v3<'a>(
 {
     let sets_of = rules::viewed(times, sets, codes);
     *tasks = [sets_of.pending, sets_of.waiting, sets_of.marked];
-    let doing = rules::viewed(times, sets, codes);
-    *units = [
-        doing.opened,
-        doing.work,
-        doing.processor,
-        doing.copyin,
-        doing.copyout,
-        doing.half,
-    ];
-    let ends = rules::viewed(times, sets, codes);
-    *ticks = [ends.begin, ends.until, ends.inuntil, ends.outuntil];
+    rules::show(times, codes, ticks, units);
 }
 
 // A mark call on the dispatcher whose sets are lent: 0, or the number of the refusal.

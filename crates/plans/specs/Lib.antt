@@ -3,4 +3,5 @@ pub mod Plans
 pub mod Waiting
 pub mod Refusals
 pub mod Runs
+pub mod Waveforms
 pub mod Table

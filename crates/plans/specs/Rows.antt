@@ -15,21 +15,24 @@ use Rattle.run.specs.Run.{Moment, record-bytes}
 use Rattle.record.specs.FileClaim.{served-moment}
 use Rattle.record.specs.Writing.{Written, file, outcome-number, outcome-value}
 use Rattle.table.specs.Refusals.{refusal-number, refusal-place}
+use Rattle.waves.specs.Writing.{dumped}
 
 -- ---- What is handed in
 
--- an input, with the length of the lent slice, each of whose bytes is 170; or opening bytes and calls; or these, and then a release of a
--- task, at a time, that is put into the state as one that waits, and further calls
+-- an input whose record is wanted, or its waveform, with the length of the lent slice, each of whose bytes is 170; or opening bytes and
+-- calls; or these, and then a release of a task, at a time, that is put into the state as one that waits, and further calls
 pub data Given : Type 0 where
   OfFile : List ℕ → ℕ → Given
+  OfDump : List ℕ → ℕ → Given
   OfCalls : List ℕ → List Call → Given
   OfPut : List ℕ → List Call → ℕ → ℕ → List Call → Given
 
 -- ---- What must come of it
 
--- of a file its number (0 where there is no refusal), its value (the place, the length needed or the record's length) and what the
--- slice holds; of calls the opening's number and place and each call's answer, and the record's bytes of what they made happen; of those
--- behind a release that was put in, each answer, then the candidates for promotion of the interval that is open at the end, and these bytes
+-- of a file its number (0 where there is no refusal), its value (the place, the length needed or the length of record or dump) and what
+-- the slice holds; of calls the opening's number and place and each call's answer, and the record's bytes of what they made happen; of
+-- those behind a release that was put in, each answer, then the candidates for promotion of the interval that is open at the end, and
+-- these bytes
 pub record Result : Type 0 where
   pub numbers : List ℕ
   pub memory : List ℕ
@@ -74,6 +77,9 @@ unfoldable pub found : Given → Result
 found (OfFile s size) =
     let w : Written = file s (replicate size 170) in
     record { numbers = outcome-number (w .outcome) ∷ outcome-value (w .outcome) ∷ []; memory = w .memory }
+found (OfDump s size) =
+    let w : Written = dumped s (replicate size 170) in
+    record { numbers = outcome-number (w .outcome) ∷ outcome-value (w .outcome) ∷ []; memory = w .memory }
 found (OfCalls s cs) =
     let o : Opening = opening s in
     record {
@@ -103,6 +109,15 @@ recorded input bytes size lent =
 unfoldable pub refused : List ℕ → ℕ → ℕ → ℕ → Row
 refused input lent n value =
     record { given = OfFile input lent; expected = record { numbers = n ∷ value ∷ []; memory = replicate lent 170 } }
+
+-- the same of an input's waveform
+unfoldable pub drawn : List ℕ → List ℕ → ℕ → ℕ → Row
+drawn input bytes size lent =
+    record { given = OfDump input lent; expected = record { numbers = 0 ∷ size ∷ []; memory = bytes ++ (170 ∷ 170 ∷ []) } }
+
+unfoldable pub not-drawn : List ℕ → ℕ → ℕ → ℕ → Row
+not-drawn input lent n value =
+    record { given = OfDump input lent; expected = record { numbers = n ∷ value ∷ []; memory = replicate lent 170 } }
 
 -- opening bytes and calls, with the numbers of the opening and the answers, and the record's bytes of what the calls made happen
 unfoldable pub answered : List ℕ → List Call → List ℕ → List ℕ → Row

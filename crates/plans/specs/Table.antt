@@ -1,4 +1,4 @@
--- Every plan, every row on releases that wait, every refusal and every random run comes out of the definitions as it must.
+-- Every plan, every row on releases that wait, every refusal, every random run and every waveform comes out of the definitions as it must.
 use mathlib.Core.Path.{_≡_, refl}
 use mathlib.Core.List.{_++_}
 use Rattle.words.specs.Words
@@ -14,6 +14,10 @@ use Rattle.rules.specs.Entries as RuleEntries
 use Rattle.run.specs.Files
 use Rattle.run.specs.Run
 use Rattle.record.specs.Writing
+use Rattle.lines.specs.Lines
+use Rattle.waves.specs.Dump
+use Rattle.waves.specs.Samples
+use Rattle.waves.specs.Writing as WaveWriting
 use Rattle.plans.specs.Rows.{all-found, all-expected}
 use Rattle.plans.specs.Rows
 use Rattle.plans.specs.Plans.{plans}
@@ -24,8 +28,11 @@ use Rattle.plans.specs.Refusals.{refusals}
 use Rattle.plans.specs.Refusals
 use Rattle.plans.specs.Runs.{runs}
 use Rattle.plans.specs.Runs
+use Rattle.plans.specs.Waveforms.{waveforms}
+use Rattle.plans.specs.Waveforms
 
-pub table : all-found (plans ++ (waiting ++ (refusals ++ runs))) ≡ all-expected (plans ++ (waiting ++ (refusals ++ runs)))
+pub table : all-found (plans ++ (waiting ++ (refusals ++ (runs ++ waveforms))))
+    ≡ all-expected (plans ++ (waiting ++ (refusals ++ (runs ++ waveforms))))
 unfolding Words.bytesOf Words.numberAt Words.room Words.written Sets.member Sets.below Sets.collect Sets.union Sets.intersection
     Sets.difference Sets.insert Sets.remove Sets.lowestIn Sets.lowest Entries.task-at Entries.release-at Entries.entry-at
     Entries.job-bytes Entries.choice-bytes Entries.interval-bytes Entries.skipped-bytes Head.given Head.outside Head.number-refused
@@ -46,5 +53,7 @@ unfolding Words.bytesOf Words.numberAt Words.room Words.written Sets.member Sets
     Plans.record-higher-promoted Plans.record-higher-stays Plans.record-unmarked Plans.record-interval-over Plans.plans Waiting.record-in-its-turn
     Waiting.record-third-skipped Waiting.record-chosen-at-once Waiting.record-from-the-taking Waiting.record-marks
     Waiting.record-cancels Waiting.record-throws-out Waiting.record-belongs-to-next Waiting.waiting Refusals.unopened Refusals.refusals
-    Runs.runs
+    Runs.runs Lines.digits Lines.decimal Dump.ascii Dump.line Dump.header Dump.wires Dump.wire Dump.all Dump.changed Dump.mark
+    Dump.change Dump.changes Dump.dump Samples.samples Samples.samples-of WaveWriting.dumped Rows.drawn Rows.not-drawn Waveforms.lines
+    Waveforms.header Waveforms.dump-A Waveforms.dump-B Waveforms.dump-G Waveforms.waveforms
 table = refl

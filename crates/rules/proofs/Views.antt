@@ -1,13 +1,15 @@
 -- What goes on now, over the numbers. Assumes nothing.
+use mathlib.Core.Path.{ap₂}
 use Rattle.rules.specs.Types.{Bool, true, false, cond, List, ℕ, _≡_, refl, sym, ap, _∙_, State, Phase, Within, Registers, View}
 use borrow.Author.Tests.{eqb-true, eq-eqb, ne-eqb}
 use lib.Dec.{eqb}
-use lib.ListN.{getD}
+use lib.ListN.{getD, set}
 use Rattle.sets.proofs.Laws.{by-test}
 use Rattle.entries.specs.Entries.{task-byte}
 use Rattle.rules.specs.Registers.{as-processor, as-copyout, as-copyin, interval-in, phase-in, state-in}
 use Rattle.rules.specs.View.{on-processor, copied-in, copied-out, shown-half, processor-until, copyin-until, copyout-until, viewed-in, viewed}
 use Rattle.rules.specs.Kept.{Kept, Beside, registers-in, read}
+use Rattle.rules.specs.Showing.{ticks-of, units-of, stored-if}
 
 -- ---- by the kind of each unit
 
@@ -76,3 +78,34 @@ module _ (k : Kept) (b : Beside) where
         out-byte (r .copyout) (r .outtask) (r .outstart) (r .outuntil),
         out-until (r .copyout) (r .outtask) (r .outstart) (r .outuntil),
       )
+
+  -- what is read from the arrays of one who looks, and the sets, is all of it
+  all-fields : record { begin = viewed (read k b) .begin; until = viewed (read k b) .until; inuntil = viewed (read k b) .inuntil; outuntil = viewed (read k b) .outuntil; pending = r .pending; waiting = getD (k .sets) 5 0; marked = r .marked; opened = viewed (read k b) .opened; work = viewed (read k b) .work; processor = viewed (read k b) .processor; copyin = viewed (read k b) .copyin; copyout = viewed (read k b) .copyout; half = viewed (read k b) .half }
+      ≡ viewed (read k b)
+  unfolding viewed state-in phase-in interval-in
+  all-fields = by-test (eqb (r .copyin) 6) (λ e. rw e refl) (λ e. rw e refl)
+
+  pub of-arrays : {ticks units : List ℕ} → ticks ≡ ticks-of (viewed (read k b)) → units ≡ units-of (viewed (read k b))
+      → record { begin = getD ticks 0 0; until = getD ticks 1 0; inuntil = getD ticks 2 0; outuntil = getD ticks 3 0; pending = r .pending; waiting = getD (k .sets) 5 0; marked = r .marked; opened = getD units 0 0; work = getD units 1 0; processor = getD units 2 0; copyin = getD units 3 0; copyout = getD units 4 0; half = getD units 5 0 }
+      ≡ viewed (read k b)
+  of-arrays e f =
+      ap₂
+      (λ (t u : List ℕ). record { begin = getD t 0 0; until = getD t 1 0; inuntil = getD t 2 0; outuntil = getD t 3 0; pending = r .pending; waiting = getD (k .sets) 5 0; marked = r .marked; opened = getD u 0 0; work = getD u 1 0; processor = getD u 2 0; copyin = getD u 3 0; copyout = getD u 4 0; half = getD u 5 0 })
+      e f
+      ∙ all-fields
+
+-- ---- numbers that are stored where a test is met
+
+stored-so : (met : Bool) (place n m : ℕ) (f : ℕ → List ℕ) → set (f m) place n ≡ f n → stored-if met place n (f m) ≡ f (cond met n m)
+stored-so true place n m f e = e
+stored-so false place n m f e = refl
+
+-- three of them, in places that hold `none` before
+pub three-stored : (f : ℕ → ℕ → ℕ → List ℕ) (none p q r : ℕ) → ((x y z n : ℕ) → set (f x y z) p n ≡ f n y z) → ((x y z n : ℕ) → set (f x y z) q n ≡ f x n z)
+    → ((x y z n : ℕ) → set (f x y z) r n ≡ f x y n) → (i j k : Bool) (a b c : ℕ) {first second third : List ℕ} → first ≡ stored-if i p a (f none none none)
+    → second ≡ stored-if j q b first → third ≡ stored-if k r c second → third ≡ f (cond i a none) (cond j b none) (cond k c none)
+three-stored f none p q r at-p at-q at-r i j k a b c d e g =
+    g
+    ∙ ap (stored-if k r c)
+    (e ∙ ap (stored-if j q b) (d ∙ stored-so i p a none (λ x. f x none none) (at-p none none none a)) ∙ stored-so j q b none (λ y. f (cond i a none) y none) (at-q (cond i a none) none none b))
+    ∙ stored-so k r c none (λ z. f (cond i a none) (cond j b none) z) (at-r (cond i a none) (cond j b none) none c)

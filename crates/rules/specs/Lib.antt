@@ -13,3 +13,4 @@ pub mod Answers
 pub mod Entries
 pub mod View
 pub mod Steps
+pub mod Showing

@@ -36,6 +36,7 @@ pub use step_c::released;
 pub use step_d::take_releases;
 pub use step_e::choose;
 pub use step_g::begin_interval;
+pub use viewing::show;
 pub use viewing::viewed;
 
 pub enum Done {

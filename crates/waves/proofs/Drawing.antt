@@ -4,7 +4,7 @@ use mathlib.Core.Bool.{Bool, true, false, cond, true≢false}
 use mathlib.Core.List.{List, [], _∷_, _++_, append-assoc, append-nil}
 use Prim.Native.Nat.{ℕ, _+_, _-_, _*_, _^_, _≤_, _<_}
 use native.Mathlib.Omega.{arith}
-use borrow.Author.Tests.{eqb-true}
+use borrow.Author.Tests.{eqb-true, eq-eqb, ne-eqb}
 use lib.Dec.{eqb}
 use lib.ListN.{length, take, drop, length-append}
 use Rattle.sets.proofs.Laws.{by-test}
@@ -19,7 +19,7 @@ use Rattle.run.specs.Run.{Moment, released-at, next-time, moment, run}
 use Rattle.run.specs.Advance.{Advances}
 use Rattle.run.proofs.Slices.{laid-none, laid-both}
 use Rattle.run.proofs.Reaching.{along, none-before, next-made, steps-made, reads-within, leads-on}
-use Rattle.record.specs.Cursor.{Cursor, Served}
+use Rattle.record.specs.Cursor.{Cursor, Served, KeptAt}
 use Rattle.record.proofs.Running.{Fed, fed, behind, comes-early, none-left, over}
 use Rattle.waves.specs.Types.{Shown, Drawn}
 use Rattle.waves.specs.Dump.{Sample, header, wires, wire, mark, all, if-new, changed, same, change, changes, dump}
@@ -45,13 +45,27 @@ whole-dump v (s ∷ ss) =
     (ap (λ (l : List ℕ). header ++ l)
     (sym (append-assoc (start v) (change v s) (changes (s .shown) ss)) ∙ ap (λ (l : List ℕ). (start v ++ change v s) ++ l) (sym (rest-begun (s .shown) ss)))))
 
+-- ---- what a sample adds, case by case
+
+pub adds-change : (begun : Bool) (v : Shown) (s : Sample) → begun ≡ true → turn begun v s ≡ change v s
+unfolding turn
+adds-change begun v s e = rw e
+
+pub adds-start : (begun : Bool) (v : Shown) (s : Sample) → begun ≡ false → s .time ≡ 0 → turn begun v s ≡ start (s .shown)
+unfolding turn
+adds-start begun v s e z = rw (e, eq-eqb (s .time) 0 z)
+
+pub adds-both : (begun : Bool) (v : Shown) (s : Sample) → begun ≡ false → (s .time ≡ 0 → ⊥) → turn begun v s ≡ start v ++ change v s
+unfolding turn
+adds-both begun v s e z = rw (e, ne-eqb (s .time) 0 z)
+
 -- ---- how long it gets
 
 pub start-most : (w : Shown) → length (start w) ≤ 61
 unfolding all wires wire
 start-most w = omega (arith, mark-most 0 (omega arith), length-append (mark 0) (all w))
 
-change-most : (v : Shown) (t : ℕ) (w : Shown) → t < 10 ^ 20 → length (change v (record { time = t; shown = w })) ≤ 61
+pub change-most : (v : Shown) (t : ℕ) (w : Shown) → t < 10 ^ 20 → length (change v (record { time = t; shown = w })) ≤ 61
 unfolding change changed
 change-most v t w h =
     let a : List ℕ = if-new (v .processor) (w .processor) (wires 97 (w .processor)) in
@@ -196,19 +210,19 @@ module _ {s whole before : List ℕ} {first : Shown} {place : ℕ} {keep : Bool}
             length-append added rest-left,
           )
 
-      pub moves : {out′ : List ℕ} (n : ℕ) → n ≡ length (turn begun v (record { time = x .time; shown = w })) → (keep ≡ true → place + length whole ≤ length before)
-          → (keep ≡ true → out′ ≡ laid size (turn begun v (record { time = x .time; shown = w })) out) → (keep ≡ false → out′ ≡ out) → length out′ ≡ length out
-          → Drawing s whole before first place keep (read k' b') (at + x .read) w true (size + n) (left - 1) out′
-      moves {out′} n e r put none same = record {
+      pub moves : {out′ : List ℕ} (size′ : ℕ) → size′ ≡ size + length (turn begun v (record { time = x .time; shown = w }))
+          → (keep ≡ true → place + length whole ≤ length before) → KeptAt (turn begun v (record { time = x .time; shown = w })) out size keep out′
+          → length out′ ≡ length out → Drawing s whole before first place keep (read k' b') (at + x .read) w true size′ (left - 1) out′
+      moves {out′} size′ e r put same = record {
         done = p .done ++ added;
-        size-is = omega (arith, p .size-is, length-append (p .done) added);
+        size-is = omega (arith, e, p .size-is, length-append (p .done) added);
         rest = append-assoc (p .done) added rest-left ∙ parts;
         kept = λ h.
-            put h ∙ ap (λ (i : ℕ). laid i added out) (p .size-is) ∙ ap (laid (place + length (p .done)) added) (p .kept h)
+            put .holds h ∙ ap (λ (i : ℕ). laid i added out) (p .size-is) ∙ ap (laid (place + length (p .done)) added) (p .kept h)
             ∙ laid-both place (p .done) added before (omega (arith, r h));
-        unchanged = λ h. none h ∙ p .unchanged h;
+        unchanged = λ h. put .unchanged h ∙ p .unchanged h;
         same-out = same ∙ p .same-out;
-        few = omega (arith, p .few, short, some-left);
+        few = omega (arith, e, p .few, short, some-left);
         served = served-on;
         seen-is = sees b';
         fresh = λ h. absurd (true≢false h);

@@ -1,10 +1,12 @@
 -- Bytes put into a slice one behind the other. Assumes nothing.
 use mathlib.Core.Path.{_≡_, refl, sym, ap, ap₂, _∙_}
+use mathlib.Core.Bool.{cond, false}
 use mathlib.Core.List.{List, [], _∷_, _++_}
 use Prim.Native.Nat.{ℕ, suc, _+_, _-_, _^_, _≤_, _<_}
 use native.Mathlib.Nat.{add-zero}
 use native.Mathlib.Numerals.{add-one}
 use native.Mathlib.Omega.{arith}
+use borrow.Author.Tests.{ne-eqb}
 use lib.Dec.{eqb}
 use lib.ListN.{length, getD, take, drop, set, length-append, take-append-drop}
 use lib.Seq.{length-take-le, take-all, take-at, take-suc, drop-cons, drop-drop, append-snoc, set-at}
@@ -12,10 +14,11 @@ use Rattle.words.proofs.Laws.{lent}
 use Rattle.entries.specs.Entries.{laid}
 use Rattle.run.proofs.Slices.{laid-none, laid-both, laid-length}
 use Rattle.sets.proofs.Laws.{by-test}
-use Rattle.lines.specs.Lines.{decimal, newline}
+use Rattle.lines.specs.Lines.{digits, decimal, newline}
 use Rattle.lines.proofs.Laws.{short}
-use Rattle.waves.specs.Dump.{wires, wire, if-new, mark}
-use Rattle.waves.specs.Printing.{Lays}
+use Rattle.waves.specs.Types.{Shown}
+use Rattle.waves.specs.Dump.{wires, wire, all, if-new, changed, same, change, mark}
+use Rattle.waves.specs.Printing.{Room, Lays}
 
 pub nothing : (at : ℕ) (s : List ℕ) → at ≤ length s → Lays at [] s at s
 nothing at s h = record { within = h; place-is = sym (add-zero at); holds = sym (laid-none at s) }
@@ -63,7 +66,19 @@ front {p} {a} {s} {t} x = ap (take p) (x .holds) ∙ take-at a (drop (0 + length
 pub grows : {at p : ℕ} {a s t : List ℕ} (most : ℕ) → Lays at a s p t → length a ≤ most → at + most ≤ length s → (p ≤ at + most) × (length t ≡ length s)
 grows {at} {p} {a} {s} {t} most x h r = (omega (arith, x .place-is), ap length (x .holds) ∙ laid-length at a s (omega arith))
 
+-- room for bytes is room for the first of them, and where those are laid there is room for the rest
+pub first-room : {at : ℕ} {s : List ℕ} (a b : List ℕ) → Room at (a ++ b) s → Room at a s
+first-room a b r = record { fits = omega (arith, r .fits, length-append a b) }
+
+pub next-room : {at p : ℕ} {a s t : List ℕ} (b : List ℕ) → Lays at a s p t → Room at (a ++ b) s → Room p b t
+next-room {at} {p} {a} {s} {t} b x r = record {
+  fits = omega (arith, r .fits, x .place-is, ap length (x .holds) ∙ laid-length at a s (first-room a b r .fits), length-append a b);
+}
+
 -- ---- how long the lines are
+
+pub new-is : (old new : ℕ) (l : List ℕ) → (old ≡ new → ⊥) → if-new old new l ≡ l
+new-is old new l h = rw (ne-eqb old new h)
 
 pub wires-size : (code n : ℕ) → length (wires code n) ≡ 12
 unfolding wires
@@ -71,6 +86,10 @@ wires-size code n = refl
 
 pub new-most : (old new code : ℕ) → length (if-new old new (wires code new)) ≤ 12
 new-most old new code = by-test (eqb old new) (λ e. rw e (omega arith)) (λ e. rw e (omega (arith, wires-size code new)))
+
+pub mark-size : (t : ℕ) → length (mark t) ≡ 2 + length (decimal t)
+unfolding mark
+mark-size t = omega (arith, length-append (decimal t) newline)
 
 pub mark-most : (t : ℕ) → t < 10 ^ 20 → length (mark t) ≤ 22
 unfolding mark
@@ -82,3 +101,50 @@ wire-size code n = refl
 
 pub new-wire-most : (old new code : ℕ) → length (if-new old new (wire code new)) ≤ 3
 new-wire-most old new code = by-test (eqb old new) (λ e. rw e (omega arith)) (λ e. rw e (omega (arith, wire-size code new)))
+
+-- ---- what an instant changes
+
+-- what comes behind the first value, and behind the second
+abbrev pub behind-second : Shown → Shown → List ℕ
+behind-second v w = if-new (v .copyout) (w .copyout) (wires 99 (w .copyout)) ++ if-new (v .half) (w .half) (wire 100 (w .half))
+
+abbrev pub behind-first : Shown → Shown → List ℕ
+behind-first v w = if-new (v .copyin) (w .copyin) (wires 98 (w .copyin)) ++ behind-second v w
+
+pub change-is : (v : Shown) (t : ℕ) (w : Shown) → same v w ≡ false → change v (record { time = t; shown = w }) ≡ mark t ++ changed v w
+unfolding change
+change-is v t w e = rw e
+
+pub new-wires-size : (old new code : ℕ) → length (if-new old new (wires code new)) ≡ cond (eqb old new) 0 12
+new-wires-size old new code = by-test (eqb old new) (λ e. rw e) (λ e. rw e (wires-size code new))
+
+pub new-wire-size : (old new code : ℕ) → length (if-new old new (wire code new)) ≡ cond (eqb old new) 0 3
+new-wire-size old new code = by-test (eqb old new) (λ e. rw e) (λ e. rw e (wire-size code new))
+
+pub change-size : (v : Shown) (t : ℕ) (w : Shown) → same v w ≡ false
+    → length (change v (record { time = t; shown = w }))
+    ≡ 2 + length (decimal t) + cond (eqb (v .processor) (w .processor)) 0 12 + cond (eqb (v .copyin) (w .copyin)) 0 12
+    + cond (eqb (v .copyout) (w .copyout)) 0 12 + cond (eqb (v .half) (w .half)) 0 3
+unfolding changed
+change-size v t w e =
+    let a : List ℕ = if-new (v .processor) (w .processor) (wires 97 (w .processor)) in
+    let b : List ℕ = if-new (v .copyin) (w .copyin) (wires 98 (w .copyin)) in
+    let c : List ℕ = if-new (v .copyout) (w .copyout) (wires 99 (w .copyout)) in
+    let d : List ℕ = if-new (v .half) (w .half) (wire 100 (w .half)) in
+    omega (
+      arith,
+      ap length (change-is v t w e),
+      mark-size t,
+      length-append (mark t) (a ++ (b ++ (c ++ d))),
+      length-append a (b ++ (c ++ d)),
+      length-append b (c ++ d),
+      length-append c d,
+      new-wires-size (v .processor) (w .processor) 97,
+      new-wires-size (v .copyin) (w .copyin) 98,
+      new-wires-size (v .copyout) (w .copyout) 99,
+      new-wire-size (v .half) (w .half) 100,
+    )
+
+pub start-size : (w : Shown) → length (mark 0 ++ all w) ≡ 42
+unfolding mark decimal digits all wires wire
+start-size w = refl

@@ -1,5 +1,7 @@
 // A file's run as a dump in a lent slice. Nothing as long as a dump is kept: its bytes are made instant by instant.
 use crate::Shown;
+use crate::printing::START;
+use crate::printing::change_size;
 use crate::printing::put_change;
 use crate::printing::put_start;
 use dispatcher::Dispatcher;
@@ -11,7 +13,7 @@ use rules::at;
 use table::Head;
 use table::Refusal;
 ghost use mathlib.Core.Path.{_≡_};
-ghost use Prim.Native.Nat.{_≤_};
+ghost use Prim.Native.Nat.{_+_, _≤_};
 ghost use lib.ListN.{length};
 ghost use Rattle.dispatcher.specs.Dispatcher.{state-of};
 ghost use Rattle.record.specs.Cursor.{RoomAt, KeptAt, Runs};
@@ -19,7 +21,7 @@ ghost use Rattle.record.specs.Writing.{Wrote, written};
 ghost use Rattle.record.specs.Cursor.{start as start-of};
 ghost use Rattle.rules.specs.View.{shown-half};
 ghost use Rattle.waves.specs.Dump as dump;
-ghost use Rattle.waves.specs.Printing.{Lays};
+ghost use Rattle.waves.specs.Printing.{Room, Lays};
 ghost use Rattle.waves.specs.Writing.{dumped};
 ghost use Rattle.waves.specs.Viewed.{WroteWithViews};
 ghost use Rattle.waves.specs.Drawing.{SeenIn, shown-by, turn, PutsInstant, run-dump, whole-dump, Space, SpaceFrom, DrewFrom, Draws};
@@ -73,20 +75,48 @@ fn shown<'a>(times: &'a at::Times, sets: &'a at::Sets, codes: &'a at::Codes) -> 
 }
 
 // What an instant adds, where `v` shows before it.
-fn put_turn(out: &mut [u8], begun: bool, t: u64, v: Shown, w: Shown) -> usize
+fn put_turn(out: &mut [u8], at: usize, begun: bool, t: u64, v: Shown, w: Shown) -> usize
     requires { ⌜ v .half ≤ 1 ⌝ }
     requires { ⌜ w .half ≤ 1 ⌝ }
-    requires { ⌜ 256 ≤ length (now out) ⌝ }
-    ensures { λ r. ⌜ Lays 0 (turn «begun» v (record { time = t; shown = w })) (now (out .entry)) r (now (out .exit)) ⌝ }
+    requires { ⌜ Room at (turn «begun» v (record { time = t; shown = w })) (now out) ⌝ }
+    ensures { λ r. ⌜ Lays at (turn «begun» v (record { time = t; shown = w })) (now (out .entry)) r (now (out .exit)) ⌝ }
 {
     if begun {
-        return put_change(out, 0, t, v, w);
+        return put_change(out, at, t, v, w);
     }
     if t == 0 {
-        return put_start(out, w);
+        return put_start(out, at, w);
     }
-    let at = put_start(out, v);
-    put_change(out, at, t, v, w)
+    let next = put_start(out, at, v);
+    put_change(out, next, t, v, w)
+}
+
+fn turn_size(begun: bool, t: u64, v: Shown, w: Shown) -> usize
+    ensures { λ r. ⌜ r ≡ length (turn «begun» v (record { time = t; shown = w })) ⌝ }
+{
+    if begun {
+        return change_size(t, v, w);
+    }
+    if t == 0 {
+        return START;
+    }
+    START + change_size(t, v, w)
+}
+
+// With `keep` what an instant adds is put in its place. Without, its bytes are counted and not made: both runs of a dump would otherwise
+// make every line.
+fn add_turn(out: &mut [u8], at: usize, keep: bool, begun: bool, t: u64, v: Shown, w: Shown) -> usize
+    requires { ⌜ v .half ≤ 1 ⌝ }
+    requires { ⌜ w .half ≤ 1 ⌝ }
+    requires { ⌜ at ≤ 20000000 ⌝ }
+    requires { ⌜ RoomAt (turn «begun» v (record { time = t; shown = w })) (now out) at keep ⌝ }
+    ensures { λ r. ⌜ r ≡ at + length (turn «begun» v (record { time = t; shown = w })) ⌝ }
+    ensures { λ _. ⌜ KeptAt (turn «begun» v (record { time = t; shown = w })) (now (out .entry)) at keep (now (out .exit)) ⌝ }
+{
+    if keep {
+        return put_turn(out, at, begun, t, v, w);
+    }
+    at + turn_size(begun, t, v, w)
 }
 
 fn wire_of(half: u8) -> u8
@@ -118,7 +148,7 @@ pub fn put_instant(out: &mut [u8], begun: bool, t: u64, before: View, after: Vie
     if out.len() < ROOM {
         return 0;
     }
-    put_turn(out, begun, t, shown_by(before), shown_by(after))
+    put_turn(out, 0, begun, t, shown_by(before), shown_by(after))
 }
 
 // The instants of a run, at most `budget` of them, from the place behind what is put before: with `keep` their bytes are put, without only
@@ -141,7 +171,6 @@ fn draw_instants(
     let mut release = d.release;
     let mut blocked = d.blocked;
     let mut waits = d.waits;
-    let mut scratch = [0u8; ROOM];
     let mut at = from;
     let mut size = place;
     let mut left = budget;
@@ -164,9 +193,7 @@ fn draw_instants(
             break;
         }
         let w = shown(&times, &sets, &codes);
-        let n = put_turn(&mut scratch, begun, x.time, v, w);
-        keep_piece(&scratch[..n], out, size, keep);
-        size += n;
+        size = add_turn(out, size, keep, begun, x.time, v, w);
         at += x.read;
         begun = true;
         v = w;
@@ -197,7 +224,7 @@ fn draw(s: &[u8], part: Head, budget: usize, out: &mut [u8], keep: bool) -> usiz
         copyout: 255,
         half: 0,
     };
-    let n = put_start(&mut scratch, nobody);
+    let n = put_start(&mut scratch, 0, nobody);
     keep_piece(&scratch[..n], out, size, keep);
     size + n
 }

@@ -1,16 +1,22 @@
--- `rules::viewing::viewed` meets its contract: by whether an interval is open. Assumes nothing.
+-- `rules::viewing::viewed` meets its contract: what the arrays show, and the sets. Assumes nothing.
+use mathlib.Core.Path.{ap, _∙_}
+use Rattle.rules.specs.Kept.{kept}
+use Rattle.rules.specs.Showing.{ticks-of, units-of}
+use Rattle.rules.proofs.Views.{of-arrays}
 use borrow.Author.Needs.{needs}
 use Rattle.rules.proofs.viewing.viewed.Statement.{statement}
 use Rattle.rules.proofs.viewing.viewed.Tie as tie
 
 returns : tie.Need-returns
-returns c b = c .none-open .ensures (c .before .before .before .args .times .now) b (c .before .if1 .taken)
-
-returns-2 : tie.Need-returns-2
-returns-2 c b = c .one-open .ensures b (c .before .if1 .left)
+returns c b =
+    let a = c .before .before .before .before .before .before .args in
+    let x = c .before .before .before .show .ensures (a .sets .now) in
+    of-arrays (kept (a .times .now) (a .sets .now) (a .codes .now)) b (x .ticks-are ∙ ap ticks-of (x .is-so b)) (x .units-are ∙ ap units-of (x .is-so b))
 
 pub viewed-spec : {M : Type 1} → statement M
 viewed-spec =
     tie.close
     (tie.spec
-    (λ c. search needs) (λ c κs. search needs) returns (λ c κs. search needs) returns-2)
+    (λ c κs. search needs) (λ c. search needs) (λ c. search needs) (λ c. search needs) (λ c. search needs)
+    (λ c. search needs) (λ c. search needs) (λ c. search needs) (λ c. search needs) (λ c. search needs)
+    (λ c. search needs) (λ c. search needs) (λ c. search needs) (λ c. search needs) returns)

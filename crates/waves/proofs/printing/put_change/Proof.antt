@@ -1,8 +1,9 @@
 -- `waves::put_change` meets its contract: nothing where no value changes, or the mark and those that do. Assumes nothing.
-use mathlib.Core.Path.{sym, _∙_}
+use mathlib.Core.Path.{sym, _∙_, subst}
 use native.Mathlib.Omega.{arith}
-use Rattle.waves.specs.Dump.{change, changed}
-use Rattle.waves.proofs.Laying.{nothing, _then_, grows, mark-most, new-most}
+use Rattle.waves.specs.Printing.{Room}
+use Rattle.waves.specs.Dump.{wires, wire, mark, if-new, change, changed}
+use Rattle.waves.proofs.Laying.{nothing, _then_, first-room, next-room, behind-first, behind-second, change-is}
 use borrow.Author.Needs.{needs}
 use Rattle.waves.proofs.printing.put_change.Statement.{statement}
 use Rattle.waves.proofs.printing.put_change.Tie as tie
@@ -20,45 +21,54 @@ same-requires c κs = search needs
 -- src/printing.rt:159:9
 returns : tie.Need-returns
 unfolding change
-returns c = let f = c .before .before .before in rw (sym (c .before .same .ensures) ∙ c .if1 .taken) (nothing (f .args .at) (f .args .out .now) (omega (arith, f .pre)))
+returns c = let f = c .before .before .before in rw (sym (c .before .same .ensures) ∙ c .if1 .taken) (nothing (f .args .at) (f .args .out .now) (omega (arith, f .pre .1 .fits)))
 
 -- src/printing.rt:161:9
 put-mark-requires : tie.Need-put-mark-requires
-put-mark-requires c κs = search needs
+put-mark-requires c κs =
+    let f = c .before .before .before .before in
+    let e = change-is (f .args .v) (f .args .t) (f .args .w) (sym (c .before .before .same .ensures) ∙ c .before .if1 .left) in
+    first-room (mark (f .args .t)) (changed (f .args .v) (f .args .w)) (subst (λ l. Room (f .args .at) l (f .args .out .now)) e (f .pre .1))
 
 -- src/printing.rt:162:9
 put-new-requires : tie.Need-put-new-requires
+unfolding changed
 put-new-requires c κs =
     let f = c .before .before .before .before .before .before .before .before in
-    let x = grows 22 (c .before .before .before .put-mark .ensures) (mark-most (f .args .t) (omega arith)) (omega (arith, f .pre)) in
-    omega (arith, f .pre, x .0, x .1)
+    let e = change-is (f .args .v) (f .args .t) (f .args .w) (sym (c .before .before .before .before .before .before .same .ensures) ∙ c .before .before .before .before .before .if1 .left) in
+    first-room (if-new (f .args .v .processor) (f .args .w .processor) (wires 97 (f .args .w .processor))) (behind-first (f .args .v) (f .args .w)) (next-room (changed (f .args .v) (f .args .w)) (c .before .before .before .put-mark .ensures) (subst (λ l. Room (f .args .at) l (f .args .out .now)) e (f .pre .1)))
 
 -- src/printing.rt:163:9
 put-new-requires-2 : tie.Need-put-new-requires-2
+unfolding changed
 put-new-requires-2 c κs =
     let f = c .before .before .before .before .before .before .before .before .before .before .before .before in
-    let x = grows 22 (c .before .before .before .before .before .before .before .put-mark .ensures) (mark-most (f .args .t) (omega arith)) (omega (arith, f .pre)) in
-    let y = grows 12 (c .before .before .before .put-new .ensures) (new-most (f .args .v .processor) (f .args .w .processor) 97) (omega (arith, f .pre, x .0, x .1)) in
-    omega (arith, f .pre, x .0, x .1, y .0, y .1)
+    let e = change-is (f .args .v) (f .args .t) (f .args .w) (sym (c .before .before .before .before .before .before .before .before .before .before .same .ensures) ∙ c .before .before .before .before .before .before .before .before .before .if1 .left) in
+    let r = next-room (changed (f .args .v) (f .args .w)) (c .before .before .before .before .before .before .before .put-mark .ensures) (subst (λ l. Room (f .args .at) l (f .args .out .now)) e (f .pre .1)) in
+    first-room (if-new (f .args .v .copyin) (f .args .w .copyin) (wires 98 (f .args .w .copyin))) (behind-second (f .args .v) (f .args .w))
+    (next-room (behind-first (f .args .v) (f .args .w)) (c .before .before .before .put-new .ensures) r)
 
 -- src/printing.rt:164:9
 put-new-requires-3 : tie.Need-put-new-requires-3
+unfolding changed
 put-new-requires-3 c κs =
     let f = c .before .before .before .before .before .before .before .before .before .before .before .before .before .before .before .before in
-    let x = grows 22 (c .before .before .before .before .before .before .before .before .before .before .before .put-mark .ensures) (mark-most (f .args .t) (omega arith)) (omega (arith, f .pre)) in
-    let y = grows 12 (c .before .before .before .before .before .before .before .put-new .ensures) (new-most (f .args .v .processor) (f .args .w .processor) 97) (omega (arith, f .pre, x .0, x .1)) in
-    let z = grows 12 (c .before .before .before .put-new2 .ensures) (new-most (f .args .v .copyin) (f .args .w .copyin) 98) (omega (arith, f .pre, x .0, x .1, y .0, y .1)) in
-    omega (arith, f .pre, x .0, x .1, y .0, y .1, z .0, z .1)
+    let e = change-is (f .args .v) (f .args .t) (f .args .w) (sym (c .before .before .before .before .before .before .before .before .before .before .before .before .before .before .same .ensures) ∙ c .before .before .before .before .before .before .before .before .before .before .before .before .before .if1 .left) in
+    let r = next-room (changed (f .args .v) (f .args .w)) (c .before .before .before .before .before .before .before .before .before .before .before .put-mark .ensures) (subst (λ l. Room (f .args .at) l (f .args .out .now)) e (f .pre .1)) in
+    first-room (if-new (f .args .v .copyout) (f .args .w .copyout) (wires 99 (f .args .w .copyout))) (if-new (f .args .v .half) (f .args .w .half) (wire 100 (f .args .w .half)))
+    (next-room (behind-second (f .args .v) (f .args .w)) (c .before .before .before .put-new2 .ensures) (next-room (behind-first (f .args .v) (f .args .w)) (c .before .before .before .before .before .before .before .put-new .ensures) r))
 
 -- src/printing.rt:165:5
 put-new-half-requires : tie.Need-put-new-half-requires
+unfolding changed
 put-new-half-requires c κs =
     let f = c .before .before .before .before .before .before .before .before .before .before .before .before .before .before .before .before .before .before .before .before in
-    let x = grows 22 (c .before .before .before .before .before .before .before .before .before .before .before .before .before .before .before .put-mark .ensures) (mark-most (f .args .t) (omega arith)) (omega (arith, f .pre)) in
-    let y = grows 12 (c .before .before .before .before .before .before .before .before .before .before .before .put-new .ensures) (new-most (f .args .v .processor) (f .args .w .processor) 97) (omega (arith, f .pre, x .0, x .1)) in
-    let z = grows 12 (c .before .before .before .before .before .before .before .put-new2 .ensures) (new-most (f .args .v .copyin) (f .args .w .copyin) 98) (omega (arith, f .pre, x .0, x .1, y .0, y .1)) in
-    let w = grows 12 (c .before .before .before .put-new3 .ensures) (new-most (f .args .v .copyout) (f .args .w .copyout) 99) (omega (arith, f .pre, x .0, x .1, y .0, y .1, z .0, z .1)) in
-    (f .pre .0, omega (arith, f .pre, x .0, x .1, y .0, y .1, z .0, z .1, w .0, w .1))
+    let e = change-is (f .args .v) (f .args .t) (f .args .w) (sym (c .before .before .before .before .before .before .before .before .before .before .before .before .before .before .before .before .before .before .same .ensures) ∙ c .before .before .before .before .before .before .before .before .before .before .before .before .before .before .before .before .before .if1 .left) in
+    let r = next-room (changed (f .args .v) (f .args .w)) (c .before .before .before .before .before .before .before .before .before .before .before .before .before .before .before .put-mark .ensures) (subst (λ l. Room (f .args .at) l (f .args .out .now)) e (f .pre .1)) in (
+      f .pre .0,
+      next-room (if-new (f .args .v .half) (f .args .w .half) (wire 100 (f .args .w .half))) (c .before .before .before .put-new3 .ensures)
+          (next-room (behind-second (f .args .v) (f .args .w)) (c .before .before .before .before .before .before .before .put-new2 .ensures) (next-room (behind-first (f .args .v) (f .args .w)) (c .before .before .before .before .before .before .before .before .before .before .before .put-new .ensures) r)),
+    )
 
 -- src/printing.rt:153:1
 same-length : tie.Need-same-length

@@ -1,8 +1,9 @@
 -- `waves::put_mark` meets its contract: the sign, the number, the newline. Assumes nothing.
 use native.Mathlib.Omega.{arith}
-use Rattle.lines.proofs.Laws.{short}
+use mathlib.Core.List.{_++_}
+use Rattle.lines.specs.Lines.{decimal, newline}
 use Rattle.waves.specs.Dump.{mark}
-use Rattle.waves.proofs.Laying.{_then_, grows}
+use Rattle.waves.proofs.Laying.{_then_, first-room, next-room, mark-size}
 use borrow.Author.Needs.{needs}
 use Rattle.waves.proofs.printing.put_mark.Statement.{statement}
 use Rattle.waves.proofs.printing.put_mark.Tie as tie
@@ -13,19 +14,22 @@ use Rattle.waves.proofs.printing.put_number.Reads as put-number-reads
 
 -- src/printing.rt:59:9
 put-byte-requires : tie.Need-put-byte-requires
-put-byte-requires c κs = search needs
+put-byte-requires c κs = let f = c .before .before in omega (arith, f .pre .fits, mark-size (f .args .t))
 
 -- src/printing.rt:60:9
 put-number-requires : tie.Need-put-number-requires
-put-number-requires c κs = search needs
+unfolding mark
+put-number-requires c κs =
+    let f = c .before .before .before .before .before .before in
+    first-room (decimal (f .args .t)) newline (next-room (decimal (f .args .t) ++ newline) (c .before .before .before .put-byte .ensures) (f .pre))
 
 -- src/printing.rt:61:5
 put-byte-requires-2 : tie.Need-put-byte-requires-2
+unfolding mark
 put-byte-requires-2 c κs =
     let f = c .before .before .before .before .before .before .before .before .before .before in
-    let x = grows 1 (c .before .before .before .before .before .before .before .put-byte .ensures) (omega arith) (omega (arith, f .pre)) in
-    let y = grows 20 (c .before .before .before .put-number .ensures) (short 19 (f .args .t) (omega arith)) (omega (arith, f .pre, x .0, x .1)) in
-    omega (arith, f .pre, x .0, x .1, y .0, y .1)
+    let r = next-room (decimal (f .args .t) ++ newline) (c .before .before .before .before .before .before .before .put-byte .ensures) (f .pre) in
+    omega (arith, next-room newline (c .before .before .before .put-number .ensures) r .fits)
 
 -- src/printing.rt:55:1
 same-length : tie.Need-same-length

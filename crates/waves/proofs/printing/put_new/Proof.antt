@@ -1,7 +1,10 @@
 -- `waves::put_new` meets its contract: by whether the value is the old one. Assumes nothing.
+use mathlib.Core.Path.{ap}
+use lib.ListN.{length}
 use native.Mathlib.Omega.{arith}
 use borrow.Author.Tests.{eq-eqb, ne-eqb}
-use Rattle.waves.proofs.Laying.{nothing}
+use Rattle.waves.specs.Dump.{wires}
+use Rattle.waves.proofs.Laying.{nothing, new-is, wires-size}
 use borrow.Author.Needs.{needs}
 use Rattle.waves.proofs.printing.put_new.Statement.{statement}
 use Rattle.waves.proofs.printing.put_new.Tie as tie
@@ -11,11 +14,14 @@ use Rattle.waves.proofs.printing.put_wires.Reads as put-wires-reads
 
 -- src/printing.rt:115:9
 returns : tie.Need-returns
-returns c = let a = c .before .before .args in rw (eq-eqb (a .old) (a .new) (c .if1 .taken)) (nothing (a .at) (a .out .now) (omega (arith, c .before .before .pre)))
+returns c = let a = c .before .before .args in rw (eq-eqb (a .old) (a .new) (c .if1 .taken)) (nothing (a .at) (a .out .now) (omega (arith, c .before .before .pre .fits)))
 
 -- src/printing.rt:117:5
 put-wires-requires : tie.Need-put-wires-requires
-put-wires-requires c κs = search needs
+put-wires-requires c κs =
+    let f = c .before .before .before in
+    let a = f .args in
+    omega (arith, f .pre .fits, ap length (new-is (a .old) (a .new) (wires (a .code) (a .new)) (c .before .if1 .left)), wires-size (a .code) (a .new))
 
 -- src/printing.rt:110:1
 same-length : tie.Need-same-length

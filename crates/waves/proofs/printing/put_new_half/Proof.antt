@@ -1,7 +1,10 @@
 -- `waves::put_new_half` meets its contract: by whether the value is the old one. Assumes nothing.
+use mathlib.Core.Path.{ap}
+use lib.ListN.{length}
 use native.Mathlib.Omega.{arith}
 use borrow.Author.Tests.{eq-eqb, ne-eqb}
-use Rattle.waves.proofs.Laying.{nothing}
+use Rattle.waves.specs.Dump.{wire}
+use Rattle.waves.proofs.Laying.{nothing, new-is, wire-size}
 use borrow.Author.Needs.{needs}
 use Rattle.waves.proofs.printing.put_new_half.Statement.{statement}
 use Rattle.waves.proofs.printing.put_new_half.Tie as tie
@@ -11,11 +14,14 @@ use Rattle.waves.proofs.printing.put_wire.Reads as put-wire-reads
 
 -- src/printing.rt:126:9
 returns : tie.Need-returns
-returns c = let a = c .before .before .args in rw (eq-eqb (a .old) (a .new) (c .if1 .taken)) (nothing (a .at) (a .out .now) (omega (arith, c .before .before .pre)))
+returns c = let a = c .before .before .args in rw (eq-eqb (a .old) (a .new) (c .if1 .taken)) (nothing (a .at) (a .out .now) (omega (arith, c .before .before .pre .1 .fits)))
 
 -- src/printing.rt:128:5
 put-wire-requires : tie.Need-put-wire-requires
-put-wire-requires c κs = search needs
+put-wire-requires c κs =
+    let f = c .before .before .before in
+    let a = f .args in
+    (f .pre .0, omega (arith, f .pre .1 .fits, ap length (new-is (a .old) (a .new) (wire 100 (a .new)) (c .before .if1 .left)), wire-size 100 (a .new)))
 
 -- src/printing.rt:120:1
 same-length : tie.Need-same-length

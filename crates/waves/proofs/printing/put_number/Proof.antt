@@ -3,7 +3,6 @@ use mathlib.Core.Path.{ap, _∙_}
 use Prim.Native.Nat.{_+_, _-_}
 use native.Mathlib.Omega.{arith}
 use lib.ListN.{length-set}
-use Rattle.lines.proofs.Laws.{short}
 use Rattle.waves.proofs.Numbers.{some-digits, Behind, begins, inside, ahead, step, ends}
 use borrow.Author.Needs.{needs}
 use Rattle.waves.proofs.printing.put_number.Statement.{statement}
@@ -19,13 +18,13 @@ abbrev μ-loop : tie.MeasureT-loop
 μ-loop out₀ at n size i₀ left₀ out i left = left
 
 add-i : tie.Need-add-i Inv-loop μ-loop
-add-i c = let f = c .before .before in omega (arith, f .pre, c .number-size .ensures, short 19 (f .args .n) (omega arith), f .good .0 .0)
+add-i c = let f = c .before .before in omega (arith, f .pre .fits, c .number-size .ensures, f .good .0 .0)
 
 sub-i : tie.Need-sub-i Inv-loop μ-loop
 sub-i c = omega (arith, c .number-size .ensures, some-digits (c .before .before .args .n))
 
 loop-holds : tie.Need-loop-holds Inv-loop μ-loop
-loop-holds c = let f = c .before .before in let a = f .args in begins (a .out .now) (a .at) (a .n) _ (ap (λ k. a .at + k - 1) (c .number-size .ensures)) (omega (arith, f .pre, short 19 (a .n) (omega arith)))
+loop-holds c = let f = c .before .before in let a = f .args in begins (a .out .now) (a .at) (a .n) _ (ap (λ k. a .at + k - 1) (c .number-size .ensures)) (f .pre .fits)
 
 slice-write-out : tie.Need-slice-write-out Inv-loop μ-loop
 slice-write-out c = let x = c .before .loop .inv in omega (arith, inside x, x .same)
@@ -43,7 +42,7 @@ slice-write-out-2 : tie.Need-slice-write-out-2 Inv-loop μ-loop
 slice-write-out-2 c = let x = c .before .loop .inv in omega (arith, inside x, x .same)
 
 add-result : tie.Need-add-result Inv-loop μ-loop
-add-result c = let f = c .before .before .before .before in omega (arith, f .pre, c .before .before .number-size .ensures, short 19 (f .args .n) (omega arith), f .good .0 .0)
+add-result c = let f = c .before .before .before .before in omega (arith, f .pre .fits, c .before .before .number-size .ensures, f .good .0 .0)
 
 same-length : tie.Need-same-length Inv-loop μ-loop
 same-length c = let v = c .before .loop in length-set (v .out) (v .i) (48 + v .left) ∙ v .inv .same

@@ -1,7 +1,8 @@
 -- `waves::put_start` meets its contract: the mark, and the four values. Assumes nothing.
+use mathlib.Core.List.{_++_}
 use native.Mathlib.Omega.{arith}
-use Rattle.waves.specs.Dump.{all}
-use Rattle.waves.proofs.Laying.{_then_, grows, mark-most, wires-size}
+use Rattle.waves.specs.Dump.{mark, wires, wire, all}
+use Rattle.waves.proofs.Laying.{_then_, first-room, next-room, wires-size, wire-size}
 use borrow.Author.Needs.{needs}
 use Rattle.waves.proofs.printing.put_start.Statement.{statement}
 use Rattle.waves.proofs.printing.put_start.Tie as tie
@@ -13,41 +14,38 @@ use Rattle.waves.proofs.printing.put_wires.Reads as put-wires-reads
 
 -- src/printing.rt:108:9
 put-mark-requires : tie.Need-put-mark-requires
-put-mark-requires c κs = search needs
+put-mark-requires c κs = let f = c .before .before in first-room (mark 0) (all (f .args .w)) (f .pre .1)
 
 -- src/printing.rt:109:9
 put-wires-requires : tie.Need-put-wires-requires
+unfolding all
 put-wires-requires c κs =
     let f = c .before .before .before .before .before .before in
-    let x = grows 22 (c .before .before .before .put-mark .ensures) (mark-most 0 (omega arith)) (omega (arith, f .pre)) in
-    omega (arith, f .pre, x .0, x .1)
+    omega (arith, first-room (wires 97 (f .args .w .processor)) (wires 98 (f .args .w .copyin) ++ (wires 99 (f .args .w .copyout) ++ wire 100 (f .args .w .half))) (next-room (all (f .args .w)) (c .before .before .before .put-mark .ensures) (f .pre .1)) .fits, wires-size 97 (f .args .w .processor))
 
 -- src/printing.rt:110:9
 put-wires-requires-2 : tie.Need-put-wires-requires-2
+unfolding all
 put-wires-requires-2 c κs =
     let f = c .before .before .before .before .before .before .before .before .before .before in
-    let x = grows 22 (c .before .before .before .before .before .before .before .put-mark .ensures) (mark-most 0 (omega arith)) (omega (arith, f .pre)) in
-    let y = grows 12 (c .before .before .before .put-wires .ensures) (omega (arith, wires-size 97 (f .args .w .processor))) (omega (arith, f .pre, x .0, x .1)) in
-    omega (arith, f .pre, x .0, x .1, y .0, y .1)
+    let r = next-room (all (f .args .w)) (c .before .before .before .before .before .before .before .put-mark .ensures) (f .pre .1) in
+    omega (arith, first-room (wires 98 (f .args .w .copyin)) (wires 99 (f .args .w .copyout) ++ wire 100 (f .args .w .half)) (next-room (wires 98 (f .args .w .copyin) ++ (wires 99 (f .args .w .copyout) ++ wire 100 (f .args .w .half))) (c .before .before .before .put-wires .ensures) r) .fits, wires-size 98 (f .args .w .copyin))
 
 -- src/printing.rt:111:9
 put-wires-requires-3 : tie.Need-put-wires-requires-3
+unfolding all
 put-wires-requires-3 c κs =
     let f = c .before .before .before .before .before .before .before .before .before .before .before .before .before .before in
-    let x = grows 22 (c .before .before .before .before .before .before .before .before .before .before .before .put-mark .ensures) (mark-most 0 (omega arith)) (omega (arith, f .pre)) in
-    let y = grows 12 (c .before .before .before .before .before .before .before .put-wires .ensures) (omega (arith, wires-size 97 (f .args .w .processor))) (omega (arith, f .pre, x .0, x .1)) in
-    let z = grows 12 (c .before .before .before .put-wires2 .ensures) (omega (arith, wires-size 98 (f .args .w .copyin))) (omega (arith, f .pre, x .0, x .1, y .0, y .1)) in
-    omega (arith, f .pre, x .0, x .1, y .0, y .1, z .0, z .1)
+    let r = next-room (all (f .args .w)) (c .before .before .before .before .before .before .before .before .before .before .before .put-mark .ensures) (f .pre .1) in
+    omega (arith, first-room (wires 99 (f .args .w .copyout)) (wire 100 (f .args .w .half)) (next-room (wires 99 (f .args .w .copyout) ++ wire 100 (f .args .w .half)) (c .before .before .before .put-wires2 .ensures) (next-room (wires 98 (f .args .w .copyin) ++ (wires 99 (f .args .w .copyout) ++ wire 100 (f .args .w .half))) (c .before .before .before .before .before .before .before .put-wires .ensures) r)) .fits, wires-size 99 (f .args .w .copyout))
 
 -- src/printing.rt:112:5
 put-wire-requires : tie.Need-put-wire-requires
+unfolding all
 put-wire-requires c κs =
     let f = c .before .before .before .before .before .before .before .before .before .before .before .before .before .before .before .before .before .before in
-    let x = grows 22 (c .before .before .before .before .before .before .before .before .before .before .before .before .before .before .before .put-mark .ensures) (mark-most 0 (omega arith)) (omega (arith, f .pre)) in
-    let y = grows 12 (c .before .before .before .before .before .before .before .before .before .before .before .put-wires .ensures) (omega (arith, wires-size 97 (f .args .w .processor))) (omega (arith, f .pre, x .0, x .1)) in
-    let z = grows 12 (c .before .before .before .before .before .before .before .put-wires2 .ensures) (omega (arith, wires-size 98 (f .args .w .copyin))) (omega (arith, f .pre, x .0, x .1, y .0, y .1)) in
-    let w = grows 12 (c .before .before .before .put-wires3 .ensures) (omega (arith, wires-size 99 (f .args .w .copyout))) (omega (arith, f .pre, x .0, x .1, y .0, y .1, z .0, z .1)) in
-    (f .pre .0, omega (arith, f .pre, x .0, x .1, y .0, y .1, z .0, z .1, w .0, w .1))
+    let r = next-room (all (f .args .w)) (c .before .before .before .before .before .before .before .before .before .before .before .before .before .before .before .put-mark .ensures) (f .pre .1) in
+    (f .pre .0, omega (arith, next-room (wire 100 (f .args .w .half)) (c .before .before .before .put-wires3 .ensures) (next-room (wires 99 (f .args .w .copyout) ++ wire 100 (f .args .w .half)) (c .before .before .before .before .before .before .before .put-wires2 .ensures) (next-room (wires 98 (f .args .w .copyin) ++ (wires 99 (f .args .w .copyout) ++ wire 100 (f .args .w .half))) (c .before .before .before .before .before .before .before .before .before .before .before .put-wires .ensures) r)) .fits, wire-size 100 (f .args .w .half)))
 
 -- src/printing.rt:103:1
 same-length : tie.Need-same-length

@@ -71,7 +71,7 @@ slice-aggregate-put-start c = search needs
 
 -- src/writing.rt:142:9
 put-start-requires : tie.Need-put-start-requires
-put-start-requires c κs = search needs
+put-start-requires c κs = (omega arith, record { fits = omega (arith, start-most (record { processor = 255; copyin = 255; copyout = 255; half = 0 })) })
 
 -- src/writing.rt:143:16
 array-share-prefix-scratch : tie.Need-array-share-prefix-scratch

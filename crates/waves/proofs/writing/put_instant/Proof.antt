@@ -1,6 +1,7 @@
 -- `waves::writing::put_instant` meets its contract: by whether there is room. Assumes nothing.
 use mathlib.Core.Path.{refl}
 use native.Mathlib.Omega.{arith}
+use Rattle.waves.proofs.Drawing.{turn-most}
 use borrow.Author.Needs.{needs}
 use Rattle.waves.proofs.writing.put_instant.Statement.{statement}
 use Rattle.waves.proofs.writing.put_instant.Tie as tie
@@ -9,7 +10,10 @@ returns : tie.Need-returns
 returns c = record { none = λ l. (refl, refl); put = λ l. absurd (omega (arith, l, c .if1 .taken)) }
 
 put-turn-requires : tie.Need-put-turn-requires
-put-turn-requires c κs = (c .before .shown-by .ensures .1, (c .shown-by2 .ensures .1, c .before .before .before .if1 .left))
+put-turn-requires c κs =
+    let a = c .before .before .before .before .before .args in
+    let most = turn-most (a .begun) (c .before .shown-by .result) (a .t) (c .shown-by2 .result) (omega arith) in
+    (c .before .shown-by .ensures .1, (c .shown-by2 .ensures .1, record { fits = omega (arith, c .before .before .before .if1 .left, most) }))
 
 returns-2 : tie.Need-returns-2
 returns-2 c = record {

@@ -1,9 +1,11 @@
 -- `waves::put_turn` meets its contract: by whether an instant came before, and by the time. Assumes nothing.
-use native.Mathlib.Omega.{arith}
+use mathlib.Core.Path.{subst}
 use borrow.Author.Tests.{eq-eqb, ne-eqb}
-use Rattle.waves.specs.Drawing.{turn}
-use Rattle.waves.proofs.Laying.{_then_, grows}
-use Rattle.waves.proofs.Drawing.{start-most}
+use Rattle.waves.specs.Dump.{change}
+use Rattle.waves.specs.Printing.{Room}
+use Rattle.waves.specs.Drawing.{start, turn}
+use Rattle.waves.proofs.Laying.{_then_, first-room, next-room}
+use Rattle.waves.proofs.Drawing.{adds-change, adds-start, adds-both}
 use borrow.Author.Needs.{needs}
 use Rattle.waves.proofs.writing.put_turn.Statement.{statement}
 use Rattle.waves.proofs.writing.put_turn.Tie as tie
@@ -14,7 +16,9 @@ use Rattle.waves.proofs.printing.put_start.Reads as put-start-reads
 
 -- src/writing.rt:53:9
 put-change-requires : tie.Need-put-change-requires
-put-change-requires c κs = search needs
+put-change-requires c κs =
+    let f = c .before .before .before in
+    (f .pre .1 .0, subst (λ l. Room (f .args .at) l (f .args .out .now)) (adds-change (f .args .begun) (f .args .v) (record { time = f .args .t; shown = f .args .w }) (c .before .if1 .taken)) (f .pre .1 .1))
 
 -- src/writing.rt:53:9
 same-length : tie.Need-same-length
@@ -27,7 +31,9 @@ returns c = rw (c .before .before .before .before .if1 .taken) (c .before .befor
 
 -- src/writing.rt:56:9
 put-start-requires : tie.Need-put-start-requires
-put-start-requires c κs = search needs
+put-start-requires c κs =
+    let f = c .before .before .before .before in
+    (f .pre .1 .0, subst (λ l. Room (f .args .at) l (f .args .out .now)) (adds-start (f .args .begun) (f .args .v) (record { time = f .args .t; shown = f .args .w }) (c .before .before .if1 .left) (c .before .if2 .taken)) (f .pre .1 .1))
 
 -- src/writing.rt:56:9
 same-length-2 : tie.Need-same-length-2
@@ -40,14 +46,17 @@ returns-2 c = rw (c .before .before .before .before .before .if1 .left, eq-eqb (
 
 -- src/writing.rt:58:9
 put-start-requires-2 : tie.Need-put-start-requires-2
-put-start-requires-2 c κs = search needs
+put-start-requires-2 c κs =
+    let f = c .before .before .before .before in
+    let e = adds-both (f .args .begun) (f .args .v) (record { time = f .args .t; shown = f .args .w }) (c .before .before .if1 .left) (c .before .if2 .left) in
+    (f .pre .0, first-room (start (f .args .v)) (change (f .args .v) (record { time = f .args .t; shown = f .args .w })) (subst (λ l. Room (f .args .at) l (f .args .out .now)) (e) (f .pre .1 .1)))
 
 -- src/writing.rt:59:5
 put-change-requires-2 : tie.Need-put-change-requires-2
 put-change-requires-2 c κs =
     let f = c .before .before .before .before .before .before .before .before in
-    let x = grows 61 (c .before .before .before .put-start2 .ensures) (start-most (f .args .v)) (omega (arith, f .pre)) in
-    (f .pre .1 .0, omega (arith, f .pre, x .0, x .1))
+    let e = adds-both (f .args .begun) (f .args .v) (record { time = f .args .t; shown = f .args .w }) (c .before .before .before .before .before .before .if1 .left) (c .before .before .before .before .before .if2 .left) in
+    (f .pre .1 .0, next-room (change (f .args .v) (record { time = f .args .t; shown = f .args .w })) (c .before .before .before .put-start2 .ensures) (subst (λ l. Room (f .args .at) l (f .args .out .now)) (e) (f .pre .1 .1)))
 
 -- src/writing.rt:46:1
 same-length-3 : tie.Need-same-length-3
