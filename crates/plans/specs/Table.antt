@@ -50,9 +50,10 @@ unfolding Words.bytesOf Words.numberAt Words.room Words.written Sets.member Sets
     Rows.with-put Rows.found Rows.all-found Rows.all-expected Rows.recorded Rows.refused Rows.answered Rows.answered-behind Plans.task
     Plans.release Plans.tasks Plans.two-marked Plans.none Plans.interval Plans.job Plans.skipped Plans.record-A Plans.record-B
     Plans.record-C Plans.record-D Plans.record-E Plans.two-jobs Plans.record-F Plans.record-F′ Plans.record-thrown-out
-    Plans.record-higher-promoted Plans.record-higher-stays Plans.record-unmarked Plans.record-interval-over Plans.plans Waiting.record-in-its-turn
-    Waiting.record-third-skipped Waiting.record-chosen-at-once Waiting.record-from-the-taking Waiting.record-marks
-    Waiting.record-cancels Waiting.record-throws-out Waiting.record-belongs-to-next Waiting.waiting Refusals.unopened Refusals.refusals
+    Plans.record-higher-promoted Plans.record-higher-stays Plans.record-unmarked Plans.record-interval-over Plans.plans
+    Waiting.record-in-its-turn Waiting.record-third-skipped Waiting.record-chosen-at-once Waiting.record-from-the-taking
+    Waiting.record-marks Waiting.record-cancels Waiting.record-throws-out Waiting.record-belongs-to-next Waiting.waiting
+    Refusals.unopened Refusals.refusals
     Runs.runs Lines.digits Lines.decimal Dump.ascii Dump.line Dump.header Dump.wires Dump.wire Dump.all Dump.changed Dump.mark
     Dump.change Dump.changes Dump.dump Samples.samples Samples.samples-of WaveWriting.dumped Rows.drawn Rows.not-drawn Waveforms.lines
     Waveforms.header Waveforms.dump-A Waveforms.dump-B Waveforms.dump-G Waveforms.waveforms
