@@ -29,8 +29,8 @@ fn half_shown(half: u8) -> u8
     0
 }
 
-// A phase under way, in the places of its unit, which have that of nobody before: the end in one array, the task one place further on in the
-// other.
+// A phase under way, in the places of its unit, which have that of nobody before: the end in one array, the task one place further on in
+// the other.
 fn show_phase(
     under_way: bool,
     n: u8,
@@ -102,8 +102,8 @@ fn show_open<'a>(
     );
 }
 
-// Begin and ends, and whether an interval is open, its work and the four values, into the arrays of one who looks: each number is stored when
-// it is known. Made first and stored then, they are too many for the registers.
+// Begin and ends, and whether an interval is open, its work and the four values, into the arrays of one who looks: each number is stored
+// when it is known. Made first and stored then, they are too many for the registers.
 pub fn show<'a>(
     times: &'a at::Times,
     codes: &'a at::Codes,
