@@ -33,12 +33,17 @@ fn skipped(task: u8, time: u64) -> Vec<u8> {
     timed(18, task, time)
 }
 
-/// Tasks 0 to `tasks` - 1, every second one marked, with phases of up to `longest` ticks.
+/// Tasks 0 to `tasks` - 1, every second one marked, with phases of up to `longest` ticks, and all priorities different.
 fn tasks(tasks: u8, longest: u64, random: &mut Random) -> Vec<u8> {
+    tasks_sharing(32, tasks, longest, random)
+}
+
+/// The same with as many priorities as is said.
+fn tasks_sharing(priorities: u8, tasks: u8, longest: u64, random: &mut Random) -> Vec<u8> {
     let mut input = Vec::new();
     for n in 0..tasks {
         // the priorities are no order of the numbers
-        let priority = (n.wrapping_mul(11)) % 32;
+        let priority = n.wrapping_mul(11) % 32 % priorities;
         let lengths = [(); 3].map(|()| 1 + random.below(longest) as u32);
         input.extend(task(n, priority, n % 2, lengths));
     }
@@ -47,8 +52,17 @@ fn tasks(tasks: u8, longest: u64, random: &mut Random) -> Vec<u8> {
 
 /// Releases of random tasks, so near each other that some share a time, some wait and some are skipped.
 pub fn mixed(number: u8, releases: usize) -> Vec<u8> {
+    mixed_sharing(32, number, releases)
+}
+
+/// As many releases as there may be, with many tasks of each priority: every choice is one between equals.
+pub fn equal(number: u8) -> Vec<u8> {
+    mixed_sharing(number.div_ceil(8).max(2), number, 4096)
+}
+
+fn mixed_sharing(priorities: u8, number: u8, releases: usize) -> Vec<u8> {
     let mut random = Random(releases as u64);
-    let mut input = tasks(number, 12, &mut random);
+    let mut input = tasks_sharing(priorities, number, 12, &mut random);
     let mut all = std::collections::BTreeSet::new();
     let mut time = 0;
     while all.len() < releases {

@@ -168,6 +168,7 @@ fn records() -> f64 {
         rows.push((format!("instants with releases, {tasks} tasks"), inputs::dense(tasks)));
         rows.push((format!("instants mostly without, {tasks} tasks"), inputs::sparse(tasks)));
         rows.push((format!("every second one waits, {tasks} tasks"), inputs::waiting(tasks)));
+        rows.push((format!("equal priorities, {tasks} tasks"), inputs::equal(tasks)));
     }
     rows.iter().map(|(name, input)| recording(name.clone(), input).measure().ratio).fold(0.0, f64::max)
 }
@@ -185,12 +186,18 @@ fn true_records() -> f64 {
             let name = format!("read, {releases} releases, {tasks} tasks");
             worst = worst.max(reading(name, &stored).measure().ratio);
         }
+        let equal = stored(&inputs::equal(tasks), tasks);
+        worst = worst.max(reading(format!("read, equal priorities, {tasks} tasks"), &equal).measure().ratio);
     }
     worst
 }
 
 fn recorded(tasks: u8, releases: usize) -> Stored {
-    inputs::stored(&inputs::mixed(tasks, releases), tasks, |input, out| number_and_value(gateway::record(input, out)).1)
+    stored(&inputs::mixed(tasks, releases), tasks)
+}
+
+fn stored(input: &[u8], tasks: u8) -> Stored {
+    inputs::stored(input, tasks, |input, out| number_and_value(gateway::record(input, out)).1)
 }
 
 /// The reader on records that are made to cost much: how many times the time of a true one of the same length the worst takes. Where none is as
@@ -235,7 +242,8 @@ fn kept_instants() -> f64 {
     heading("an instant by itself");
     let mut worst: f64 = 0.0;
     for tasks in [4, 32] {
-        for (name, input) in [("with releases", inputs::dense(tasks)), ("mostly without", inputs::sparse(tasks))] {
+        let rows = [("with releases", inputs::dense(tasks)), ("mostly without", inputs::sparse(tasks)), ("equal priorities", inputs::equal(tasks))];
+        for (name, input) in rows {
             worst = worst.max(measure_instants(&format!("kept, {name}, {tasks} tasks"), &input, tasks).ratio);
         }
     }

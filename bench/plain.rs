@@ -22,6 +22,8 @@ enum Unit {
 #[derive(Clone)]
 struct State {
     priority: [u8; 32],
+    /// of each task the set of those that have its priority
+    equals: [u32; 32],
     copy_in: [u32; 32],
     execution: [u32; 32],
     copy_out: [u32; 32],
@@ -145,6 +147,7 @@ impl Entries for Held<'_> {
 }
 
 impl State {
+    /// Releases are looked at only where another task of the set has the highest priority too.
     #[inline]
     fn highest(&self, set: u32) -> u8 {
         let mut left = set;
@@ -159,7 +162,43 @@ impl State {
             }
             left &= left - 1;
         }
+        if set == 0 {
+            return NONE;
+        }
+        let equals = set & self.equals[best as usize & 31];
+        if equals & (equals - 1) == 0 { best } else { self.earliest(equals) }
+    }
+
+    /// Of tasks of one priority the one released first by its original time, and of those of one tick the lowest number, which comes first.
+    #[inline]
+    fn earliest(&self, set: u32) -> u8 {
+        let mut left = set;
+        let mut best = NONE;
+        let mut first = u64::MAX;
+        while left != 0 {
+            let n = left.trailing_zeros() as usize;
+            if self.release[n] < first {
+                first = self.release[n];
+                best = n as u8;
+            }
+            left &= left - 1;
+        }
         best
+    }
+
+    /// A task that is in the table joins those of its priority.
+    fn join_equals(&mut self, n: usize) {
+        let mut equals = 0;
+        let mut left = self.present;
+        while left != 0 {
+            let other = left.trailing_zeros() as usize;
+            if self.priority[other] == self.priority[n] {
+                self.equals[other] |= 1 << n;
+                equals |= 1 << other;
+            }
+            left &= left - 1;
+        }
+        self.equals[n] = equals;
     }
 
     #[inline]
@@ -367,6 +406,7 @@ fn time_at(s: &[u8], at: usize) -> u64 {
 fn opened() -> State {
     State {
         priority: [0; 32],
+        equals: [0; 32],
         copy_in: [0; 32],
         execution: [0; 32],
         copy_out: [0; 32],
@@ -413,14 +453,6 @@ fn read_table(s: &[u8], state: &mut State) -> Result<usize, (u8, usize)> {
                 if n > 31 || state.present >> n & 1 == 1 {
                     return Err((4, at));
                 }
-                let priority = s[at + 2];
-                let mut left = state.present;
-                while left != 0 {
-                    if state.priority[left.trailing_zeros() as usize] == priority {
-                        return Err((5, at));
-                    }
-                    left &= left - 1;
-                }
                 let mark = s[at + 3];
                 if mark > 1 {
                     return Err((6, at));
@@ -432,7 +464,8 @@ fn read_table(s: &[u8], state: &mut State) -> Result<usize, (u8, usize)> {
                 let i = n as usize;
                 state.present |= 1 << n;
                 state.marked |= (mark as u32) << n;
-                state.priority[i] = priority;
+                state.priority[i] = s[at + 2];
+                state.join_equals(i);
                 state.copy_in[i] = lengths[0];
                 state.execution[i] = lengths[1];
                 state.copy_out[i] = lengths[2];

@@ -14,15 +14,15 @@ from collections import Counter
 ROOT = pathlib.Path(__file__).resolve().parents[1]
 sys.path.insert(0, str(ROOT))
 
-from sim import generate
 from sim.entries import release_entry, task_entry
+from sim.generate_tables import STRETCH, small_length, some_tasks
 
 GATEWAY = ROOT / "target/bin/gateway"
 
 
 def merged(rng):
     """The task entries, and for each of some cores its releases (time, task)."""
-    tasks = generate.some_tasks(rng, rng.randint(1, 6), generate.small_length, rng.choice((1, generate.STRETCH)))
+    tasks = some_tasks(rng, rng.randint(1, 6), small_length, rng.choice((1, STRETCH)))
     numbers = [task[1] for task in tasks]
     cores = rng.sample(range(64), rng.randint(1, 5))
     span = rng.choice((20, 100, 1000))

@@ -8,7 +8,7 @@
 #include <string.h>
 
 /* Of this header, the library, the pkg-config file and the Rust package: it stands here, and the others are held to it. */
-#define GATEWAY_VERSION "0.4.0"
+#define GATEWAY_VERSION "0.5.0"
 
 #ifdef __cplusplus
 extern "C" {
@@ -28,7 +28,7 @@ enum {
     GATEWAY_OTHER_KIND = 2,
     GATEWAY_TASK_AFTER_RELEASE = 3,
     GATEWAY_BAD_TASK = 4,
-    GATEWAY_SAME_PRIORITY = 5,
+    GATEWAY_SAME_PRIORITY = 5, /* no longer answered: tasks may have one priority. The number is kept free */
     GATEWAY_BAD_MARK = 6,
     GATEWAY_BAD_LENGTH = 7,
     GATEWAY_RELEASE_OF_NO_TASK = 8,
@@ -62,7 +62,7 @@ static inline const char *gateway_refusal_text(uint8_t number)
     case GATEWAY_OTHER_KIND: return "an entry of a kind that does not belong there";
     case GATEWAY_TASK_AFTER_RELEASE: return "a task after a release";
     case GATEWAY_BAD_TASK: return "a task number over 31 or given before";
-    case GATEWAY_SAME_PRIORITY: return "a priority given before";
+    case GATEWAY_SAME_PRIORITY: return "a priority given before, which is no longer refused";
     case GATEWAY_BAD_MARK: return "a mark over 1";
     case GATEWAY_BAD_LENGTH: return "a length outside 1 to 1,000,000";
     case GATEWAY_RELEASE_OF_NO_TASK: return "a release of a task that is not in the table";

@@ -251,18 +251,19 @@ static uint32_t below(uint32_t most)
     return (uint32_t)((state >> 11) % most);
 }
 
-/* Task entries of some tasks, with priorities in any order; their set. */
+/* Task entries of some tasks, with priorities in any order, all different or few that many share; their set. */
 static uint32_t make_tasks(uint8_t *entries, unsigned count, uint32_t longest)
 {
     uint32_t set = 0;
     uint8_t *e = entries;
     unsigned step = 2 * below(64) + 1;
+    unsigned levels = below(3) == 0 ? 256 : 1 + below(4);
     for (unsigned i = 0; i < count; i++, e += 16) {
         unsigned task = i;
         const uint32_t length[3] = {1 + below(longest), 1 + below(longest), 1 + below(longest)};
         e[0] = 1;
         e[1] = (uint8_t)task;
-        e[2] = (uint8_t)(task * step); /* all different: the step is odd */
+        e[2] = (uint8_t)(task * step % 256 % levels); /* of 256 all are different: the step is odd */
         e[3] = (uint8_t)below(2);
         for (unsigned byte = 0; byte < 12; byte++) {
             e[4 + byte] = (uint8_t)(length[byte / 4] >> 8 * (byte % 4));

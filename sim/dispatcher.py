@@ -1,7 +1,7 @@
 """The dispatcher by instants: one core, one copy engine, rules R1 to R6.
 
-Steps a to g of document 01's instant list are one method each, in that order. Everything that
-compares priorities goes through `highest` and `is_higher`.
+Steps a to g of document 01's instant list are one method each, in that order. Who goes first is decided
+by `standing`, and who gives way or blocks by `is_higher`, which looks at priorities alone.
 """
 
 from dataclasses import dataclass, field, replace
@@ -31,6 +31,7 @@ class Job:
     """One release that was taken."""
     task: Task  # as it was at the taking: a job is marked if its task was then
     release: int  # the original time, also of a release that waited
+    taken: int
     start: Optional[int] = None  # execution start
     blocked: int = 0
 
@@ -88,12 +89,24 @@ class Answer:
     due: Optional[int] = None
 
 
-def highest(jobs):
-    """The highest-priority job of some, or None."""
-    return min(jobs, key=lambda job: job.task.priority, default=None)
+def standing(job):
+    """By what the highest of several jobs is found, the smallest first: the priority; among equals the original time of the release, and then
+    the task number (6/13)."""
+    return job.task.priority, job.release, job.task.number
+
+
+def highest(jobs, order=standing):
+    """The highest of some jobs, or None."""
+    return min(jobs, key=order, default=None)
+
+
+def equals_behind(job, jobs):
+    """Those of some jobs that have the same priority as the highest of them and come behind it."""
+    return sorted((other for other in jobs if other is not job and other.task.priority == job.task.priority), key=standing) if job is not None else []
 
 
 def is_higher(job, other):
+    """Whether the other one is of strictly lower priority: only then it is cancelled, thrown out, or counted as blocking."""
     return job.task.priority < other.task.priority
 
 
@@ -124,6 +137,13 @@ class Dispatcher:
 
     begun: int = 0  # how many intervals
     notes: Optional[list] = None  # where there is a list, what each step decided is noted in it (sim/notes.py); nothing goes by it
+
+    # By what the engine chooses and an interval promotes, and to whom a copy-in gives way and by whom a job is blocked. Other kinds of dispatcher
+    # have others (sim/other_orders.py).
+    _chosen_by = staticmethod(standing)
+    _promoted_by = staticmethod(standing)
+    _gives_way_to = staticmethod(is_higher)
+    _blocked_by = staticmethod(is_higher)
 
     @classmethod
     def open(cls, data):
@@ -228,12 +248,12 @@ class Dispatcher:
         return taken
 
     def _step_d(self, taken):
-        """d. A marked release of higher priority cancels the open interval's copy-in under way (R3), or throws out a finished one."""
+        """d. A marked release cancels the open interval's copy-in of strictly lower priority (R3), or throws out a finished one."""
         interval = self.interval
         if interval is None or interval.chosen is None or interval.fate not in GIVES_WAY:
             return
         victim = interval.chosen
-        winner = highest(job for job in taken if job.task.mark and is_higher(job, victim))
+        winner = highest(job for job in taken if job.task.mark and self._gives_way_to(job, victim))
         if winner is not None:
             interval.engine = None
             interval.fate = GIVES_WAY[interval.fate]
@@ -277,7 +297,7 @@ class Dispatcher:
         self.interval.processor = Phase(EXECUTION, job, now + job.task.execution)
 
     def _take(self, number, release):
-        job = Job(self.table[number], release)
+        job = Job(self.table[number], release, self.last)
         self._note(notes.Taken(self.last, job, self.interval))
         self.pending[number] = job
         self.ready.add(job)
@@ -285,11 +305,11 @@ class Dispatcher:
         return job
 
     def _choose(self, now):
-        """The highest-priority ready job begins copy-in, or none does; once an interval (R2)."""
+        """The highest of the ready jobs begins copy-in, or none does; once an interval (R2)."""
         interval = self.interval
         interval.choice_made = True
-        job = highest(self.ready)
-        self._note(notes.Chose(now, job, interval))
+        job = highest(self.ready, self._chosen_by)
+        self._note(notes.Chose(now, job, interval, equals_behind(job, self.ready)))
         if job is not None:
             self.ready.remove(job)
             interval.chosen = job
@@ -326,24 +346,25 @@ class Dispatcher:
         interval, self.interval = self.interval, None
         self._count_blocked(interval)
         self.executed = interval.executed
+        marked = [job for job in self.arrivals & self.ready if job.task.mark]
         if interval.fate == COPY_IN_DONE:
             self.loaded = interval.chosen
         else:
-            self.promoted = self._promote()
+            self.promoted = self._promote(marked)
         self.arrivals = set()
-        self._note(notes.Ended(now, interval, self.promoted))
+        self._note(notes.Ended(now, interval, self.promoted, equals_behind(self.promoted, marked)))
         return IntervalClosed(interval.begin, now, interval.half, number_of(interval.executed), interval.work,
                               number_of(interval.copied_out), number_of(interval.chosen), interval.fate,
                               number_of(self.promoted))
 
-    def _promote(self):
-        """The highest marked job taken in the interval and still ready, if any (R4)."""
-        job = highest(job for job in self.arrivals & self.ready if job.task.mark)
+    def _promote(self, marked):
+        """The highest of the marked jobs taken in the interval and still ready, if any (R4)."""
+        job = highest(marked, self._promoted_by)
         self.ready.discard(job)
         return job
 
     def _count_blocked(self, interval):
-        """A job not yet executed is blocked in an interval that executes a lower-priority one.
+        """A job not yet executed is blocked in an interval that executes one of strictly lower priority.
 
         Every pending job was taken in this interval or before, and whole intervals count: the lower
         job may have ended before the taking. A job that has executed is never counted again.
@@ -351,7 +372,7 @@ class Dispatcher:
         if interval.executed is None:
             return
         for job in self.pending.values():
-            if job.start is None and is_higher(job, interval.executed):
+            if job.start is None and self._blocked_by(job, interval.executed):
                 job.blocked += 1
 
     def _note(self, note):

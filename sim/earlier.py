@@ -1,4 +1,7 @@
-"""A dispatcher by an earlier rule, for records that were stored before a release could wait (4/13)."""
+"""A dispatcher by an earlier rule, for records that were stored before a release could wait (4/13).
+
+Equal priorities came after that (6/13), so that no stored record of this rule has any; where priorities differ, the order is as it was.
+"""
 
 from sim.dispatcher import Dispatcher, members
 

@@ -1,13 +1,14 @@
 """Random files and sessions. The same generator state gives the same bytes.
 
-Most tables have few tasks and lengths of 1 to 5, half of them longer executions, so that ends of phases and
-releases fall on the same ticks. Releases and calls are mostly found by following a dispatcher: at its due time,
-or just before. Tasks are released again while their job is pending, so that releases wait, and on the tick on which it completes.
+Releases and calls are mostly found by following a dispatcher: at its due time, or just before. Tasks are released again while their job is
+pending, so that releases wait, and on the tick on which it completes; and beside one of their own priority, at once with it, behind it, or while it
+is copied in.
 """
 
-from sim.dispatcher import COPY_OUT, LAST_RELEASE_TIME, Dispatcher, members
-from sim.entries import FIELDS, RELEASE, TASK, Refused, decode, encode, entry_length, release_entry, task_entry
+from sim.dispatcher import COPY_IN_DONE, COPY_OUT, LAST_RELEASE_TIME, Dispatcher, members
+from sim.entries import FIELDS, RELEASE, TASK, Refused, decode, encode, entry_length, release_entry
 from sim.files import MOST_RELEASES
+from sim.generate_tables import longest_length, random_tasks, small_length, some_tasks
 from sim.sessions import INSTANT, MARK, call_entry, session_bytes
 from sim.table import LAST_TASK, LENGTH_LIMIT
 
@@ -17,19 +18,29 @@ LAST_TICK = 2**64 - 1
 LONGEST_CHECKED = 41_488
 
 # How often an instant has a release to which a copy-in gives way, where there is one: by chance alone few do, fewest when it is done.
-RIVAL_CHANCE = 0.35
+RIVAL_CHANCE = 0.7
+
+# How often an instant has a release of the same priority as what is copied in, which stays; one beside a ready job of its priority; and a marked one
+# in an interval that will promote one, best a second of one priority.
+PEER_CHANCE = 0.1
+BESIDE_CHANCE = 0.05
+PROMOTABLE_CHANCE = 0.5
+
+# How often an instant has several releases of one priority.
+TOGETHER_CHANCE = 0.06
+
+# How often an instant of a calm run has any release where no job is ready.
+FIRST_CHANCE = 0.25
 
 # How often an instant at which a job completes has a release of its task too: taken, or waiting behind the one that is taken.
 COMPLETION_CHANCE = 0.3
 
-# How often an instant has a release that waits, and one that is skipped since one waits, where there can be one; the last more often where a
-# job completes, since then an interval may end behind it.
+# How often an instant has a release that waits, less often in a calm run, and one that is skipped since one waits, where there can be one; the last
+# more often where a job completes, since then an interval may end behind it.
 WAIT_CHANCE = 0.12
+CALM_WAIT_CHANCE = 0.05
 SKIP_CHANCE = 0.05
-SKIP_AT_COMPLETION_CHANCE = 0.4
-
-# How much longer than copies the executions of some tables are, so that copies are done before their interval ends.
-STRETCH = 4
+SKIP_AT_COMPLETION_CHANCE = 0.6
 
 # Values at and beside the limits of the fields of each size.
 BOUNDARIES = {
@@ -37,39 +48,6 @@ BOUNDARIES = {
     4: (0, 1, LENGTH_LIMIT, LENGTH_LIMIT + 1, 2**32 - 1),
     8: (0, 1, 2**32, LAST_RELEASE_TIME, LAST_RELEASE_TIME + 1, 2**63, LAST_TICK),
 }
-
-
-# Tables.
-
-def small_length(rng, top):
-    return rng.randint(1, top)
-
-
-def large_length(rng, _):
-    return rng.choice((1, rng.randint(1, 100), rng.randint(1, LENGTH_LIMIT), LENGTH_LIMIT))
-
-
-def some_tasks(rng, count, lengths, stretch=1):
-    """Task entries in any order: numbers, priorities and marks shuffled. A stretch makes executions longer than copies."""
-    numbers = rng.sample(range(LAST_TASK + 1), count)
-    priorities = rng.sample(range(256), count)
-    marked = rng.choice((0, 0.3, 0.5, 0.5, 0.8, 1))
-    top = rng.choice((1, 2, 3, 5, 5))
-    return [task_entry(number, priority, int(rng.random() < marked), *(lengths(rng, most) for most in (top, stretch * top, top)))
-            for number, priority in zip(numbers, priorities)]
-
-
-def random_tasks(rng):
-    """Mostly few tasks and short lengths; also many, all 32, and long ones."""
-    count, lengths = rng.choices(((rng.choice((1, 2, 3, 3, 4, 4, 5, 5)), small_length), (rng.randint(6, 31), small_length),
-                                  (LAST_TASK + 1, small_length), (rng.randint(1, LAST_TASK + 1), large_length)),
-                                 weights=(14, 2, 2, 3))[0]
-    return some_tasks(rng, count, lengths, rng.choice((1, STRETCH)))
-
-
-def longest_length(tasks):
-    """The greatest L, C or U of some task entries."""
-    return max(max(decode(task)[3:]) for task in tasks)
 
 
 # Instants that a dispatcher serves.
@@ -88,7 +66,8 @@ def _served_time(rng, dispatcher, gap):
     first = 0 if dispatcher.last is None else dispatcher.last + 1
     if due is None:
         return first + rng.choice((0, 0, 1, rng.randint(0, gap)))
-    return rng.choice((due, due, rng.randint(first, due), max(first, due - 1)))
+    sooner = max(first, due - 1)
+    return rng.choice((sooner if _promotable(dispatcher) else due, due, rng.randint(first, due), sooner))
 
 
 def _known_set(rng, dispatcher, density):
@@ -101,17 +80,46 @@ def _known_set(rng, dispatcher, density):
 
 def _density(rng, tasks):
     """How often a task is released at an instant by chance alone; seldom enough in most runs that some have no pending job."""
-    return rng.choice((0.03, 0.1, 0.2, 0.5)) if len(tasks) < 6 else rng.choice((0.01, 0.03, 0.1))
+    return rng.choice((0, 0, 0, 0.03, 0.1, 0.2, 0.5)) if len(tasks) < 7 else rng.choice((0, 0.01, 0.03, 0.1))
+
+
+def _free(dispatcher, fits):
+    """The tasks without a pending job that fit."""
+    return [task.number for task in dispatcher.table.values() if task.number not in dispatcher.pending and fits(task)]
 
 
 def _rivals(dispatcher):
     """Free marked tasks that are higher than what the open interval copies in: it gives way to the first that is released, and a higher one
-    behind that may be promoted."""
+    behind that may be promoted, or one of the same priority."""
     chosen = dispatcher.interval.chosen if dispatcher.interval is not None else None
-    if chosen is None:
+    return [] if chosen is None else _free(dispatcher, lambda task: task.mark and task.priority < chosen.task.priority)
+
+
+def _peers(dispatcher):
+    """Free tasks of the same priority as what the open interval copies in: it stays, also where they are marked."""
+    chosen = dispatcher.interval.chosen if dispatcher.interval is not None else None
+    return [] if chosen is None else _free(dispatcher, lambda task: task.priority == chosen.task.priority)
+
+
+def _beside(dispatcher):
+    """Free tasks of the same priority as a ready job, which was released earlier."""
+    levels = {job.task.priority for job in dispatcher.ready}
+    return _free(dispatcher, lambda task: task.priority in levels)
+
+
+def _promotable(dispatcher):
+    """Free marked tasks, where the open interval will promote a marked job of its own: those of the priority of one that has come, if there are any."""
+    interval = dispatcher.interval
+    if interval is None or not interval.choice_made or interval.fate == COPY_IN_DONE or interval.engine is not None:
         return []
-    return [task.number for task in dispatcher.table.values()
-            if task.mark and task.priority < chosen.task.priority and task.number not in dispatcher.pending]
+    levels = {job.task.priority for job in dispatcher.arrivals if job.task.mark}
+    return _free(dispatcher, lambda task: task.mark and task.priority in levels) or _free(dispatcher, lambda task: task.mark)
+
+
+def _together(rng, dispatcher):
+    """The set of the free tasks of one priority, or of most of them."""
+    level = rng.choice([task.priority for task in dispatcher.table.values()])
+    return sum(1 << number for number in _free(dispatcher, lambda task: task.priority == level) if rng.random() < 0.8)
 
 
 def _completing(dispatcher, time):
@@ -125,17 +133,32 @@ def _pending_alone(dispatcher):
     return [number for number in dispatcher.pending if number not in dispatcher.waiting]
 
 
+def _wanted(dispatcher, time, calm):
+    """Tasks of which one may be released at a time because of what goes on, and how often one is. In a calm run most tasks have no pending job."""
+    completing = _completing(dispatcher, time)
+    yield RIVAL_CHANCE, _rivals(dispatcher)
+    yield PROMOTABLE_CHANCE, _promotable(dispatcher)
+    if calm:
+        yield FIRST_CHANCE, [] if dispatcher.ready else _free(dispatcher, lambda task: True)
+    else:
+        yield PEER_CHANCE, _peers(dispatcher)
+        yield BESIDE_CHANCE, _beside(dispatcher)
+        yield COMPLETION_CHANCE, completing
+    yield CALM_WAIT_CHANCE if calm else WAIT_CHANCE, _pending_alone(dispatcher)
+    yield SKIP_AT_COMPLETION_CHANCE if completing else SKIP_CHANCE, list(dispatcher.waiting)
+
+
 def served_instant(rng, dispatcher, gap, density):
+    """An instant that is served: its time and set. With a density of 0 the run is a calm one."""
     time = min(_served_time(rng, dispatcher, gap), LAST_TICK)
     if time > LAST_RELEASE_TIME:
         return time, 0
     released = _known_set(rng, dispatcher, density)
-    completing = _completing(dispatcher, time)
-    for chance, numbers in ((RIVAL_CHANCE, _rivals(dispatcher)), (COMPLETION_CHANCE, completing),
-                            (WAIT_CHANCE, _pending_alone(dispatcher)),
-                            (SKIP_AT_COMPLETION_CHANCE if completing else SKIP_CHANCE, list(dispatcher.waiting))):
+    for chance, numbers in _wanted(dispatcher, time, calm=not density):
         if numbers and rng.random() < chance:
             released |= 1 << rng.choice(numbers)
+    if rng.random() < TOGETHER_CHANCE:
+        released |= _together(rng, dispatcher)
     return time, released
 
 
@@ -256,7 +279,7 @@ def change_many_fields(rng, parts):
 
 
 def _same_priority(rng, parts):
-    """One task's priority given to another."""
+    """One task's priority given to another, which refuses nothing."""
     tasks = [at for at, part in enumerate(parts) if is_whole(part) and part[0] == TASK]
     if len(tasks) > 1:
         one, other = rng.sample(tasks, 2)

@@ -9,7 +9,9 @@ from sim.earlier import NothingWaits
 from sim.entries import FIELDS, INTERVAL, JOB_DONE, NO_TASK, SKIPPED, TASK, Refused, decode, encode, entries, release_entry, two_parts
 from sim.files import MOST_RELEASES, instant_entries, run
 from sim.generate import (LAST_TICK, change_kind, change_many_fields, change_one_field, crowded_releases, damage_bytes, damage_entries,
-                          drop, duplicate, make_call, random_calls, random_tasks, swap, tasks_and_releases, too_short, wrong_length)
+                          drop, duplicate, make_call, random_calls, swap, tasks_and_releases, too_short, wrong_length)
+from sim.generate_tables import random_tasks
+from sim.other_orders import ALL
 from sim.reading import RECORD_KINDS
 from sim.sessions import INSTANT
 from sim.table import read_table
@@ -219,9 +221,16 @@ def _made_by_calls(rng):
 
 
 def made_by_the_earlier_rule(rng):
-    """A record of the rule by which nothing waits: refused, unless no release came while a job of its task was pending."""
+    """A record of the rule by which nothing waits, with equals in the order of today, which is what it was where priorities differed: refused, unless no
+    release came while a job of its task was pending."""
     tasks, releases = tasks_and_releases(rng)
     return stored_bytes(tasks, record_entries(tasks, releases, NothingWaits))
+
+
+def made_by_another_order(rng):
+    """A record by which equals go in another order, or one gives way to another: refused, unless none of this shows."""
+    tasks, releases = tasks_and_releases(rng)
+    return stored_bytes(tasks, record_entries(tasks, releases, rng.choice(ALL)))
 
 
 def _too_many(rng):
@@ -280,7 +289,7 @@ def _length_wrong(rng):
 
 # Each kind of damaged input, and how often it comes.
 DAMAGED = ((_entries_damaged, 48), (_kind_or_bytes_damaged, 12), (_bytes_behind, 5), (_another_table, 12), (_made_by_calls, 5),
-           (made_by_the_earlier_rule, 6), (_too_many, 1), (_falling, 3), (longer_than_kept, 0.5), (_tasks_damaged, 8),
+           (made_by_the_earlier_rule, 6), (made_by_another_order, 12), (_too_many, 1), (_falling, 3), (longer_than_kept, 0.5), (_tasks_damaged, 8),
            (_task_bytes_damaged, 4), (_one_part_empty, 2), (_length_wrong, 2), (too_short, 0.5))
 
 

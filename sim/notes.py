@@ -36,10 +36,11 @@ class GaveWay(NamedTuple):
 
 
 class Chose(NamedTuple):
-    """Steps e and g: the engine's choice; None where no job was ready."""
+    """Steps e and g: the engine's choice; None where no job was ready. Ready jobs of the same priority come behind it, in their order."""
     time: int
     job: Optional[Any]
     interval: Any
+    behind: list
 
 
 class Began(NamedTuple):
@@ -73,7 +74,8 @@ class Done(NamedTuple):
 
 
 class Ended(NamedTuple):
-    """Steps b and f: an interval ended, and promoted a job or none."""
+    """Steps b and f: an interval ended, and promoted a job or none. Others of the same priority that it could have promoted come behind it."""
     time: int
     interval: Any
     promoted: Optional[Any]
+    behind: list

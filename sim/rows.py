@@ -10,7 +10,8 @@ import sys
 from sim.dispatcher import Dispatcher
 from sim.entries import FIELDS, INTERVAL, JOB_DONE, NO_TASK, RELEASE, SKIPPED, TASK, Refused, decode, entry_length, release_entry
 from sim.files import instant_entries, record
-from sim.generate import damage_entries, make_call, random_calls, small_length, some_tasks
+from sim.generate import damage_entries, make_call, random_calls
+from sim.generate_tables import small_length, some_tasks
 from sim.lines import OPTIONAL_TASKS
 from sim.sessions import INSTANT, MARK
 
@@ -82,7 +83,7 @@ unfoldable pub runs : List Row
 runs =
 """
 
-SEED = 13  # of the first few the one whose runs have most of what can occur
+SEED = 30  # of the first few the one whose runs have most of what can occur, and tell most wrong orders among equals
 FILES = 40
 CALL_LISTS = 40
 

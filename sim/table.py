@@ -1,4 +1,4 @@
-"""The task table: task entries checked one by one, 4, 5, 6, 7 in this order."""
+"""The task table: task entries checked one by one, 4, 6, 7 in this order. 5 is not said any more: tasks may have one priority (6/13)."""
 
 from dataclasses import dataclass
 
@@ -11,7 +11,7 @@ LENGTH_LIMIT = 1_000_000
 @dataclass(frozen=True)
 class Task:
     number: int
-    priority: int  # smaller is higher
+    priority: int  # smaller is higher; several tasks may have the same
     mark: int      # 1 latency-sensitive, 0 not
     copy_in: int   # L
     execution: int  # C
@@ -19,12 +19,10 @@ class Task:
 
 
 def add_task(table, fields, place):
-    """Check one task entry against the table so far and add it (refusals 4, 5, 6, 7)."""
+    """Check one task entry against the table so far and add it (refusals 4, 6, 7)."""
     task = Task(*fields)
     if task.number > LAST_TASK or task.number in table:
         raise Refused(4, place)
-    if any(other.priority == task.priority for other in table.values()):
-        raise Refused(5, place)
     if task.mark > 1:
         raise Refused(6, place)
     lengths = (task.copy_in, task.execution, task.copy_out)

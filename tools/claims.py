@@ -40,13 +40,6 @@ def at(values, index, missing=0):
     return values[index] if index < len(values) else missing
 
 
-def highest(priority, tasks):
-    """The highest-priority task of a set."""
-    priority = unlisted(priority) if isinstance(priority, tuple) else priority
-    members = [n for n in range(TASKS) if tasks >> n & 1]
-    return ("Task", min(members, key=lambda n: priority[n])) if members else ("NoTask",)
-
-
 OPERATIONS = {
     "≡": lambda a, b: a == b, "≤": lambda a, b: a <= b, "<": lambda a, b: a < b, "+": lambda a, b: a + b,
     "-": lambda a, b: max(0, a - b), "*": lambda a, b: a * b, "∷": lambda a, b: ("∷", a, b), "++": joined}
@@ -56,7 +49,7 @@ GIVEN = {
     "eqb": (2, lambda a, b: a == b), "ltb": (2, lambda a, b: a < b), "leb": (2, lambda a, b: a <= b), "not": (1, lambda a: not a),
     "bit": (1, int), "size": (1, lambda s: s.bit_count()), "member": (2, lambda n, s: bool(s >> n & 1)),
     "insert": (2, lambda n, s: s | 1 << n),
-    "highest": (2, highest), "length": (1, lambda l: len(unlisted(l))),
+    "length": (1, lambda l: len(unlisted(l))),
     "getD": (3, at), "replicate": (2, lambda n, value: listed([value] * n)), "take": (2, lambda n, l: listed(unlisted(l)[:n])),
     "copyin-length": (2, at), "execution-length": (2, lambda c, n: at(c, TASKS + n)),
     "copyout-length": (2, lambda c, n: at(c, 2 * TASKS + n))}
@@ -76,8 +69,13 @@ class Claims:
         self.found = {}
         for text in texts:
             self.found.update(read_definitions(text))
-        self.given = {**GIVEN, **given}
+        self.given = {**GIVEN, "highest": (3, self.highest), **given}
         self.tasks = range(TASKS)
+
+    def highest(self, priority, since, tasks):
+        """The highest task of a set: by priority, then by the original time, which a function gives of each, then by number (6/13)."""
+        members = [n for n in range(TASKS) if tasks >> n & 1]
+        return ("Task", min(members, key=lambda n: (at(priority, n), self.apply(since, [n]), n))) if members else ("NoTask",)
 
     # Values.
 

@@ -1,11 +1,13 @@
 """Inputs at the limits of document 01, beside the random ones: a cut at each byte, each field at and beside its limits, exactly as many
-releases as there may be and one more, times at the end of what a number holds, a release on each tick around a copy-in, and releases that wait."""
+releases as there may be and one more, times at the end of what a number holds, a release on each tick around a copy-in, releases that wait, and
+tasks of one priority."""
 
-from sim.dispatcher import LAST_RELEASE_TIME
+from sim.dispatcher import LAST_RELEASE_TIME, Dispatcher
 from sim.earlier import NothingWaits
 from sim.entries import JOB_DONE, SKIPPED, decode, encode, release_entry, task_entry, two_parts
 from sim.files import MOST_RELEASES
 from sim.generate_records import LONGEST_KEPT, record_entries
+from sim.other_orders import ALL
 from sim.sessions import INSTANT, MARK, call_entry, session_bytes
 from sim.table import LAST_TASK, LENGTH_LIMIT
 
@@ -85,8 +87,41 @@ def waiting_files():
     return found + [of_number(number, pairs) for number in (0, LAST_TASK) for pairs in WAITING[:4]]
 
 
+# Tasks 1 and 2 of one priority over a lower one, with each pair of marks.
+DESKS = tuple(tuple(task_entry(*fields) for fields in ((1, 5, first, 2, 3, 1), (2, 5, second, 2, 4, 1), (3, 9, 0, 2, 5, 2)))
+              for first in (0, 1) for second in (0, 1))
+
+# Releases of them: at one tick; in turn, by number and against it, where nobody is chosen, where one is copied in and where it is copied in already;
+# one that waits and one that came later; and two that wait, of which the one that is taken later came earlier.
+EQUALS = (
+    ((0, 1), (0, 2)),
+    ((0, 3), (3, 1), (4, 2)),
+    ((0, 3), (3, 2), (4, 1)),
+    ((0, 3), (3, 1), (3, 2)),
+    ((0, 2), (1, 1)),
+    ((0, 1), (1, 2)),
+    ((0, 3), (2, 2), (5, 1)),
+    ((0, 3), (2, 1), (5, 2)),
+    ((0, 2), (1, 2), (3, 1)),
+    ((0, 1), (1, 1), (3, 2)),
+    ((0, 1), (0, 2), (1, 2), (2, 1), (2, 3), (6, 3)),
+)
+
+
+def whole_table(priority):
+    """All tasks of one priority, released at one tick, and again against their numbers, with releases that wait."""
+    tasks = b"".join(task_entry(number, priority, number % 2, 1, 2, 1) for number in range(LAST_TASK + 1))
+    again = [(5 + LAST_TASK - number, number) for number in range(LAST_TASK, -1, -1)]
+    return tasks + b"".join(release_entry(*pair) for pair in [(0, number) for number in range(LAST_TASK + 1)] + again)
+
+
+def equal_files():
+    found = [b"".join(tasks) + b"".join(release_entry(*pair) for pair in pairs) for tasks in DESKS for pairs in EQUALS]
+    return found + [whole_table(priority) for priority in (0, 255)]
+
+
 def files():
-    found = cuts(TABLE + b"".join(RELEASES)) + around_a_copy() + waiting_files()
+    found = cuts(TABLE + b"".join(RELEASES)) + around_a_copy() + waiting_files() + equal_files()
     found += [TABLE + other + RELEASES[0] for other in other_tasks()]
     found += [TABLE + other for other in other_releases()]
     found += [TABLE + RELEASES[0] + TASKS[0], TASKS[0] + bytes([3]) + RELEASES[0]]
@@ -112,13 +147,20 @@ def waiting_sessions():
     return [session_bytes(TABLE, calls) for calls in (MARKS_WHILE_WAITING, kept, late, refused)]
 
 
+def equal_sessions():
+    """Tasks of one priority by calls: a mark call makes the second of them latency-sensitive or not, and decides who is promoted."""
+    released = ((0, 8), (2, 0), (3, 4), (4, 2), (7, 0), (9, 0))
+    calls = [(INSTANT, time, tasks) for time, tasks in released]
+    return [session_bytes(b"".join(tasks), [(MARK, 2, mark), *calls]) for tasks in DESKS for mark in (0, 1)]
+
+
 def sessions():
-    """Cuts of the opening bytes, which may end in a release, and of the calls; openings of other tasks; times at the limits; what waits."""
+    """Cuts of the opening bytes, which may end in a release, and of the calls; openings of other tasks; times at the limits; what waits; equals."""
     calls = b"".join(call_entry(*call) for call in CALLS)
     found = [session_bytes(opening, CALLS) for opening in cuts(TABLE + RELEASES[0])]
     found += [session_bytes(TABLE, ()) + part for part in cuts(calls)]
     found += [session_bytes(TABLE + other, CALLS) for other in other_tasks()]
-    found += waiting_sessions()
+    found += waiting_sessions() + equal_sessions()
     late = (LAST_RELEASE_TIME, LAST_RELEASE_TIME + 1, LAST_TICK - 1, LAST_TICK)
     return found + [session_bytes(TABLE, ((INSTANT, time, released), (INSTANT, LAST_TICK, 0)))
                     for time in late for released in (0, 2, 14, 1)]
@@ -148,6 +190,14 @@ def waiting_records():
         yield b"".join([*entries[:last], encode(JOB_DONE, task, time, *rest), *entries[last + 1:]])
 
 
+def equal_records():
+    """Records over tasks of one priority, by the rule and by each wrong order, behind their task entries."""
+    for tasks in DESKS:
+        for pairs in EQUALS:
+            for kind in (Dispatcher, *ALL):
+                yield two_parts(b"".join(tasks), b"".join(record_entries(tasks, pairs, kind)))
+
+
 def skipped_alone():
     """Records of skipped releases alone, in rising and in falling order, and at the limits."""
     yield from (encode(SKIPPED, task, 0) for task in (0, 1, LAST_TASK, LAST_TASK + 1, 255))
@@ -169,7 +219,7 @@ def stored_records():
     """Task entries cut, refused, or more than there may be; records cut, changed, of as many releases as there may be and of one more, too long."""
     entries = record_entries(TASKS, PAIRS)
     record = b"".join(entries)
-    found = cuts(two_parts(TABLE, record[:24])) + [two_parts(opening, record) for opening in cuts(TABLE + RELEASES[0])]
+    found = list(dict.fromkeys(equal_records())) + cuts(two_parts(TABLE, record[:24])) + [two_parts(opening, record) for opening in cuts(TABLE + RELEASES[0])]
     found += [two_parts(TABLE + other, record) for other in other_tasks()]
     found += [two_parts(TABLE * count, record) for count in (10, 11, 12, 20_000)]
     found += [two_parts(TABLE * 20_000, b"")[:length] for length in (4 + 33 * 16, 900_000)]

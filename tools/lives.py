@@ -30,10 +30,12 @@ class Phase(NamedTuple):
 
 
 class Choice(NamedTuple):
-    """An engine's choice, and how many notes had been taken before it: of two things of one tick it tells which was first."""
+    """An engine's choice, and how many notes had been taken before it: of two things of one tick it tells which was first. Behind it are the ready jobs
+    of the same priority."""
     time: int
     job: Any
     place: int
+    behind: list
 
 
 @dataclass(eq=False)
@@ -45,6 +47,7 @@ class Spell:
     choice: Optional[Choice] = None
     gave_way: Optional[notes.GaveWay] = None
     promoted: Any = None
+    behind: list = field(default_factory=list)  # those of the same priority that it could have promoted
 
     @property
     def number(self):
@@ -156,7 +159,7 @@ class Follower:
         self.newcomers = []
 
     def chose(self, note, place):
-        self.open.choice = Choice(note.time, note.job, place)
+        self.open.choice = Choice(note.time, note.job, place, note.behind)
         if note.job is not None:
             life = self.by_job[note.job]
             life.chosen.append(self.open)
@@ -173,7 +176,7 @@ class Follower:
         life.phases = [phase._replace(kind=LOSSES[note.fate].get(phase.kind, phase.kind)) for phase in life.phases]
 
     def ended(self, note, _):
-        self.open.end, self.open.promoted = note.time, note.promoted
+        self.open.end, self.open.promoted, self.open.behind = note.time, note.promoted, note.behind
         if note.promoted is not None:
             life = self.by_job[note.promoted]
             life.promoted = self.open

@@ -128,7 +128,7 @@ class Checks:
 
     def __init__(self, tasks_alone):
         self.tasks_alone = tasks_alone
-        self.numbers, self.priorities = {}, {}  # with the line of each
+        self.numbers = {}  # with the line of each
         self.first_release, self.last, self.count = None, None, 0
 
     def of(self, each):
@@ -137,22 +137,19 @@ class Checks:
         return () if self.tasks_alone else self.of_release(each)
 
     def of_task(self, each):
-        number, priority, mark, *lengths = each.values.values()
+        number, _, mark, *lengths = each.values.values()
         if self.first_release is not None:
             yield 3, f"a task after a release: the first release is in line {self.first_release}"
         if number > LAST_TASK:
             yield 4, f"task number {number} is over {LAST_TASK}"
         elif number in self.numbers:
             yield 4, f"task number {number} is given before, in line {self.numbers[number]}"
-        if priority in self.priorities:
-            yield 5, f"priority {priority} is given before, in line {self.priorities[priority]}"
         if mark > 1:
             yield 6, f"mark is {mark}, over 1"
         for name, length in zip(("L", "C", "U"), lengths):
             if not 1 <= length <= LENGTH_LIMIT:
                 yield 7, f"{name} is {length}, outside 1 to {LENGTH_LIMIT}"
         self.numbers.setdefault(number, each.line)
-        self.priorities.setdefault(priority, each.line)
 
     def of_release(self, each):
         time, task = each.values.values()

@@ -4,13 +4,12 @@ from sim.entries import Refused
 from tools.output import named
 
 # A plan's own are told with the plan's values by tools/plan.py; what is here stands where the gateway refuses what was not found there, and for
-# records: what is written of a plan is never cut short and of no other kind.
+# records: what is written of a plan is never cut short and of no other kind. 5, a priority given before, no longer occurs, and its number is kept free.
 REFUSALS = {
     1: "an entry that is cut short",
     2: "an entry of another kind than a job's, an interval's or a skipped release's",
     3: "a task after a release",
     4: "a task number over 31 or given before",
-    5: "a priority given before",
     6: "a mark over 1",
     7: "L, C or U outside 1 to 1000000",
     8: "a release of a task that is not in the table",

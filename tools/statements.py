@@ -10,7 +10,8 @@ import sys
 import threading
 
 from sim.entries import task_entry
-from sim.generate import random_calls, random_tasks
+from sim.generate import random_calls
+from sim.generate_tables import random_tasks
 from sim.sessions import INSTANT
 from tools.claims import Claims, listed, unlisted
 from tools.happenings import OF_RUNS, Opened, Run
@@ -24,7 +25,7 @@ OF_STATES = {"behind", "counts"}
 
 OF_HISTORIES = ("PlansAccepted", "WrongRefused", "OneEntry", "WaitedEntry", "ReleasesRefused", "Marks", "PlanEntries")
 
-RUNS = 16
+RUNS = 18
 CALLS = 9
 MOST_TASKS = 3
 
@@ -41,16 +42,23 @@ def drained(run):
 
 
 def chosen_runs():
-    """Runs that random ones seldom make, with document 01's tasks: task 1 is marked in all but the first."""
-    def run(mark, *instants):
-        tasks = task_entry(1, 1, mark, 2, 3, 1) + task_entry(2, 2, 0, 2, 4, 1) + task_entry(3, 3, 0, 2, 5, 2)
-        return drained(Run(tasks, [("Instant", time, sum(1 << n for n in released)) for time, released in instants]))
+    """Runs that random ones seldom make, with document 01's tasks. In the last three tasks share a priority."""
+    def run(mark, *instants, priorities=(1, 2, 3), second=0, whole=True):
+        one, two, three = priorities
+        tasks = task_entry(1, one, mark, 2, 3, 1) + task_entry(2, two, second, 2, 4, 1) + task_entry(3, three, 0, 2, 5, 2)
+        made = Run(tasks, [("Instant", time, sum(1 << n for n in released)) for time, released in instants])
+        return drained(made) if whole else made
 
     return [
+        run(1, (0, [1]), (2, []), (3, [1]), whole=False),  # one waits at the end of the list
+        run(0, (0, [2]), (2, []), (6, []), (7, []), (20, [1])),  # a job comes when a lower one is done
         run(0, (0, [3]), (2, [2]), (4, [1])),  # a job meets a lower one in its first two intervals
         run(1, (0, [3]), (2, [2]), (4, [1])),  # plan B: a finished copy is thrown out
         run(1, (0, [2]), (1, [1])),            # plan D: a copy under way is cancelled
-        run(1, (0, [1]), (2, []), (3, [1]), (4, [1, 2]))]  # one waits, one is skipped, and an unmarked one comes where none was chosen
+        run(1, (0, [1]), (2, []), (3, [1]), (4, [1, 2])),  # one waits, one is skipped, and an unmarked one comes where none was chosen
+        run(1, (0, [3]), (2, []), (3, [2]), (4, [1]), priorities=(1, 1, 2), second=1),  # of two marked equals the earlier one is promoted
+        run(0, (0, [1, 2, 3]), priorities=(1, 1, 1)),  # equals go by number, and the last one meets one in its second and third interval
+        run(0, (0, [2]), (1, [2]), (2, []), (3, [1]), priorities=(1, 1, 2))]  # one that waited goes before an equal that was taken earlier
 
 
 @functools.cache

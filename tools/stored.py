@@ -9,7 +9,7 @@ from tools.programs import printed
 from tools.refusals import in_words, line_of
 
 # By which numbers a task of the plan is refused, and not the record. Its entry is whole, so that 1 and 2 are the record's.
-OF_A_TASK = (4, 5, 6, 7)
+OF_A_TASK = (4, 6, 7)
 
 MOST = 1 << 24  # bytes of a record that are looked at; no list makes nearly so many
 

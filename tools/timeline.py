@@ -168,7 +168,7 @@ def copyin_bar(interval, number, start, table, taken):
 
 
 def winner_over(chosen, start, end, table, taken):
-    """The release to which a copy-in gives way: the first marked one of higher priority that is taken strictly between its start and an end.
+    """The release to which a copy-in gives way: the first marked one of strictly higher priority that is taken strictly between its start and an end.
 
     Strictly, since the choice (step e) comes after the releases of its own instant, and an interval that ends at step b does so
     before them.

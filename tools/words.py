@@ -27,6 +27,23 @@ def job_name(job, beside):
     return f"task {job.task.number} (priority {job.task.priority}, {rank})"
 
 
+def passes(job, other):
+    """Why one of two jobs of the same priority goes first."""
+    if job.release == other.release:
+        return f"it has the same priority, was released at {job.release} too, and has the lower number"
+    waited = f" (it waited until {job.taken}, and its original time counts)" if job.release < job.taken else ""
+    return f"it has the same priority and was released earlier, at {job.release}{waited}"
+
+
+def before_equals(jobs):
+    """The jobs of the same priority that come behind one."""
+    return f"; behind it, of the same priority: {', '.join(f'task {job.task.number} (released at {job.release})' for job in jobs)}" if jobs else ""
+
+
+def is_equal(job, other):
+    return job.task.priority == other.task.priority
+
+
 def span_of(begin, end):
     return f"{begin} to {end}"
 
@@ -111,12 +128,13 @@ def tell_choice(spell, life, story):
     """What the engine chose, and why not this job."""
     choice = spell.choice
     if choice.place < life.place:
-        return tell_earlier_choice(spell, life, story)
+        tell_earlier_choice(spell, life, story)
+        return
     if choice.job is life.job:
-        story.add(choice.time, "the engine chooses this job, the highest that is ready (R2)")
-        return None
-    story.add(choice.time, f"the engine chooses {job_name(choice.job, life.job)}, which is ready too (R2)")
-    return None
+        story.add(choice.time, f"the engine chooses this job, the highest that is ready (R2){before_equals(choice.behind)}")
+        return
+    why = f": {passes(choice.job, life.job)}" if is_equal(choice.job, life.job) else ""
+    story.add(choice.time, f"the engine chooses {job_name(choice.job, life.job)}, which is ready too (R2){why}")
 
 
 def tell_earlier_choice(spell, life, story):
@@ -128,7 +146,7 @@ def tell_earlier_choice(spell, life, story):
         return
     other = job_name(choice.job, life.job)
     if given is None:
-        why = "it is higher" if is_higher(choice.job, life.job) else "this job is not latency-sensitive" if not life.task.mark else "it stays"
+        why = "it is higher" if is_higher(choice.job, life.job) else "it is not lower" if life.task.mark else "this job is not latency-sensitive"
         story.add(life.taken, f"{once} {other}. That copy stays: {why} (R3)")
     else:
         story.add(life.taken, f"{once} {other}")
@@ -153,17 +171,26 @@ def tell_own_loss(given, life, story):
     story.add(given.time, f"the release of {winner}, latency-sensitive, {done} (R3); this job is ready again")
 
 
+def why_not(spell, life):
+    """Why another job was promoted, and not this one."""
+    other = spell.promoted
+    if not life.task.mark:
+        earlier = is_equal(other, life.job) and life.release < other.release
+        return f"this job{', though released earlier,' if earlier else ''} is not latency-sensitive"
+    if life.first is not spell:
+        return "this job was not released in it"
+    return passes(other, life.job) if is_equal(other, life.job) else "it is the highest"
+
+
 def tell_end(spell, life, story):
     """What the end of an interval brings to a job that is not executed yet."""
     if spell.promoted is life.job:
         reason = "its copy-in gave way" if spell.gave_way else "nobody was chosen in it"
         story.add(spell.end, f"the interval ends. {reason.capitalize()}, and this is the highest latency-sensitive job released in it: "
-                             "promoted (R4)")
+                             f"promoted (R4){before_equals(spell.behind)}")
     elif spell.promoted is not None:
-        late = "this job was not released in it" if life.first is not spell else "it is the highest"
-        why = late if life.task.mark else "this job is not latency-sensitive"
         other = job_name(spell.promoted, life.job)
-        story.add(spell.end, f"the interval ends; {other}, latency-sensitive and released in it, is promoted: {why} (R4)")
+        story.add(spell.end, f"the interval ends; {other}, latency-sensitive and released in it, is promoted: {why_not(spell, life)} (R4)")
     elif spell in life.chosen and not any(where is spell for where, _ in life.gave_way):
         story.add(spell.end, "the interval ends; this job is copied in, and is executed next (R5)")
     elif spell.choice.job is not None and spell.gave_way is None:

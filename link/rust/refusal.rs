@@ -34,7 +34,7 @@ numbers! {
     OTHER_KIND = 2: "an entry of a kind that does not belong there",
     TASK_AFTER_RELEASE = 3: "a task after a release",
     BAD_TASK = 4: "a task number over 31 or given before",
-    SAME_PRIORITY = 5: "a priority given before",
+    SAME_PRIORITY = 5: "a priority given before, which is no longer refused",
     BAD_MARK = 6: "a mark over 1",
     BAD_LENGTH = 7: "a length outside 1 to 1,000,000",
     RELEASE_OF_NO_TASK = 8: "a release of a task that is not in the table",

@@ -25,7 +25,11 @@ fn run(last: u64) -> (Vec<Job>, Vec<Interval>) {
 
 /// The jobs and the intervals of a plan, of which no release is skipped.
 fn run_of(releases: &[(u64, u32)]) -> (Vec<Job>, Vec<Interval>) {
-    let mut d = Dispatcher::open(&plan()).unwrap();
+    run_over(&plan(), releases)
+}
+
+fn run_over(tasks: &[u8], releases: &[(u64, u32)]) -> (Vec<Job>, Vec<Interval>) {
+    let mut d = Dispatcher::open(tasks).unwrap();
     let (mut jobs, mut intervals) = (Vec::new(), Vec::new());
     let mut releases = releases.iter().copied().peekable();
     let mut due = None;
@@ -72,6 +76,18 @@ fn plan_f_by_instants() {
     assert_eq!(intervals, intervals_at_6);
     assert_eq!(jobs, [jobs_at_6[0], Job { release: 5, ..jobs_at_6[1] }]);
     assert_eq!(jobs[1], Job { task: 1, release: 5, start: 8, completion: 12, blocked: 0 });
+}
+
+#[test]
+fn tasks_of_one_priority() {
+    // 2 comes before 1 and goes before it, and is not thrown out by it, though 1 is latency-sensitive; neither blocks the other
+    let desks = tasks(&[[1, 5, 1, 2, 3, 1], [2, 5, 0, 2, 4, 1], [3, 9, 0, 2, 5, 2]]);
+    let (jobs, intervals) = run_over(&desks, &[(0, 1 << 3), (2, 1 << 2), (5, 1 << 1)]);
+    assert_eq!(intervals[1], Interval { fate: Fate::Done, promoted: None, ..intervals[1] });
+    assert_eq!(jobs[1], Job { task: 2, release: 2, start: 7, completion: 12, blocked: 1 });
+    assert_eq!(jobs[2], Job { task: 1, release: 5, start: 11, completion: 15, blocked: 1 });
+    // at one tick the lower number goes first
+    assert_eq!(run_over(&desks, &[(0, 1 << 1 | 1 << 2)]).0.iter().map(|job| job.task).collect::<Vec<_>>(), [1, 2]);
 }
 
 #[test]

@@ -107,7 +107,7 @@ def _check_waiting(test, history):
     """Every release that waited was taken, once, at the completion of the job before it; its interval chooses at that instant.
 
     So a waiting release cancels nothing and throws nothing out at its taking: the engine has just ended a copy-out. And it is not promoted: what
-    is chosen is not lower than it, and gives way only to something higher.
+    is chosen is not lower than it, and gives way only to something strictly higher.
     """
     waited = [job for job in history.jobs if job.release != job.taking]
     test.assertEqual(sorted((job.task.number, job.release) for job in waited), sorted(history.set_waiting))
@@ -176,13 +176,21 @@ def _choice_time(history, interval):
     return interval.begin + history.table[interval.copied_out].copy_out
 
 
+def _first_of(jobs):
+    """The task of the highest job; among equals the one released first by original time, and among those the lowest number (6/13)."""
+    if not jobs:
+        return None
+    top = min(job.task.priority for job in jobs)
+    equals = [job for job in jobs if job.task.priority == top]
+    earliest = min(job.release for job in equals)
+    return min(job.task.number for job in equals if job.release == earliest)
+
+
 def _check_choice(test, history, index, executing):
     """R2: the highest of the jobs that have come by then and neither this interval nor an earlier one executes."""
     interval = history.intervals[index]
     time = _choice_time(history, interval)
-    later = [job.task for at, job in executing.items() if at > index and job.taking <= time]
-    best = min(later, key=lambda task: task.priority, default=None)
-    test.assertEqual(interval.chosen, None if best is None else best.number)
+    test.assertEqual(interval.chosen, _first_of([job for at, job in executing.items() if at > index and job.taking <= time]))
 
 
 def _marked_here(history, index):
@@ -192,7 +200,7 @@ def _marked_here(history, index):
 def _check_end(test, history, index, job):
     """R6 and R3: an interval ends at the later of its units' ends; a cancelled copy at its cancelling.
 
-    A copy-in gives way to the first marked release of higher priority that comes behind its choice and belongs to its interval:
+    A copy-in gives way to the first marked release of strictly higher priority that comes behind its choice and belongs to its interval:
     under way it is cancelled, and one that has ended, on that very tick or before, is thrown out.
     """
     interval = history.intervals[index]
@@ -218,9 +226,7 @@ def _check_end(test, history, index, job):
 def _check_promotion(test, history, index):
     """R4: with no copy-in done that stayed, the highest marked job taken in the interval, since all of them are ready."""
     interval = history.intervals[index]
-    marked = [job.task for job in _marked_here(history, index)] if interval.fate != 1 else []
-    best = min(marked, key=lambda task: task.priority, default=None)
-    test.assertEqual(interval.promoted, None if best is None else best.number)
+    test.assertEqual(interval.promoted, _first_of(_marked_here(history, index)) if interval.fate != 1 else None)
 
 
 def _check_copy_out(test, history, index, job):
@@ -230,7 +236,7 @@ def _check_copy_out(test, history, index, job):
 
 
 def check_order(test, history, index, job):
-    """From a job's third interval on, and a marked one's second, the processor executes, and nobody lower."""
+    """From a job's third interval on, and a marked one's second, the processor executes, and nobody of strictly lower priority."""
     test.assertLess(job.first, index)
     firm = 1 if job.task.mark else 2
     lower = []

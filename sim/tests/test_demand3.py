@@ -5,7 +5,8 @@ import unittest
 
 from sim.dispatcher import Dispatcher, members
 from sim.earlier import NothingWaits
-from sim.generate import random_calls, random_file, random_tasks
+from sim.generate import random_calls, random_file
+from sim.generate_tables import random_tasks
 from sim.sessions import INSTANT
 from sim.tests.histories import file_history, list_history
 from sim.tests.history import check, check_order

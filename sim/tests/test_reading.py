@@ -8,8 +8,10 @@ from sim.entries import INTERVAL, JOB_DONE, NO_TASK, SKIPPED, Refused, encode, r
 from sim.files import read_file, record
 from sim.generate import random_file
 from sim.generate_records import record_entries
+from sim.other_orders import ALL
 from sim.reading import read, read_lines
 from sim.tests.plans import PLANS, TASK_1, TASKS, THIRD_RELEASE, finished_copies_stay, plan, plan_file
+from sim.tests.test_equals import ROWS
 
 LIMIT = 1_000_000_000
 
@@ -85,8 +87,7 @@ class Head(unittest.TestCase):
         self.refused(TASKS + A[:27], 2, 48)
         self.refused(TASKS[:-1], 1, 32)
         self.refused(TASKS + TASK_1, 4, 48)
-        self.refused(TASK_1 + task_entry(2, 1, 0, 1, 1, 1), 5, 16)
-        self.refused(TASK_1 + task_entry(2, 2, 2, 1, 1, 1), 6, 16)
+        self.refused(TASK_1 + task_entry(2, 1, 2, 1, 1, 1), 6, 16)
         self.refused(TASK_1 + task_entry(2, 2, 0, 1, 0, 1), 7, 16)
 
     def test_lines_of_a_refusal(self):
@@ -253,6 +254,28 @@ class Input(unittest.TestCase):
             self.assertEqual(read_lines(data[:length]), ["X"])
         self.assertEqual(read_lines(data[:4 + 48]), [])
         self.assertEqual(read_lines(b"\xff\xff\xff\xff" + data[4:]), ["X"])
+
+
+
+class Equals(unittest.TestCase):
+    """6/13: a record over tasks of one priority is read back; one that another order among equals would have made is not."""
+
+    def test_what_is_read_back(self):
+        for data, _ in ROWS.values():
+            tasks, releases = data[:48], read_file(data)[1]
+            self.assertEqual(read(tasks, record(data)), releases)
+
+    def test_what_another_order_would_have_made(self):
+        for kind in ALL:
+            for data, _ in ROWS.values():
+                tasks, releases = data[:48], read_file(data)[1]
+                stored = b"".join(record_entries([tasks], releases, kind))
+                self.assertEqual(outcome(tasks, stored), releases if stored == record(data) else (18, None))
+
+    def test_a_table_in_which_they_are_not_equal(self):
+        """The record of plan A is one of its own tasks, and not of three tasks of one priority, whose mark cancels nothing."""
+        equal = task_entry(1, 2, 1, 2, 3, 1) + task_entry(2, 2, 0, 2, 4, 1) + task_entry(3, 2, 0, 2, 5, 2)
+        self.assertEqual(outcome(equal, A), (18, None))
 
 
 if __name__ == "__main__":

@@ -53,9 +53,10 @@ class FileRefusals(unittest.TestCase):
         self.refused(TASKS + task_entry(2, 9, 0, 1, 1, 1), 4, 48)
         self.assertIsNone(outcome(record, task_entry(31, 1, 0, 1, 1, 1)))
 
-    def test_5_priority(self):
-        self.refused(task_entry(1, 9, 0, 1, 1, 1) + task_entry(2, 9, 0, 1, 1, 1), 5, 16)
-        self.assertIsNone(outcome(record, task_entry(1, 255, 0, 1, 1, 1) + task_entry(2, 0, 0, 1, 1, 1)))
+    def test_5_is_not_said_of_a_priority_given_before(self):
+        self.assertIsNone(outcome(record, task_entry(1, 9, 0, 1, 1, 1) + task_entry(2, 9, 0, 1, 1, 1)))
+        for priority in (0, 9, 255):
+            self.assertIsNone(outcome(record, b"".join(task_entry(number, priority, 0, 1, 1, 1) for number in range(32))))
 
     def test_6_mark(self):
         self.refused(task_entry(1, 1, 2, 1, 1, 1), 6, 0)
@@ -121,7 +122,7 @@ class OrderOfFileChecks(unittest.TestCase):
         self.check(after + task_entry(32, 1, 2, 0, 0, 0), 3)
         self.check(TASKS + task_entry(32, 1, 2, 0, 0, 0), 4)
         self.check(TASKS + task_entry(1, 1, 2, 0, 0, 0), 4)
-        self.check(TASKS + task_entry(5, 1, 2, 0, 0, 0), 5)
+        self.check(TASKS + task_entry(5, 1, 2, 0, 0, 0), 6)
         self.check(TASKS + task_entry(5, 5, 2, 0, 0, 0), 6)
         self.check(TASKS + task_entry(5, 5, 1, 0, 0, 0), 7)
 
@@ -154,7 +155,7 @@ class OpeningRefusals(unittest.TestCase):
         self.refused(bytes([7]), 2, 0)
         self.refused(TASKS + task_entry(32, 9, 0, 1, 1, 1), 4, 48)
         self.refused(TASKS + TASK_1, 4, 48)
-        self.refused(TASKS + task_entry(4, 3, 0, 1, 1, 1), 5, 48)
+        self.assertIsNone(outcome(Dispatcher.open, TASKS + task_entry(4, 3, 0, 1, 1, 1)))
         self.refused(task_entry(4, 3, 2, 1, 1, 1), 6, 0)
         self.refused(task_entry(4, 3, 1, 1, 0, 1), 7, 0)
 

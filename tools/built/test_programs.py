@@ -13,9 +13,9 @@ import threading
 import time
 import unittest
 
-from sim import generate
 from sim.entries import release_entry, two_parts
 from sim.files import record
+from sim.generate_tables import small_length, some_tasks
 from sim.lines import record_lines, text
 from sim.reading import read_lines
 from sim.waveform import dump
@@ -40,7 +40,7 @@ def run(program, **streams):
 def long_run(most=4000):
     """An input whose lines and record are longer than what a program keeps."""
     rng = random.Random(1)
-    tasks = generate.some_tasks(rng, 8, generate.small_length)
+    tasks = some_tasks(rng, 8, small_length)
     releases = sorted({(rng.randrange(40_000), rng.choice(tasks)[1]) for _ in range(most + most // 16)})[:most]
     return b"".join(tasks + [release_entry(*release) for release in releases])
 

@@ -81,7 +81,7 @@ def tasks(before, after):
     for row in summary(after):
         rows.setdefault(row["task"], [None, None])[1] = row
     return [{"task": number, **{name: [None if row is None else row[name] for row in pair] for name in OF_TASKS}}
-            for number, pair in sorted(rows.items(), key=lambda item: (item[1][1] or item[1][0])["priority"])]
+            for number, pair in sorted(rows.items(), key=lambda item: ((item[1][1] or item[1][0])["priority"], item[0]))]
 
 
 def change(pair):

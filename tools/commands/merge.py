@@ -11,8 +11,8 @@ from tools.output import Rejected, named
 from tools.plan import read_plan
 
 # What one desk's list alone may do here: tasks behind releases, releases in any order and of tasks in another list, no entry at all. What of this is
-# wrong in the whole, as two tasks of one priority, is found there.
-FOUND_IN_THE_WHOLE = (3, 5, 8, 9, 12)
+# wrong in the whole is found there. Two desks may have tasks of one priority.
+FOUND_IN_THE_WHOLE = (3, 8, 9, 12)
 
 
 def arguments(parser):
@@ -28,7 +28,7 @@ class Merged:
     """Tasks and releases so far, each with where it was first given, and what does not go together."""
 
     def __init__(self):
-        self.tasks, self.priorities, self.releases, self.wrong = {}, {}, {}, []
+        self.tasks, self.releases, self.wrong = {}, {}, []
 
     def add(self, plan):
         self.wrong += [f"{named(plan.path)}: {each}" for each in plan.mistakes if each.number not in FOUND_IN_THE_WHOLE]
@@ -38,13 +38,10 @@ class Merged:
             self.add_release(each, f"{named(plan.path)} line {each.line}")
 
     def add_task(self, each, where):
-        number, priority = each.values["number"], each.values["priority"]
+        number = each.values["number"]
         text, before = self.tasks.setdefault(number, (each.text, where))
         if text != each.text:
             self.wrong.append(f"{where}: task {number} is another than in {before}")
-        owner, before = self.priorities.setdefault(priority, (number, where))
-        if owner != number:
-            self.wrong.append(f"{where}: priority {priority} is that of task {owner} in {before} (refusal 5)")
 
     def add_release(self, each, where):
         time, task = each.values["time"], each.values["task"]

@@ -1,4 +1,4 @@
-"""The inputs with releases that wait show each wrong way of waiting."""
+"""The inputs with releases that wait show each wrong way of waiting, and those with tasks of one priority each wrong order among them."""
 
 import unittest
 
@@ -6,6 +6,7 @@ from sim.dispatcher import Dispatcher, members
 from sim.earlier import NothingWaits
 from sim.entries import Refused, parts_of, two_parts
 from sim.files import instant_entries, read_file, run
+from sim.other_orders import ALL, EqualBlocks, HighestNumberFirst, LatestFirst, PromotedByNumber
 from sim.sessions import calls_lines
 from tools import limits
 
@@ -151,6 +152,27 @@ class Waiting(unittest.TestCase):
         self.assertLessEqual(set(limits.waiting_files()), set(limits.files()))
         self.assertLessEqual(set(limits.waiting_sessions()), set(limits.sessions()))
         self.assertLessEqual({two_parts(limits.TABLE, stored) for stored in limits.waiting_records()}, set(limits.stored_records()))
+
+
+class Equals(unittest.TestCase):
+    def test_files_show_each_wrong_order(self):
+        for wrong in ALL:
+            with self.subTest(wrong=wrong.__name__):
+                self.assertTrue(any(record_by(wrong, data) != record_by(Dispatcher, data) for data in limits.equal_files()))
+
+    def test_sessions_show_wrong_promotions(self):
+        for wrong in (PromotedByNumber, LatestFirst):
+            with self.subTest(wrong=wrong.__name__):
+                self.assertTrue(any(lines_by(wrong, data) != lines_by(Dispatcher, data) for data in limits.equal_sessions()))
+
+    def test_a_whole_table_shows_numbers_and_blocking(self):
+        for wrong in (HighestNumberFirst, LatestFirst, EqualBlocks):
+            self.assertNotEqual(record_by(wrong, limits.whole_table(255)), record_by(Dispatcher, limits.whole_table(255)))
+
+    def test_they_are_among_the_limits(self):
+        self.assertLessEqual(set(limits.equal_files()), set(limits.files()))
+        self.assertLessEqual(set(limits.equal_sessions()), set(limits.sessions()))
+        self.assertLessEqual(set(limits.equal_records()), set(limits.stored_records()))
 
 
 if __name__ == "__main__":

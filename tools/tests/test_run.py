@@ -55,7 +55,7 @@ class Run(Housed):
     def test_a_refused_plan(self):
         """In words, with the plan's line and values."""
         for text, printed, words in (
-                ("# a table\n" + TASK + "task 2 1 0 1 1 1\n", "R 5 16\n", "line 3: priority 1 is given before, in line 2 (refusal 5)"),
+                ("# a table\n" + TASK + "task 2 1 2 1 1 1\n", "R 6 16\n", "line 3: mark is 2, over 1 (refusal 6)"),
                 ("release 0 1\n", "R 8 0\n", "line 1: a release of task 1, which is not in the table (refusal 8)"),
                 (TASK + "".join(f"release {tick} 1\n" for tick in range(4097)), "R 11 40976\n",
                  "line 4098: a 4097th release; nothing behind it is read (refusal 11)"),
@@ -171,8 +171,7 @@ class Record(Housed):
     def test_a_refused_plan_writes_nothing_and_says_so(self):
         plan = self.house.plan(TASK + TASK)
         self.house.run("build")
-        self.assertEqual(self.house.run("record", plan), (1, "", f"{plan}: line 2: task number 1 is given before, in line 1 (refusal 4)\n"
-                                                                f"{plan}: line 2: priority 1 is given before, in line 1 (refusal 5)\n"))
+        self.assertEqual(self.house.run("record", plan), (1, "", f"{plan}: line 2: task number 1 is given before, in line 1 (refusal 4)\n"))
 
     def test_input(self):
         plan = self.house.plan(TASK)

@@ -78,7 +78,6 @@ class Refusals(unittest.TestCase):
         head = ["# a table", "", TASKS[0]]
         for line, expected in (
                 ("task 32 2 0 1 1 1", "plan: line 4: task number 32 is over 31 (refusal 4)"),
-                ("task 2 1 0 1 1 1", "plan: line 4: priority 1 is given before, in line 3 (refusal 5)"),
                 ("task 2 2 2 1 1 1", "plan: line 4: mark is 2, over 1 (refusal 6)"),
                 ("task 2 2 0 0 1 1", "plan: line 4: L is 0, outside 1 to 1000000 (refusal 7)"),
                 ("tusk", "plan: line 4: 'tusk' is neither 'task' nor 'release'")):

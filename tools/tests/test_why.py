@@ -120,6 +120,75 @@ blocked in 1 interval: interval 2 (2 to 7) by task 3
         self.assertIn("the record has 'I 2 7 1 3 1 - 2 2 1'", said)
 
 
+class Equals(unittest.TestCase):
+    """Jobs of one priority: who went first, and by what."""
+
+    def told(self, releases, task, time, first=0, second=0):
+        plan = f"task 1 5 {first} 2 3 1\ntask 2 5 {second} 2 4 1\ntask 3 9 0 2 5 2\n" + "".join(f"release {at} {number}\n" for at, number in releases)
+        status, printed, said = command("why", "PLAN", str(task), str(time), plan=plan)
+        self.assertEqual((status, said), (0, ""))
+        return printed.splitlines()
+
+    def test_released_earlier(self):
+        releases = [(0, 3), (3, 2), (4, 1)]
+        found = self.told(releases, 1, 4)
+        self.assertIn("  9         the engine chooses task 2 (priority 5, equal), which is ready too (R2): it has the same priority and was released "
+                      "earlier, at 3", found)
+        self.assertIn("interval 4, 11 to 15: the processor executes task 2 (priority 5, equal)", found)
+        self.assertIn("blocked in 1 interval: interval 2 (2 to 7) by task 3", found)
+        self.assertIn("executed before it, not lower: task 2 (11)", found)
+        self.assertIn("  9         the engine chooses this job, the highest that is ready (R2); behind it, of the same priority: task 1 (released at 4)",
+                      self.told(releases, 2, 3))
+
+    def test_at_one_tick(self):
+        found = self.told([(0, 1), (0, 2)], 2, 0)
+        self.assertIn("  0        the engine chooses task 1 (priority 5, equal), which is ready too (R2): it has the same priority, was released at 0 too, "
+                      "and has the lower number", found)
+        self.assertIn("blocked in no interval: from its taking to its execution the processor never executed a lower-priority job", found)
+
+    def test_one_that_waited(self):
+        found = self.told([(0, 2), (1, 2), (3, 1)], 1, 3)
+        self.assertIn("  7         the engine chooses task 2 (priority 5, equal), which is ready too (R2): it has the same priority and was released "
+                      "earlier, at 1 (it waited until 7, and its original time counts)", found)
+
+    def test_an_equal_copy_stays(self):
+        found = self.told([(0, 2), (1, 1)], 1, 1, first=1)
+        self.assertIn("  1        the engine's choice of this interval was made at 0, and is made once (R2): task 2 (priority 5, equal). That copy stays: "
+                      "it is not lower (R3)", found)
+
+    def test_promoted_before_an_equal(self):
+        releases = [(0, 3), (3, 2), (4, 1)]
+        self.assertIn("  7         the interval ends; task 2 (priority 5, equal), latency-sensitive and released in it, is promoted: it has the same "
+                      "priority and was released earlier, at 3 (R4)", self.told(releases, 1, 4, 1, 1))
+        self.assertIn("  7         the interval ends. Nobody was chosen in it, and this is the highest latency-sensitive job released in it: promoted (R4); "
+                      "behind it, of the same priority: task 1 (released at 4)", self.told(releases, 2, 3, 1, 1))
+
+    def test_passed_by_a_promoted_one(self):
+        self.assertIn("  7         the interval ends; task 1 (priority 5, equal), latency-sensitive and released in it, is promoted: this job, though "
+                      "released earlier, is not latency-sensitive (R4)", self.told([(0, 3), (3, 2), (4, 1)], 2, 3, first=1))
+
+    def test_what_is_said_of_equals_holds(self):
+        """Of random runs: who is said to go first has the same priority, and the earlier release or the lower number."""
+        said = {"earlier": 0, "lower number": 0}
+        for _, run, _ in random_runs(80, seed=21):
+            for life in run.done():
+                for line in told(run, life).splitlines():
+                    other = re.search(r"task (\d+) \(priority (\d+), equal\).*it has the same priority", line)
+                    if other is None:
+                        continue
+                    number, priority = map(int, other.groups())
+                    self.assertEqual((priority, run.table[number].priority), (life.task.priority,) * 2)
+                    if earlier := re.search(r"released earlier, at (\d+)", line):
+                        self.assertLess(int(earlier.group(1)), life.release)
+                        self.assertIn((int(earlier.group(1)), number), run.lives)
+                        said["earlier"] += 1
+                    else:
+                        self.assertIn(f"was released at {life.release} too, and has the lower number", line)
+                        self.assertLess(number, life.task.number)
+                        said["lower number"] += 1
+        self.assertGreater(min(said.values()), 50, said)
+
+
 class Held(unittest.TestCase):
     """Against the record, whose numbers are the proved program's."""
 
@@ -234,6 +303,11 @@ class Summary(unittest.TestCase):
             self.assertEqual(list(row), list(other))
             self.assertEqual((str(row["worst_response"]), str(row["promoted"])), (other["worst_response"], other["promoted"]))
         self.assertEqual(rows[1]["blocked_by"], [3])
+
+    def test_equals_stand_by_their_numbers(self):
+        plan = "task 4 7 0 1 1 1\ntask 2 7 0 1 1 1\ntask 3 1 0 1 1 1\nrelease 0 2\nrelease 0 4\n"
+        self.assertEqual([row["task"] for row in json.loads(command("summary", "--json", "PLAN", plan=plan)[1])], [3, 2, 4])
+        self.assertEqual([row["task"] for row in json.loads(command("compare", "--json", "PLAN", "PLAN", plan=plan)[1])["tasks"]], [3, 2, 4])
 
     def test_no_release_at_all(self):
         rows = json.loads(command("summary", "--json", "PLAN", plan=TASKS)[1])

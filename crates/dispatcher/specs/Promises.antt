@@ -124,9 +124,9 @@ pub record TestedTold (n : ℕ) (after : Stage) (k' : Kept) (b' : Beside) (told 
   pub reads : ClosedReads (after .closed)
 
 -- before the releases
-abbrev pub EndsBefore : ℕ → List ℕ → Kept → List ℕ → List ℕ → Kept → List ℕ → List ℕ → ℕ → Type 0
-EndsBefore t priority k blocked told k' blocked' told' x =
-    (columns release waits : List ℕ) → Whole k
+abbrev pub EndsBefore : ℕ → List ℕ → List ℕ → Kept → List ℕ → List ℕ → Kept → List ℕ → List ℕ → ℕ → Type 0
+EndsBefore t priority release k blocked told k' blocked' told' x =
+    (columns waits : List ℕ) → Whole k
     → TestedTold 1 (step-f (read k (beside priority columns (by-task release blocked waits))) t)
     k' (beside priority columns (by-task release blocked' waits)) told told' x
 
@@ -134,9 +134,9 @@ EndsBefore t priority k blocked told k' blocked' told' x =
 abbrev pub step-e-f : State → ℕ → Stage
 step-e-f d t = step-f (step-e d t (d .phase)) t
 
-abbrev pub EndsAfter : ℕ → List ℕ → List ℕ → Kept → List ℕ → List ℕ → Kept → List ℕ → List ℕ → ℕ → Type 0
-EndsAfter t priority columns k blocked told k' blocked' told' x =
-    (release waits : List ℕ) → Whole k
+abbrev pub EndsAfter : ℕ → List ℕ → List ℕ → List ℕ → Kept → List ℕ → List ℕ → Kept → List ℕ → List ℕ → ℕ → Type 0
+EndsAfter t priority release columns k blocked told k' blocked' told' x =
+    (waits : List ℕ) → Whole k
     → TestedTold 2 (step-e-f (read k (beside priority columns (by-task release blocked waits))) t)
     k' (beside priority columns (by-task release blocked' waits)) told told' x
 

@@ -48,16 +48,17 @@ fn end_before(
     sets: &mut at::Sets,
     codes: &mut at::Codes,
     priority: &[u8; 32],
+    release: &[u64; 32],
     blocked: &mut [u8; 32],
     told: &mut [u64; WORDS],
 ) -> u64
-    ensures { λ x. ⌜ EndsBefore t (now (priority .entry))
+    ensures { λ x. ⌜ EndsBefore t (now (priority .entry)) (now (release .entry))
         (kept (now (times .entry)) (now (sets .entry)) (now (codes .entry))) (now (blocked .entry)) (now (told .entry))
         (kept (now (times .exit)) (now (sets .exit)) (now (codes .exit))) (now (blocked .exit)) (now (told .exit)) x ⌝ }
     ensures { λ x. ⌜ x ≤ 1 ⌝ }
 {
     if rules::is_over(codes) {
-        let p = rules::promoted(sets, codes, priority);
+        let p = rules::promoted(sets, codes, priority, release);
         rules::count_blocked(sets, codes, priority, blocked);
         tell_interval(t, p, times, codes, told);
         rules::close(p, times, sets, codes);
@@ -72,11 +73,12 @@ fn end_after(
     sets: &mut at::Sets,
     codes: &mut at::Codes,
     priority: &[u8; 32],
+    release: &[u64; 32],
     columns: &Columns,
     blocked: &mut [u8; 32],
     told: &mut [u64; WORDS],
 ) -> u64
-    ensures { λ x. ⌜ EndsAfter t (now (priority .entry)) (now (columns .entry))
+    ensures { λ x. ⌜ EndsAfter t (now (priority .entry)) (now (release .entry)) (now (columns .entry))
         (kept (now (times .entry)) (now (sets .entry)) (now (codes .entry))) (now (blocked .entry)) (now (told .entry))
         (kept (now (times .exit)) (now (sets .exit)) (now (codes .exit))) (now (blocked .exit)) (now (told .exit)) x ⌝ }
     ensures { λ x. ⌜ x ≤ 2 ⌝ }
@@ -84,9 +86,9 @@ fn end_after(
     if codes[at::COPYIN] == codes::NO_INTERVAL {
         return 0;
     }
-    rules::choose(t, times, sets, codes, priority, columns);
+    rules::choose(t, times, sets, codes, columns, priority, release);
     if rules::is_over(codes) {
-        let p = rules::promoted(sets, codes, priority);
+        let p = rules::promoted(sets, codes, priority, release);
         rules::count_blocked(sets, codes, priority, blocked);
         tell_interval(t, p, times, codes, told);
         rules::close(p, times, sets, codes);
@@ -120,12 +122,22 @@ pub fn steps<'a>(
     rules::stamp(t, times, sets, codes);
     let done = end_copyout(t, times, sets, codes, release, blocked, told);
     rules::others_end(t, times, codes, columns);
-    let first = end_before(t, times, sets, codes, priority, blocked, told);
+    let first = end_before(t, times, sets, codes, priority, release, blocked, told);
     let r = rules::released(sets[at::PENDING], sets[at::WAITING], set);
     let held = rules::held_over(codes, r.taken);
     rules::take_releases(t, r, sets, codes, priority, release, blocked, waits);
-    let last = end_after(t, times, sets, codes, priority, columns, blocked, told);
-    rules::begin_interval(t, held, times, sets, codes, priority, columns);
+    let last = end_after(
+        t,
+        times,
+        sets,
+        codes,
+        priority,
+        release,
+        columns,
+        blocked,
+        told,
+    );
+    rules::begin_interval(t, held, times, sets, codes, columns, priority, release);
     let next = tell_due(times, codes, told);
     tell_flags(r.skipped, done, first, last, next, told);
 }

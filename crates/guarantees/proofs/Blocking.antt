@@ -1,6 +1,7 @@
 -- No blocked count goes over 2: a job's first and second interval may each count one, and from the third on none does.
 use Rattle.guarantees.specs.Queries.{is-task}
 use Rattle.guarantees.specs.Types.{_≡_, refl, sym, ap, _∙_, subst, Bool, true, false, cond, _&&_, false≢true, List, [], _∷_, _⊎_, inl, inr, ⊎-elim, ℕ, zero, suc, _+_, _≤_, _<_, min, Table, MaybeTask, NoTask, Task, CopyIn, Unchosen, NoneChosen, Copying, Loaded, Cancelled, Interval, Next, Outgoing, Phase, Between, Within, State, Stage}
+use Rattle.guarantees.specs.Claim.{NotLower}
 use native.Mathlib.Omega.{arith}
 use native.Mathlib.Nat.{add-zero, zero-add}
 use borrow.Author.Tests.{eqb-true, ltb-true}
@@ -16,7 +17,7 @@ use Rattle.guarantees.proofs.Highest.{Best}
 use Rattle.guarantees.proofs.Walk.{with-marks}
 use Rattle.guarantees.proofs.Cases.{held-at, copyin-cases, a-cases, b-cases, d-cases, e-cases, g-cases}
 use Rattle.guarantees.proofs.Steps.{best-of, settles, c-new, NewAt, processor-task-same}
-use Rattle.guarantees.proofs.Waiting.{NotLower, Bound, Old, rule-old, held-task, held-is, next-task, up-next, runs, Left, closed, ready-at, fate-at, a-waiting, c-waiting, d-waiting, e-waiting}
+use Rattle.guarantees.proofs.Waiting.{Bound, Old, rule-old, held-task, held-is, next-task, up-next, runs, Left, closed, ready-at, fate-at, a-waiting, c-waiting, d-waiting, e-waiting}
 
 -- ---- the counts of a list
 

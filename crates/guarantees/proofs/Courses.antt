@@ -1,25 +1,27 @@
 -- The entry of an interval closed tells the truth, and each interval executes what the history says: the course of an interval along a history agrees with the
 -- state, step by step and along the calls.
-use Rattle.guarantees.specs.Types.{_≡_, refl, sym, ap, _∙_, subst, Bool, true, false, cond, not, _&&_, _||_, true≢false, false≢true, List, [], _∷_, _++_, _⊎_, inl, inr, ⊎-elim, ℕ, zero, suc, _+_, _-_, _≤_, _<_, Table, MaybeTask, NoTask, Task, CopyIn, Unchosen, NoneChosen, Copying, Loaded, Cancelled, Interval, Next, NoneNext, Outgoing, Phase, Between, Within, State, Stage, NoInterval, IntervalEntry, Call}
+use Rattle.guarantees.specs.Types.{_≡_, refl, sym, ap, _∙_, subst, Bool, true, false, cond, not, _&&_, _||_, true≢false, false≢true, List, [], _∷_, _++_, _⊎_, inl, inr, ⊎-elim, ℕ, _+_, _-_, _≤_, _<_, Table, MaybeTask, NoTask, Task, CopyIn, Unchosen, NoneChosen, Copying, Loaded, Cancelled, Interval, Next, NoneNext, Outgoing, Phase, Between, Within, State, Stage, NoInterval, IntervalEntry, Call}
 use mathlib.Core.List.{append-nil}
 use native.Mathlib.Omega.{arith}
 use lib.Dec.{eqb}
+use lib.ListN.{getD}
 use Rattle.sets.specs.Sets.{member, union, intersection, insert, bit}
 use Rattle.sets.proofs.Laws.{by-test, clash, none, same-task, united, intersection-member, intersection-left, inserted, removed, union-out, union-right}
 use Rattle.rules.specs.With.{at-clock, with-copyin}
-use Rattle.rules.specs.Order.{better, highest-below, highest, highest-of}
+use Rattle.rules.specs.Order.{highest, highest-of}
 use Rattle.rules.specs.Calls.{opened}
 use Rattle.rules.specs.Instant.{step-a, step-b, step-c, step-d, step-e, step-g, close, close-stage, over, promoted, next-of, work-of, held-over, with-candidates, cancel, choose, begin, begin-processor, begin-copyout, wanted, ended as ended-by, without-done, settled, entry-with, interval-entry, copyin-at, copyin-task, copyin-fate, processor-task, copyout-task, closing, occurred, at-a, at-b, at-e, at-f, at-g, taken-at, deferred-at, fresh-stage}
-use Rattle.guarantees.specs.History.{Event, Comes, Starts, Stops, Finishes, Completes, Ends, Takes, Defers, GivesWay, Begins, history, happens, processor-events-in, finish-events, finish-events-in, completion-events, end-events, take-events, given-way, giving-events, giving-events-in, begin-events, start-events}
-use Rattle.guarantees.specs.Queries.{details, finishes, ends, begins, gives-way, after}
-use Rattle.guarantees.specs.Intervals.{Course, no-course, course, work-by, course-by, promoted-by, executes-next, Proceeds, entry-by, ended}
+use Rattle.guarantees.specs.History.{Event, Comes, Starts, Stops, Finishes, Completes, Ends, Takes, Defers, GivesWay, Begins, history, happens, processor-events-in, finish-events, finish-events-in, completion-events, end-events, take-events, defer-events, given-way, giving-events, giving-events-in, begin-events, start-events}
+use Rattle.guarantees.specs.Queries.{details, finishes, ends, begins, gives-way, after, Origin, origin-by}
+use Rattle.guarantees.specs.Intervals.{Course, no-course, course, work-by, highest-own, course-by, promoted-by, executes-next, Proceeds, entry-by, ended}
 use Rattle.guarantees.specs.Entries.{all-occurred, closed-in, closed}
 use Rattle.guarantees.proofs.Walk.{walk-told}
 use Rattle.guarantees.proofs.Cases.{held-at, HeldFor, d-fates, e-cases}
 use Rattle.guarantees.proofs.Steps.{settles, processor-task-same}
 use Rattle.guarantees.proofs.Events.{by-processor-at, by-completes, by-takes, by-defers, by-starts, tail-of, happens-parts, front-parts, tail-parts}
 use Rattle.guarantees.proofs.Frames.{Frame, b-frame, frame-e, marked-b}
-use Rattle.guarantees.proofs.Highest.{Best, best}
+use Rattle.guarantees.proofs.Highest.{highest-same}
+use Rattle.guarantees.proofs.Origins.{OriginIs, taken-origin, deferred-origin, takes-origin, defers-origin, c-origin, opened-origin}
 use Rattle.guarantees.proofs.Settled.{unwanted}
 use Rattle.guarantees.proofs.Order.{situation-of, situation-e}
 use Rattle.guarantees.proofs.Waiting.{next-task, runs}
@@ -27,20 +29,6 @@ use Rattle.guarantees.proofs.Places.{copyin-bit}
 use Rattle.guarantees.proofs.Deferred.{at-task}
 use Rattle.guarantees.proofs.CopyOuts.{Both, begun-both}
 use Rattle.guarantees.proofs.Closings.{copyout-task-same, closed-of, closing-is, a-none, one-closes}
-
--- ---- two sets with the same members have the same highest
-
-highest-same-below : (k : ℕ) (pr : List ℕ) (s s′ : ℕ) → ((j : ℕ) → j < k → member j s ≡ member j s′) → highest-below k pr s ≡ highest-below k pr s′
-unfolding highest-below
-highest-same-below zero pr s s′ h = refl
-highest-same-below (suc k) pr s s′ h =
-    let x : highest-below k pr s ≡ highest-below k pr s′ = highest-same-below k pr s s′ (λ j l. h j (omega arith)) in
-    ap (λ (r : MaybeTask). cond (member k s) (better pr r k) r) x
-    ∙ ap (λ (b : Bool). cond b (better pr (highest-below k pr s′) k) (highest-below k pr s′)) (h k (omega arith))
-
-highest-same : (pr : List ℕ) (s s′ : ℕ) → ((j : ℕ) → j < 32 → member j s ≡ member j s′) → highest pr s ≡ highest pr s′
-unfolding highest
-highest-same pr s s′ h = highest-same-below 32 pr s s′ h
 
 able-same : (c r : Bool) → (c ≡ true → r ≡ true) → c ≡ (c && r)
 able-same true r h = sym (h refl)
@@ -51,19 +39,19 @@ able-same false r h = refl
 module _ (pr : List ℕ) where
   -- what may occur, by the course so far
   pub record Allowed (x : Course) (e : Event) : Type 0 where
-    pub begins-so : begins e ≡ true → (x .is-open ≡ false) × (details e .task ≡ executes-next pr x)
+    pub begins-so : begins e ≡ true → (x .is-open ≡ false) × (details e .task ≡ x .decided)
     pub ends-so : ends e ≡ true → x .is-open ≡ true
     pub finishes-so : finishes e ≡ true → (x .is-open ≡ true) × (x .fate ≡ 0)
     pub gives-so : gives-way e ≡ true → (x .is-open ≡ true) × ((x .fate ≡ 0) ⊎ ((x .fate ≡ 1) × (x .chosen ≡ details e .task)))
 
   unfoldable pub Executing-so : Course → List Event → Type 0
   Executing-so x [] = Unit {0}
-  Executing-so x (e ∷ es) = Allowed x e × Executing-so (course-by x e) es
+  Executing-so x (e ∷ es) = Allowed x e × Executing-so (course-by pr x e) es
 
-  allowed-at : (before : List Event) (x : Course) (e : Event) (es : List Event) → Executing-so x (before ++ (e ∷ es)) → Allowed (after course-by x before) e
+  allowed-at : (before : List Event) (x : Course) (e : Event) (es : List Event) → Executing-so x (before ++ (e ∷ es)) → Allowed (after (course-by pr) x before) e
   unfolding Executing-so after
   allowed-at [] x e es h = h .0
-  allowed-at (y ∷ before) x e es h = allowed-at before (course-by x y) e es (h .1)
+  allowed-at (y ∷ before) x e es h = allowed-at before (course-by pr x y) e es (h .1)
 
   pub proceeds : (h : List Event) → Executing-so no-course h → Proceeds pr h
   proceeds h x = record {
@@ -73,7 +61,7 @@ module _ (pr : List ℕ) where
     each-giving = λ before after n e. at before (GivesWay n) after e .gives-so refl;
   }
     where
-      at : (before : List Event) (e : Event) (es : List Event) → h ≡ before ++ (e ∷ es) → Allowed (course before) e
+      at : (before : List Event) (e : Event) (es : List Event) → h ≡ before ++ (e ∷ es) → Allowed (course pr before) e
       at before e es z = allowed-at before no-course e es (subst (Executing-so no-course) z x)
 
   -- and the entries of the intervals that end are l
@@ -91,10 +79,10 @@ module _ (pr : List ℕ) where
     finishes-not : finishes e ≡ false
     gives-not : gives-way e ≡ false
 
-  follows-on : (l : List IntervalEntry) (x : Course) (e : Event) (es : List Event) → Plain e → Follows l (course-by x e) es → Follows l x (e ∷ es)
+  follows-on : (l : List IntervalEntry) (x : Course) (e : Event) (es : List Event) → Plain e → Follows l (course-by pr x e) es → Follows l x (e ∷ es)
   follows-on l x e es p h = record {
     executing = unfold Executing-so in (allowed, h .executing);
-    says = unfold ended in ap (λ (c : Bool). cond c (entry-by pr x (details e .tick) ∷ []) [] ++ ended pr (course-by x e) es) (p .ends-not) ∙ h .says;
+    says = unfold ended in ap (λ (c : Bool). cond c (entry-by pr x (details e .tick) ∷ []) [] ++ ended pr (course-by pr x e) es) (p .ends-not) ∙ h .says;
   }
     where
       allowed : Allowed x e
@@ -105,7 +93,7 @@ module _ (pr : List ℕ) where
         gives-so = other (gives-way e) (p .gives-not);
       }
 
-  follows-finish : (l : List IntervalEntry) (x : Course) (n : ℕ) (es : List Event) → x .is-open ≡ true → x .fate ≡ 0 → Follows l (course-by x (Finishes n)) es
+  follows-finish : (l : List IntervalEntry) (x : Course) (n : ℕ) (es : List Event) → x .is-open ≡ true → x .fate ≡ 0 → Follows l (course-by pr x (Finishes n)) es
       → Follows l x (Finishes n ∷ es)
   follows-finish l x n es o f h = record { executing = unfold Executing-so in (allowed, h .executing); says = unfold ended in h .says }
     where
@@ -113,14 +101,14 @@ module _ (pr : List ℕ) where
       allowed = record { begins-so = other false refl; ends-so = other false refl; finishes-so = λ y. (o, f); gives-so = other false refl }
 
   follows-gives : (l : List IntervalEntry) (x : Course) (n : ℕ) (es : List Event) → x .is-open ≡ true → ((x .fate ≡ 0) ⊎ ((x .fate ≡ 1) × (x .chosen ≡ Task n)))
-      → Follows l (course-by x (GivesWay n)) es → Follows l x (GivesWay n ∷ es)
+      → Follows l (course-by pr x (GivesWay n)) es → Follows l x (GivesWay n ∷ es)
   follows-gives l x n es o f h = record { executing = unfold Executing-so in (allowed, h .executing); says = unfold ended in h .says }
     where
       allowed : Allowed x (GivesWay n)
       allowed = record { begins-so = other false refl; ends-so = other false refl; finishes-so = other false refl; gives-so = λ y. (o, f) }
 
   follows-ends : (l : List IntervalEntry) (x : Course) (t : ℕ) (i : IntervalEntry) (es : List Event) → x .is-open ≡ true → entry-by pr x t ≡ i
-      → Follows l (course-by x (Ends t)) es → Follows (i ∷ l) x (Ends t ∷ es)
+      → Follows l (course-by pr x (Ends t)) es → Follows (i ∷ l) x (Ends t ∷ es)
   follows-ends l x t i es o e h = record {
     executing = unfold Executing-so in (allowed, h .executing);
     says = unfold ended in ap (λ (z : List IntervalEntry). entry-by pr x t ∷ z) (h .says) ∙ ap (λ (z : IntervalEntry). z ∷ l) e;
@@ -129,8 +117,8 @@ module _ (pr : List ℕ) where
       allowed : Allowed x (Ends t)
       allowed = record { begins-so = other false refl; ends-so = λ y. o; finishes-so = other false refl; gives-so = other false refl }
 
-  follows-begins : (l : List IntervalEntry) (x : Course) (t : ℕ) (r o : MaybeTask) (es : List Event) → x .is-open ≡ false → r ≡ executes-next pr x
-      → Follows l (course-by x (Begins t r o)) es → Follows l x (Begins t r o ∷ es)
+  follows-begins : (l : List IntervalEntry) (x : Course) (t : ℕ) (r o : MaybeTask) (es : List Event) → x .is-open ≡ false → r ≡ x .decided
+      → Follows l (course-by pr x (Begins t r o)) es → Follows l x (Begins t r o ∷ es)
   follows-begins l x t r o es s e h = record { executing = unfold Executing-so in (allowed, h .executing); says = unfold ended in h .says }
     where
       allowed : Allowed x (Begins t r o)
@@ -160,7 +148,7 @@ module _ (pr : List ℕ) where
   -- s are the marked jobs taken since the interval has ended
   record Over (s : ℕ) (x : Course) (ready : ℕ) (next : Next) : Type 0 where
     is-shut : x .is-open ≡ false
-    executes : next-task next ≡ executes-next pr x
+    executes : next-task next ≡ x .decided
     works : work-of next ≡ work-by (x .fate) (next-task next)
     next-is : (k : ℕ) → k < 32 → member k (x .next) ≡ member k s
     able : (k : ℕ) → k < 32 → member k s ≡ true → member k ready ≡ true
@@ -172,6 +160,7 @@ module _ (pr : List ℕ) where
   record Agrees (s : ℕ) (x : Course) (d : State) (p : Phase) : Type 0 where
     table-is : d .table .priority ≡ pr
     half-is : x .half ≡ d .half
+    origins-are : (k : ℕ) → k < 32 → OriginIs k (x .origins k) (d .jobs .release) (d .waiting)
     phase : AgreesAt s x (d .jobs .ready) p
 
   -- ---- a
@@ -179,7 +168,7 @@ module _ (pr : List ℕ) where
   abbrev finished : ℕ → CopyIn → Course → Course
   finished t Unchosen x = x
   finished t NoneChosen x = x
-  finished t (Copying n until) x = cond (eqb until t) (course-by x (Finishes n)) x
+  finished t (Copying n until) x = cond (eqb until t) (course-by pr x (Finishes n)) x
   finished t (Loaded n) x = x
   finished t (Cancelled n fate) x = x
 
@@ -197,20 +186,21 @@ module _ (pr : List ℕ) where
     interval : SameInterval x y
     own-same : y .own ≡ x .own
     next-same : y .next ≡ x .next
+    origins-same : y .origins ≡ x .origins
 
   same-interval : {x : Course} → SameInterval x x
   same-interval = record { is-open = refl; begin-same = refl; half-same = refl; task-same = refl; work-same = refl; out-same = refl }
 
   unchanged : (x : Course) → SameButCopy x x
-  unchanged x = record { interval = same-interval; own-same = refl; next-same = refl }
+  unchanged x = record { interval = same-interval; own-same = refl; next-same = refl; origins-same = refl }
 
   finished-same : (t : ℕ) (c : CopyIn) (x : Course) → SameButCopy x (finished t c x)
   finished-same t Unchosen x = unchanged x
   finished-same t NoneChosen x = unchanged x
   finished-same t (Copying n until) x = go (eqb until t)
     where
-      go : (b : Bool) → SameButCopy x (cond b (course-by x (Finishes n)) x)
-      go true = record { interval = record { is-open = refl; begin-same = refl; half-same = refl; task-same = refl; work-same = refl; out-same = refl }; own-same = refl; next-same = refl }
+      go : (b : Bool) → SameButCopy x (cond b (course-by pr x (Finishes n)) x)
+      go true = record { interval = record { is-open = refl; begin-same = refl; half-same = refl; task-same = refl; work-same = refl; out-same = refl }; own-same = refl; next-same = refl; origins-same = refl }
       go false = unchanged x
   finished-same t (Loaded n) x = unchanged x
   finished-same t (Cancelled n fate) x = unchanged x
@@ -220,7 +210,7 @@ module _ (pr : List ℕ) where
   finished-shown t NoneChosen x h = h
   finished-shown t (Copying n until) x h = go (eqb until t)
     where
-      go : (b : Bool) → Shown (cond b (course-by x (Finishes n)) x .chosen) (cond b (course-by x (Finishes n)) x .fate) (cond b (Loaded n) (Copying n until))
+      go : (b : Bool) → Shown (cond b (course-by pr x (Finishes n)) x .chosen) (cond b (course-by pr x (Finishes n)) x .fate) (cond b (Loaded n) (Copying n until))
       go true = (refl, refl)
       go false = h
   finished-shown t (Loaded n) x h = h
@@ -233,7 +223,7 @@ module _ (pr : List ℕ) where
   finish-follows l t NoneChosen x ys o s h = h
   finish-follows l t (Copying n until) x ys o s h = go (eqb until t) h
     where
-      go : (b : Bool) → Follows l (cond b (course-by x (Finishes n)) x) ys → Follows l x (cond b (Finishes n ∷ []) [] ++ ys)
+      go : (b : Bool) → Follows l (cond b (course-by pr x (Finishes n)) x) ys → Follows l x (cond b (Finishes n ∷ []) [] ++ ys)
       go true h = follows-finish l x n ys o (s .1) h
       go false h = h
   finish-follows l t (Loaded n) x ys o s h = h
@@ -257,6 +247,7 @@ module _ (pr : List ℕ) where
       (k y (unfold step-a without-done ended-by in record {
         table-is = a .table-is;
         half-is = same .interval .half-same ∙ a .half-is;
+        origins-are = λ k l. subst (λ (o : ℕ → Origin). OriginIs k (o k) (d .jobs .release) (d .waiting)) (sym (same .origins-same)) (a .origins-are k l);
         phase = record {
           is-open = same .interval .is-open ∙ h .is-open;
           begin-is = same .interval .begin-same ∙ h .begin-is;
@@ -290,12 +281,14 @@ module _ (pr : List ℕ) where
 
   -- every candidate is ready, so that the highest of them is the highest of the course's own
   best-own : (d : State) (i : Interval) (x : Course) → ((k : ℕ) → k < 32 → member k (i .candidates) ≡ true → member k (d .jobs .ready) ≡ true)
-      → d .table .priority ≡ pr → ((k : ℕ) → k < 32 → member k (x .own) ≡ member k (i .candidates))
-      → highest pr (x .own) ≡ highest-of d (intersection (i .candidates) (d .jobs .ready))
-  best-own d i x f e o =
-      ap (λ (l : List ℕ). highest l (x .own)) (sym e)
-      ∙ highest-same (d .table .priority) (x .own) (intersection (i .candidates) (d .jobs .ready))
+      → d .table .priority ≡ pr → ((k : ℕ) → k < 32 → OriginIs k (x .origins k) (d .jobs .release) (d .waiting))
+      → ((k : ℕ) → k < 32 → member k (x .own) ≡ member k (i .candidates))
+      → highest-own pr x ≡ highest-of d (intersection (i .candidates) (d .jobs .ready))
+  best-own d i x f e g o =
+      ap (λ (l : List ℕ). highest l (λ n. x .origins n .since) (x .own)) (sym e)
+      ∙ highest-same (d .table .priority) (λ n. x .origins n .since) (λ n. getD (d .jobs .release) n 0) (x .own) (intersection (i .candidates) (d .jobs .ready))
       (λ k l. o k l ∙ able-same (member k (i .candidates)) (member k (d .jobs .ready)) (f k l) ∙ sym (intersection-member (i .candidates) (d .jobs .ready) k l))
+      (λ k l. g k l .since-is)
 
   -- where no job is loaded
   promotes : (c : CopyIn) (q : MaybeTask) → next-of c NoTask ≡ NoneNext → next-task (next-of c q) ≡ q
@@ -308,14 +301,15 @@ module _ (pr : List ℕ) where
 
   promoted-so : (d : State) (i : Interval) (c : CopyIn) (x : Course) → settled c ≡ true → Shown (x .chosen) (x .fate) c
       → ((k : ℕ) → k < 32 → copyin-bit k c ≡ 0 → member k (i .candidates) ≡ true → member k (d .jobs .ready) ≡ true)
-      → d .table .priority ≡ pr → ((k : ℕ) → k < 32 → member k (x .own) ≡ member k (i .candidates)) → ClosedSo d i c x
+      → d .table .priority ≡ pr → ((k : ℕ) → k < 32 → OriginIs k (x .origins k) (d .jobs .release) (d .waiting))
+      → ((k : ℕ) → k < 32 → member k (x .own) ≡ member k (i .candidates)) → ClosedSo d i c x
   unfolding promoted
-  promoted-so d i Unchosen x s h f e o = absurd (false≢true s)
-  promoted-so d i (Copying n until) x s h f e o = absurd (false≢true s)
-  promoted-so d i (Loaded n) x s h f e o =
+  promoted-so d i Unchosen x s h f e g o = absurd (false≢true s)
+  promoted-so d i (Copying n until) x s h f e g o = absurd (false≢true s)
+  promoted-so d i (Loaded n) x s h f e g o =
       record { chosen-is = h .0; fate-is = h .1; promoted-is = rw (h .1) refl; executes = rw (h .1) (sym (h .0)); works = rw (h .1) refl }
-  promoted-so d i NoneChosen x s h f e o =
-      let b : highest pr (x .own) ≡ highest-of d (intersection (i .candidates) (d .jobs .ready)) = best-own d i x (λ k l. f k l refl) e o in
+  promoted-so d i NoneChosen x s h f e g o =
+      let b : highest-own pr x ≡ highest-of d (intersection (i .candidates) (d .jobs .ready)) = best-own d i x (λ k l. f k l refl) e g o in
       let q : MaybeTask = highest-of d (intersection (i .candidates) (d .jobs .ready)) in
       record {
         chosen-is = h .0;
@@ -324,8 +318,8 @@ module _ (pr : List ℕ) where
         executes = rw (h .1) (promotes NoneChosen q refl ∙ sym b);
         works = rw (h .1) (promotes-work NoneChosen q 0 refl refl);
       }
-  promoted-so d i (Cancelled n fate) x s h f e o =
-      let b : highest pr (x .own) ≡ highest-of d (intersection (i .candidates) (d .jobs .ready)) = best-own d i x (λ k l. f k l refl) e o in
+  promoted-so d i (Cancelled n fate) x s h f e g o =
+      let b : highest-own pr x ≡ highest-of d (intersection (i .candidates) (d .jobs .ready)) = best-own d i x (λ k l. f k l refl) e g o in
       let q : MaybeTask = highest-of d (intersection (i .candidates) (d .jobs .ready)) in
       record {
         chosen-is = h .0;
@@ -345,7 +339,7 @@ module _ (pr : List ℕ) where
 
   closed-so : (d : State) (i : Interval) (x : Course) → over i ≡ true → Agrees 0 x d (Within i) → ClosedSo d i (i .copyin) x
   closed-so d i x o a =
-      promoted-so d i (i .copyin) x (settles i o) (a .phase .shown) (all-ready (d .jobs .ready) i x (a .phase)) (a .table-is) (a .phase .own-is)
+      promoted-so d i (i .copyin) x (settles i o) (a .phase .shown) (all-ready (d .jobs .ready) i x (a .phase)) (a .table-is) (a .origins-are) (a .phase .own-is)
 
   entry-so : (d : State) (i : Interval) (x : Course) (t : ℕ) → over i ≡ true → Agrees 0 x d (Within i) → entry-by pr x t ≡ interval-entry d t i
   unfolding interval-entry entry-with
@@ -370,12 +364,13 @@ module _ (pr : List ℕ) where
   b-follows l s z t (Between next outgoing) ys e n f k x a = rw n (k x (subst (Agrees s x (z .state)) (sym e) a))
   b-follows l s z t (Within i) ys e n f k x a = go (over i) refl k
     where
-      shut : over i ≡ true → Agrees s (course-by x (Ends t)) (close (z .state) i) (close (z .state) i .phase)
+      shut : over i ≡ true → Agrees s (course-by pr x (Ends t)) (close (z .state) i) (close (z .state) i .phase)
       shut o =
-          let c : ClosedSo (z .state) i (i .copyin) x = closed-so (z .state) i x o (record { table-is = a .table-is; half-is = a .half-is; phase = a .phase }) in
+          let c : ClosedSo (z .state) i (i .copyin) x = closed-so (z .state) i x o (record { table-is = a .table-is; half-is = a .half-is; origins-are = a .origins-are; phase = a .phase }) in
           unfold close in record {
             table-is = a .table-is;
             half-is = a .half-is;
+            origins-are = a .origins-are;
             phase = record {
               is-shut = refl;
               executes = c .executes;
@@ -389,8 +384,8 @@ module _ (pr : List ℕ) where
           → Follows (closed-of (close-stage z t i b .closed) ++ l) x (end-events t (Within i) (close-stage z t i b .state .phase) ++ ys)
       go true o k =
           unfold close-stage end-events close in
-          follows-ends l x t (interval-entry (z .state) t i) ys (a .phase .is-open) (entry-so (z .state) i x t o (record { table-is = a .table-is; half-is = a .half-is; phase = a .phase }))
-          (k (course-by x (Ends t)) (unfold close-stage close in shut o))
+          follows-ends l x t (interval-entry (z .state) t i) ys (a .phase .is-open) (entry-so (z .state) i x t o (record { table-is = a .table-is; half-is = a .half-is; origins-are = a .origins-are; phase = a .phase }))
+          (k (course-by pr x (Ends t)) (unfold close-stage close in shut o))
       go false o k =
           unfold close-stage in
           rw n (stays-follows l t x i (z .state .phase) ys e (k x (subst (Agrees s x (z .state)) (sym e) a)))
@@ -402,16 +397,17 @@ module _ (pr : List ℕ) where
   NoneBegins [] = Unit {0}
   NoneBegins (e ∷ es) = Plain e × NoneBegins es
 
-  follows-all : (l : List IntervalEntry) (es : List Event) (x : Course) (ys : List Event) → NoneBegins es → Follows l (after course-by x es) ys → Follows l x (es ++ ys)
+  follows-all : (l : List IntervalEntry) (es : List Event) (x : Course) (ys : List Event) → NoneBegins es → Follows l (after (course-by pr) x es) ys → Follows l x (es ++ ys)
   unfolding NoneBegins after
   follows-all l [] x ys n h = h
-  follows-all l (e ∷ es) x ys n h = follows-on l x e (es ++ ys) (n .0) (follows-all l es (course-by x e) ys (n .1) h)
+  follows-all l (e ∷ es) x ys n h = follows-on l x e (es ++ ys) (n .0) (follows-all l es (course-by pr x e) ys (n .1) h)
 
   -- all but the marked jobs
   record SameButSets (x y : Course) : Type 0 where
     interval : SameInterval x y
     chosen-same : y .chosen ≡ x .chosen
     fate-same : y .fate ≡ x .fate
+    decided-same : y .decided ≡ x .decided
 
   abbrev set-of : Bool → Course → ℕ
   set-of true x = x .own
@@ -422,7 +418,7 @@ module _ (pr : List ℕ) where
     takes = take-events 32 taken marks t
 
     abbrev taken-to : Course → Course
-    taken-to x = after course-by x (take-events 32 taken marks t)
+    taken-to x = after (course-by pr) x (take-events 32 taken marks t)
 
     none-begins : NoneBegins (take-events 32 taken marks t)
     unfolding NoneBegins
@@ -431,12 +427,12 @@ module _ (pr : List ℕ) where
     takes-same : (x : Course) → SameButSets x (taken-to x)
     unfolding after
     takes-same =
-        subst (λ (es : List Event). (x : Course) → SameButSets x (after course-by x es)) (append-nil takes)
-        (by-takes (λ es. (x : Course) → SameButSets x (after course-by x es)) 32 taken marks t
-        (λ n l m es h x. again x n (h (course-by x (Takes n t (member n marks))))) []
-        (λ x. record { interval = same-interval; chosen-same = refl; fate-same = refl }))
+        subst (λ (es : List Event). (x : Course) → SameButSets x (after (course-by pr) x es)) (append-nil takes)
+        (by-takes (λ es. (x : Course) → SameButSets x (after (course-by pr) x es)) 32 taken marks t
+        (λ n l m es h x. again x n (h (course-by pr x (Takes n t (member n marks))))) []
+        (λ x. record { interval = same-interval; chosen-same = refl; fate-same = refl; decided-same = refl }))
       where
-        again : (x : Course) (n : ℕ) {y : Course} → SameButSets (course-by x (Takes n t (member n marks))) y → SameButSets x y
+        again : (x : Course) (n : ℕ) {y : Course} → SameButSets (course-by pr x (Takes n t (member n marks))) y → SameButSets x y
         again x n i = record {
           interval = record {
             is-open = i .interval .is-open;
@@ -448,17 +444,18 @@ module _ (pr : List ℕ) where
           };
           chosen-same = i .chosen-same;
           fate-same = i .fate-same;
+          decided-same = i .decided-same;
         }
 
     -- the set that they do not belong to
     takes-other : (o : Bool) (x : Course) → x .is-open ≡ o → set-of (not o) (taken-to x) ≡ set-of (not o) x
     unfolding after
     takes-other o =
-        subst (λ (es : List Event). (x : Course) → x .is-open ≡ o → set-of (not o) (after course-by x es) ≡ set-of (not o) x) (append-nil takes)
-        (by-takes (λ es. (x : Course) → x .is-open ≡ o → set-of (not o) (after course-by x es) ≡ set-of (not o) x) 32 taken marks t
-        (λ n l m es h x e. h (course-by x (Takes n t (member n marks))) e ∙ one o x n (member n marks) e) [] (λ x e. refl))
+        subst (λ (es : List Event). (x : Course) → x .is-open ≡ o → set-of (not o) (after (course-by pr) x es) ≡ set-of (not o) x) (append-nil takes)
+        (by-takes (λ es. (x : Course) → x .is-open ≡ o → set-of (not o) (after (course-by pr) x es) ≡ set-of (not o) x) 32 taken marks t
+        (λ n l m es h x e. h (course-by pr x (Takes n t (member n marks))) e ∙ one o x n (member n marks) e) [] (λ x e. refl))
       where
-        one : (o : Bool) (x : Course) (n : ℕ) (m : Bool) → x .is-open ≡ o → set-of (not o) (course-by x (Takes n t m)) ≡ set-of (not o) x
+        one : (o : Bool) (x : Course) (n : ℕ) (m : Bool) → x .is-open ≡ o → set-of (not o) (course-by pr x (Takes n t m)) ≡ set-of (not o) x
         one true x n true e = rw e refl
         one true x n false e = refl
         one false x n true e = rw e refl
@@ -466,10 +463,10 @@ module _ (pr : List ℕ) where
 
     -- and the one that they do
     module _ (o : Bool) (k : ℕ) (small : k < 32) where
-      joins : (x : Course) (j : ℕ) (m : Bool) → x .is-open ≡ o → member k (set-of o (course-by x (Takes j t m))) ≡ ((m && eqb k j) || member k (set-of o x))
+      joins : (x : Course) (j : ℕ) (m : Bool) → x .is-open ≡ o → member k (set-of o (course-by pr x (Takes j t m))) ≡ ((m && eqb k j) || member k (set-of o x))
       joins = go o
         where
-          go : (o : Bool) (x : Course) (j : ℕ) (m : Bool) → x .is-open ≡ o → member k (set-of o (course-by x (Takes j t m))) ≡ ((m && eqb k j) || member k (set-of o x))
+          go : (o : Bool) (x : Course) (j : ℕ) (m : Bool) → x .is-open ≡ o → member k (set-of o (course-by pr x (Takes j t m))) ≡ ((m && eqb k j) || member k (set-of o x))
           go true x j true e = rw e (inserted j (x .own) k small)
           go true x j false e = refl
           go false x j true e = rw e (inserted j (x .next) k small)
@@ -478,11 +475,11 @@ module _ (pr : List ℕ) where
       takes-sets : (x : Course) → x .is-open ≡ o → member k (set-of o (taken-to x)) ≡ (member k (set-of o x) || (member k taken && member k marks))
       unfolding after take-events
       takes-sets x e =
-          subst (λ (es : List Event). member k (set-of o (after course-by x es)) ≡ z) (append-nil takes)
+          subst (λ (es : List Event). member k (set-of o (after (course-by pr) x es)) ≡ z) (append-nil takes)
           (at-task k taken (λ j. Takes j t (member j marks)) (λ j. take-events j taken marks t) refl (λ j. refl) P
-          (λ b j f es h x e i. h (course-by x (Takes j t (member j marks))) e (joins x j (member j marks) e ∙ rw f (others (member j marks) (member k (set-of o x))) ∙ i))
+          (λ b j f es h x e i. h (course-by pr x (Takes j t (member j marks))) e (joins x j (member j marks) e ∙ rw f (others (member j marks) (member k (set-of o x))) ∙ i))
           (member k (set-of o x)) (member k marks || member k (set-of o x))
-          (λ f es h x e i. h (course-by x (Takes k t (member k marks))) e (joins x k (member k marks) e ∙ rw (same-task k) (this (member k marks) (member k (set-of o x)) ∙ ap (λ (b : Bool). member k marks || b) i)))
+          (λ f es h x e i. h (course-by pr x (Takes k t (member k marks))) e (joins x k (member k marks) e ∙ rw (same-task k) (this (member k marks) (member k (set-of o x)) ∙ ap (λ (b : Bool). member k marks || b) i)))
           32 small [] (λ x e i. i) x e refl)
           ∙ last (member k taken) (member k marks) (member k (set-of o x))
         where
@@ -490,7 +487,7 @@ module _ (pr : List ℕ) where
           z = cond (member k taken) (member k marks || member k (set-of o x)) (member k (set-of o x))
 
           P : Bool → List Event → Type 0
-          P b es = (y : Course) → y .is-open ≡ o → member k (set-of o y) ≡ b → member k (set-of o (after course-by y es)) ≡ z
+          P b es = (y : Course) → y .is-open ≡ o → member k (set-of o y) ≡ b → member k (set-of o (after (course-by pr) y es)) ≡ z
 
           others : (m b : Bool) → ((m && false) || b) ≡ b
           others true b = refl
@@ -508,32 +505,90 @@ module _ (pr : List ℕ) where
           last false m true = refl
           last false m false = refl
 
+  -- the origins of a course are those that a walk for each task finds
+  origins-after : (es : List Event) (x : Course) (k : ℕ) → after (course-by pr) x es .origins k ≡ after (origin-by k) (x .origins k) es
+  unfolding after
+  origins-after [] x k = refl
+  origins-after (e ∷ es) x k = origins-after es (course-by pr x e) k
+
+  -- releases that wait change nothing but these
+  abbrev with-origins : Course → (ℕ → Origin) → Course
+  with-origins x o =
+      record {
+        is-open = x .is-open;
+        half = x .half;
+        begin = x .begin;
+        task = x .task;
+        work = x .work;
+        copiedout = x .copiedout;
+        chosen = x .chosen;
+        fate = x .fate;
+        own = x .own;
+        next = x .next;
+        origins = o;
+        decided = x .decided;
+      }
+
+  with-others : (s ready : ℕ) (x : Course) (o : ℕ → Origin) (p : Phase) → AgreesAt s x ready p → AgreesAt s (with-origins x o) ready p
+  with-others s ready x o (Between next outgoing) h = record { is-shut = h .is-shut; executes = h .executes; works = h .works; next-is = h .next-is; able = h .able }
+  with-others s ready x o (Within i) h = record {
+    is-open = h .is-open;
+    begin-is = h .begin-is;
+    task-is = h .task-is;
+    work-is = h .work-is;
+    out-is = h .out-is;
+    shown = h .shown;
+    own-is = h .own-is;
+    none-next = h .none-next;
+    able = h .able;
+  }
+
+  module _ (deferred t : ℕ) where
+    none-begins-deferred : NoneBegins (defer-events 32 deferred t)
+    unfolding NoneBegins
+    none-begins-deferred = subst NoneBegins (append-nil (defer-events 32 deferred t))
+        (by-defers NoneBegins 32 deferred t (λ n l m es h. (record { begins-not = refl; ends-not = refl; finishes-not = refl; gives-not = refl }, h)) [] tt)
+
+    deferred-same : (x : Course) → after (course-by pr) x (defer-events 32 deferred t) ≡ with-origins x (after (course-by pr) x (defer-events 32 deferred t) .origins)
+    unfolding after
+    deferred-same =
+        subst (λ (es : List Event). (x : Course) → after (course-by pr) x es ≡ with-origins x (after (course-by pr) x es .origins)) (append-nil (defer-events 32 deferred t))
+        (by-defers (λ es. (x : Course) → after (course-by pr) x es ≡ with-origins x (after (course-by pr) x es .origins)) 32 deferred t
+        (λ n l m es h x. h (course-by pr x (Defers n t))) [] (λ x. refl))
+
   c-follows : (l : List IntervalEntry) (d : State) (t taken deferred : ℕ) (ys : List Event)
       → ((x : Course) → Agrees (intersection (held-over (d .phase) taken) (d .marked)) x (step-c d t taken deferred) (step-c d t taken deferred .phase) → Follows l x ys)
-      → (x : Course) → Agrees 0 x d (d .phase) → Follows l x (take-events 32 taken (d .marked) t ++ ys)
+      → (x : Course) → Agrees 0 x d (d .phase) → Follows l x (take-events 32 taken (d .marked) t ++ (defer-events 32 deferred t ++ ys))
   c-follows l d t taken deferred ys k x a =
-      follows-all l (take-events 32 taken (d .marked) t) x ys (none-begins taken (d .marked) t)
-      (k y (unfold step-c in record { table-is = a .table-is; half-is = same .interval .half-same ∙ a .half-is; phase = go (d .phase) (a .phase) }))
+      follows-all l (take-events 32 taken (d .marked) t) x (defer-events 32 deferred t ++ ys) (none-begins taken (d .marked) t)
+      (follows-all l (defer-events 32 deferred t) y ys (none-begins-deferred deferred t)
+      (k z (subst (λ (w : Course). Agrees (intersection (held-over (d .phase) taken) (d .marked)) w (step-c d t taken deferred) (step-c d t taken deferred .phase)) (sym (deferred-same deferred t y)) agrees)))
     where
       y : Course
       y = taken-to taken (d .marked) t x
 
+      z : Course
+      z = after (course-by pr) (taken-to taken (d .marked) t x) (defer-events 32 deferred t)
+
       same : SameButSets x (taken-to taken (d .marked) t x)
       same = takes-same taken (d .marked) t x
+
+      origin-is : (j : ℕ) (m : j < 32) → z .origins j ≡ deferred-origin j m deferred t (taken-origin j m taken t (x .origins j))
+      origin-is j m =
+          origins-after (defer-events 32 deferred t) (taken-to taken (d .marked) t x) j
+          ∙ defers-origin j m deferred t (taken-to taken (d .marked) t x .origins j)
+          ∙ ap (deferred-origin j m deferred t) (origins-after (take-events 32 taken (d .marked) t) x j ∙ takes-origin j m taken (d .marked) t (x .origins j))
 
       go : (p : Phase) → AgreesAt 0 x (d .jobs .ready) p
           → AgreesAt (intersection (held-over p taken) (d .marked)) (taken-to taken (d .marked) t x) (union (d .jobs .ready) taken) (with-candidates d taken p)
       go (Between next outgoing) h = unfold with-candidates in record {
         is-shut = same .interval .is-open ∙ h .is-shut;
-        executes = h .executes ∙ executes-same (sym (same .chosen-same)) (sym (same .fate-same)) (sym (takes-other taken (d .marked) t false x (h .is-shut)));
+        executes = h .executes ∙ sym (same .decided-same);
         works = h .works ∙ ap (λ (f : ℕ). work-by f (next-task next)) (sym (same .fate-same));
         next-is = λ j m.
             takes-sets taken (d .marked) t false j m x (h .is-shut) ∙ ap (λ (b : Bool). b || (member j taken && member j (d .marked))) (h .next-is j m ∙ none j) ∙ sym (intersection-member taken (d .marked) j m);
         able = λ j m z. union-right (d .jobs .ready) taken j m (intersection-left taken (d .marked) j z);
       }
-        where
-          executes-same : {c c′ : MaybeTask} {f f′ s s′ : ℕ} → c ≡ c′ → f ≡ f′ → s ≡ s′ → cond (eqb f 1) c (highest pr s) ≡ cond (eqb f′ 1) c′ (highest pr s′)
-          executes-same e1 e2 e3 = rw (e1, e2, e3) refl
       go (Within i) h = unfold with-candidates in record {
         is-open = same .interval .is-open ∙ h .is-open;
         begin-is = same .interval .begin-same ∙ h .begin-is;
@@ -558,6 +613,16 @@ module _ (pr : List ℕ) where
           more true n c u e l = rw e (omega arith)
           more false n c u e l = omega arith
 
+      agrees : Agrees (intersection (held-over (d .phase) taken) (d .marked)) (with-origins (taken-to taken (d .marked) t x) (z .origins)) (step-c d t taken deferred) (step-c d t taken deferred .phase)
+      agrees = unfold step-c in record {
+        table-is = a .table-is;
+        half-is = same .interval .half-same ∙ a .half-is;
+        origins-are = λ j m.
+            subst (λ (o : Origin). OriginIs j o (step-c d t taken deferred .jobs .release) (step-c d t taken deferred .waiting)) (sym (origin-is j m))
+            (c-origin j m d t taken deferred (x .origins j) (a .origins-are j m));
+        phase = with-others (intersection (held-over (d .phase) taken) (d .marked)) (union (d .jobs .ready) taken) (taken-to taken (d .marked) t x) (z .origins) (with-candidates d taken (d .phase)) (go (d .phase) (a .phase));
+      }
+
   -- ---- d, e
 
   gives-same : (p : Phase) → giving-events-in p p ≡ []
@@ -579,13 +644,13 @@ module _ (pr : List ℕ) where
   abbrev Gave : ℕ → Course → Phase → State → Type 0
   Gave s x p y =
       ((giving-events-in p (y .phase) ≡ []) × Agrees s x y (y .phase))
-      ⊎ ((n : ℕ) × (giving-events-in p (y .phase) ≡ GivesWay n ∷ []) × Agrees s (course-by x (GivesWay n)) y (y .phase)
+      ⊎ ((n : ℕ) × (giving-events-in p (y .phase) ≡ GivesWay n ∷ []) × Agrees s (course-by pr x (GivesWay n)) y (y .phase)
       × (x .is-open ≡ true) × ((x .fate ≡ 0) ⊎ ((x .fate ≡ 1) × (x .chosen ≡ Task n))))
 
   gives-on : (l : List IntervalEntry) (s : ℕ) (x : Course) (p : Phase) (y : State) (ys : List Event) → Gave s x p y
       → ((z : Course) → Agrees s z y (y .phase) → Follows l z ys) → Follows l x (giving-events-in p (y .phase) ++ ys)
   gives-on l s x p y ys g k =
-      ⊎-elim (λ h. rw (h .0) (k x (h .1))) (λ h. rw (h .1) (follows-gives l x (h .0) ys (h .3) (h .4) (k (course-by x (GivesWay (h .0))) (h .2)))) g
+      ⊎-elim (λ h. rw (h .0) (k x (h .1))) (λ h. rw (h .1) (follows-gives l x (h .0) ys (h .3) (h .4) (k (course-by pr x (GivesWay (h .0))) (h .2)))) g
 
   -- an interval with another copy-in, where what the course shows of it and who is able are said anew
   with-other-copy : {x y : Course} {ready ready′ : ℕ} (i : Interval) (c : CopyIn) → SameButCopy x y → InCourse x ready i → Shown (y .chosen) (y .fate) c
@@ -611,6 +676,7 @@ module _ (pr : List ℕ) where
     record {
       table-is = a .table-is;
       half-is = a .half-is;
+      origins-are = a .origins-are;
       phase = with-other-copy i (Cancelled n fate) gives-same-but (a .phase)
           (refl, fate-is, ⊎-elim (λ z. ap (λ (f : ℕ). eqb f 1) (z .2)) (λ z. ap (λ (f : ℕ). eqb f 1) (z .1)) h) able;
     },
@@ -618,8 +684,8 @@ module _ (pr : List ℕ) where
     under-way,
   )
     where
-      gives-same-but : SameButCopy x (course-by x (GivesWay n))
-      gives-same-but = record { interval = record { is-open = refl; begin-same = refl; half-same = refl; task-same = refl; work-same = refl; out-same = refl }; own-same = refl; next-same = refl }
+      gives-same-but : SameButCopy x (course-by pr x (GivesWay n))
+      gives-same-but = record { interval = record { is-open = refl; begin-same = refl; half-same = refl; task-same = refl; work-same = refl; out-same = refl }; own-same = refl; next-same = refl; origins-same = refl }
 
       gives : giving-events (given-way (i .copyin)) (Task n) ≡ GivesWay n ∷ []
       gives = unfold giving-events in ⊎-elim (λ z. ap (λ (c : CopyIn). giving-events (given-way c) (Task n)) (z .1)) (λ z. ap (λ (c : CopyIn). giving-events (given-way c) (Task n)) (z .0)) h
@@ -663,11 +729,13 @@ module _ (pr : List ℕ) where
   chose s d t i NoTask e x a = record {
     table-is = a .table-is;
     half-is = a .half-is;
+    origins-are = a .origins-are;
     phase = with-other-copy i NoneChosen (unchanged x) (a .phase) (subst (Shown (x .chosen) (x .fate)) e (a .phase .shown)) (λ k l m. omega (arith, m, ap (copyin-bit k) e));
   }
   chose s d t i (Task q) e x a = record {
     table-is = a .table-is;
     half-is = a .half-is;
+    origins-are = a .origins-are;
     phase = with-other-copy i _ (unchanged x) (a .phase) (subst (Shown (x .chosen) (x .fate)) e (a .phase .shown))
         (λ k l m. rw (removed q (d .jobs .ready) k l) (go (eqb k q) (member k (d .jobs .ready)) (omega (arith, m, ap (copyin-bit k) e))));
   }
@@ -699,7 +767,7 @@ module _ (pr : List ℕ) where
       let e : Chooses s y (step-e y t (y .phase)) = e-chooses s y t in
       ⊎-elim
       (λ h. inl (sym (gives-c (step-e y t (y .phase) .phase)) ∙ e .gives (c .phase) ∙ h .0, e .agrees x (h .1)))
-      (λ h. inr (h .0, sym (gives-c (step-e y t (y .phase) .phase)) ∙ e .gives (c .phase) ∙ h .1, e .agrees (course-by x (GivesWay (h .0))) (h .2), h .3, h .4))
+      (λ h. inr (h .0, sym (gives-c (step-e y t (y .phase) .phase)) ∙ e .gives (c .phase) ∙ h .1, e .agrees (course-by pr x (GivesWay (h .0))) (h .2), h .3, h .4))
       (d-gave s x c taken a)
     where
       gives-c : (q : Phase) → giving-events-in (step-c d t taken deferred .phase) q ≡ giving-events-in (d .phase) q
@@ -708,8 +776,8 @@ module _ (pr : List ℕ) where
   -- ---- g
 
   opens-follows : (l : List IntervalEntry) (table : Table) (t : ℕ) (next : Next) (outgoing : Outgoing) (q : Phase) (x : Course) (ys : List Event)
-      → Both (table .columns) t (begin-processor table t next) (begin-copyout table t outgoing) q → x .is-open ≡ false → next-task next ≡ executes-next pr x
-      → Follows l (course-by x (Begins t (processor-task (begin-processor table t next)) (copyout-task (begin-copyout table t outgoing)))) ys
+      → Both (table .columns) t (begin-processor table t next) (begin-copyout table t outgoing) q → x .is-open ≡ false → next-task next ≡ x .decided
+      → Follows l (course-by pr x (Begins t (processor-task (begin-processor table t next)) (copyout-task (begin-copyout table t outgoing)))) ys
       → Follows l x (begin-events t (Between next outgoing) q ++ (start-events t (Between next outgoing) q ++ ys))
   opens-follows l table t next outgoing (Between y z) x ys b o e h = absurd b
   opens-follows l table t next outgoing (Within j) x ys b o e h =
@@ -717,11 +785,11 @@ module _ (pr : List ℕ) where
       follows-begins l x t (processor-task (j .processor)) (copyout-task (j .copyout)) (start-events t (Between next outgoing) (Within j) ++ ys) o
       (ap processor-task (b .0) ∙ runs table t next ∙ e)
       (by-starts (Follows l y) t (λ k es z. follows-on l y (Starts k t) es (record { begins-not = refl; ends-not = refl; finishes-not = refl; gives-not = refl }) z) (Between next outgoing) (Within j) ys
-      (subst (λ (o : MaybeTask). Follows l (course-by x (Begins t (processor-task (j .processor)) o)) ys) (ap copyout-task (sym (b .1)))
-      (subst (λ (r : MaybeTask). Follows l (course-by x (Begins t r (copyout-task (begin-copyout table t outgoing)))) ys) (ap processor-task (sym (b .0))) h)))
+      (subst (λ (o : MaybeTask). Follows l (course-by pr x (Begins t (processor-task (j .processor)) o)) ys) (ap copyout-task (sym (b .1)))
+      (subst (λ (r : MaybeTask). Follows l (course-by pr x (Begins t r (copyout-task (begin-copyout table t outgoing)))) ys) (ap processor-task (sym (b .0))) h)))
     where
       y : Course
-      y = course-by x (Begins t (processor-task (j .processor)) (copyout-task (j .copyout)))
+      y = course-by pr x (Begins t (processor-task (j .processor)) (copyout-task (j .copyout)))
 
   shut-follows : (l : List IntervalEntry) (t : ℕ) (x : Course) (next : Next) (outgoing : Outgoing) (q : Phase) (ys : List Event) → q ≡ Between next outgoing → Follows l x ys
       → Follows l x (begin-events t (Between next outgoing) q ++ (start-events t (Between next outgoing) q ++ ys))
@@ -734,19 +802,20 @@ module _ (pr : List ℕ) where
       → (x : Course) → Agrees s x f p → Follows l x (begin-events t p (step-g f t taken p .phase) ++ (start-events t p (step-g f t taken p .phase) ++ ys))
   unfolding step-g begin-events start-events
   g-follows l s f t taken (Within i) ys e m k x a =
-      k x (subst (Agrees 0 x f) (sym e) (record { table-is = a .table-is; half-is = a .half-is; phase = a .phase }))
+      k x (subst (Agrees 0 x f) (sym e) (record { table-is = a .table-is; half-is = a .half-is; origins-are = a .origins-are; phase = a .phase }))
   g-follows l s f t taken (Between next outgoing) ys e m k x a = go (wanted next outgoing (f .jobs .ready)) refl k
     where
       b : State
       b = begin f t taken next outgoing
 
       y : Course
-      y = course-by x (Begins t (processor-task (begin-processor (f .table) t next)) (copyout-task (begin-copyout (f .table) t outgoing)))
+      y = course-by pr x (Begins t (processor-task (begin-processor (f .table) t next)) (copyout-task (begin-copyout (f .table) t outgoing)))
 
-      begun : Agrees 0 (course-by x (Begins t (processor-task (begin-processor (f .table) t next)) (copyout-task (begin-copyout (f .table) t outgoing)))) (begin f t taken next outgoing) (begin f t taken next outgoing .phase)
+      begun : Agrees 0 (course-by pr x (Begins t (processor-task (begin-processor (f .table) t next)) (copyout-task (begin-copyout (f .table) t outgoing)))) (begin f t taken next outgoing) (begin f t taken next outgoing .phase)
       begun = unfold begin in record {
         table-is = a .table-is;
         half-is = ap (λ (h : ℕ). 1 - h) (a .half-is);
+        origins-are = a .origins-are;
         phase = record {
           is-open = refl;
           begin-is = refl;
@@ -772,6 +841,7 @@ module _ (pr : List ℕ) where
           (k x (subst (Agrees 0 x f) (sym e) (record {
             table-is = a .table-is;
             half-is = a .half-is;
+            origins-are = a .origins-are;
             phase = record {
               is-shut = a .phase .is-shut;
               executes = a .phase .executes;
@@ -822,11 +892,9 @@ module _ (pr : List ℕ) where
     tail-follows x a =
         let m : List IntervalEntry = closed-of (at-f d t set .closed) ++ l in
         subst (λ (z : ℕ). Follows m x (take-events 32 (taken-at d t set) z t ++ (tail-of d t set ++ ys))) (marked-b d t)
-        (c-follows m B t (taken-at d t set) (deferred-at d t set) (tail-of d t set ++ ys)
-        (λ y h. rw (tail-parts d t set ys)
-        (by-defers (Follows m y) 32 (deferred-at d t set) t (λ n i j es z. follows-on m y (Defers n t) es (record { begins-not = refl; ends-not = refl; finishes-not = refl; gives-not = refl }) z) _
-        (gives-on m since y (B .phase) (at-e d t set) _ (e-gave since y B t (taken-at d t set) (deferred-at d t set) h) rest-follows)))
-        x a)
+        (rw (tail-parts d t set ys)
+        (c-follows m B t (taken-at d t set) (deferred-at d t set) _
+        (λ y h. gives-on m since y (B .phase) (at-e d t set) _ (e-gave since y B t (taken-at d t set) (deferred-at d t set) h) rest-follows) x a))
 
     instant-follows : (x : Course) → Agrees 0 x d (d .phase) → Follows (closed-in (occurred d t set .closed) ++ l) x (happens d t set ++ ys)
     instant-follows x a =
@@ -835,7 +903,7 @@ module _ (pr : List ℕ) where
         (follows-on all x (Comes t) whole (record { begins-not = refl; ends-not = refl; finishes-not = refl; gives-not = refl })
         (by-processor-at (Follows all x) t (λ n es z. follows-on all x (Starts n t) es (record { begins-not = refl; ends-not = refl; finishes-not = refl; gives-not = refl }) z)
         (λ n es z. follows-on all x (Stops n t) es (record { begins-not = refl; ends-not = refl; finishes-not = refl; gives-not = refl }) z) (d .phase) _
-        (front x (record { table-is = a .table-is; half-is = a .half-is; phase = a .phase })))))
+        (front x (record { table-is = a .table-is; half-is = a .half-is; origins-are = a .origins-are; phase = a .phase })))))
       where
         later : List Event
         later = take-events 32 (taken-at d t set) (d .marked) t ++ (tail-of d t set ++ ys)
@@ -869,11 +937,7 @@ module _ (table : Table) (marks : ℕ) where
       walk-told (λ d os h. (x : Course) → Agrees pr 0 x d (d .phase) → Follows pr (closed os) x h)
       (λ d x a. record { executing = unfold Executing-so in tt; says = unfold ended closed in refl })
       (λ d t set cs e k x a. unfold closed in instant-follows pr (closed (all-occurred (at-g d t set) cs)) d t set (history (at-g d t set) cs) k x a)
-      (λ d m os h k x a. k x (record { table-is = a .table-is; half-is = a .half-is; phase = a .phase }))
-
-  none-highest : (q : MaybeTask) → Best (table .priority) 0 q → NoTask ≡ q
-  none-highest NoTask b = refl
-  none-highest (Task q) b = clash (member q 0) (b .1) (none q)
+      (λ d m os h k x a. k x (record { table-is = a .table-is; half-is = a .half-is; origins-are = a .origins-are; phase = a .phase }))
 
   -- every list of calls from the state that opening returned
   pub courses : (calls : List Call) → Follows (table .priority) (closed (all-occurred (opened table marks) calls)) no-course (history (opened table marks) calls)
@@ -882,9 +946,10 @@ module _ (table : Table) (marks : ℕ) where
       (unfold opened in record {
         table-is = refl;
         half-is = refl;
+        origins-are = λ k l. unfold opened in opened-origin table marks k l;
         phase = record {
           is-shut = refl;
-          executes = none-highest (highest pr 0) (best pr 0);
+          executes = refl;
           works = refl;
           next-is = λ j l. refl;
           able = λ j l c. clash (member j 0) c (none j);

@@ -1,23 +1,19 @@
 -- Demand 3: the claim holds of every list of calls.
-use Rattle.guarantees.specs.Types.{_≡_, refl, sym, ap, _∙_, subst, Bool, true, false, List, _∷_, _++_, append-assoc, inl, inr, ℕ, zero, suc, _≤_, _<_, Table, MaybeTask, NoTask, Task, State, Never, Call}
+use Rattle.guarantees.specs.Types.{_≡_, refl, sym, ap, _∙_, subst, Bool, true, false, List, _∷_, _++_, append-assoc, ℕ, _<_, Table, MaybeTask, NoTask, Task, State, Never, Call}
 use native.Mathlib.Omega.{arith}
-use native.Mathlib.Nat.{le-of-suc-le-suc}
-use borrow.Author.Tests.{ltb-true, ltb-false}
-use lib.Dec.{ltb}
-use lib.ListN.{getD, length}
+use lib.ListN.{getD}
 use Rattle.sets.specs.Sets.{member, size}
-use Rattle.sets.proofs.Laws.{by-test, none, same-task, member-task, size-none}
+use Rattle.sets.proofs.Laws.{none, same-task, member-task, size-none}
 use Rattle.rules.specs.Instant.{due}
 use Rattle.rules.specs.Calls.{opened, opening}
 use Rattle.guarantees.specs.History.{Event, Completes, Takes, Defers, history, after-calls, EmptySets}
-use Rattle.guarantees.specs.Queries.{Situation, NoneOpen, Open, situation, intervals, total, is-take, taking, met}
+use Rattle.guarantees.specs.Queries.{Situation, NoneOpen, situation, intervals, total, is-take, taking, met}
 use Rattle.guarantees.specs.Pending.{OneAtATime}
 use Rattle.guarantees.specs.Intervals.{no-course}
 use Rattle.guarantees.specs.Entries.{all-occurred, closed}
-use Rattle.guarantees.specs.Claim.{Lower, ThisOrHigher, InOrder, Holds, TakenLater, AllCompleted, Claim, Demand3}
+use Rattle.guarantees.specs.Claim.{Lower, NotLower, InOrder, Holds, TakenLater, AllCompleted, Claim, Demand3}
 use Rattle.guarantees.proofs.Proper.{Fair, Opens, opens}
 use Rattle.guarantees.proofs.Walk.{after-append, history-append}
-use Rattle.guarantees.proofs.Waiting.{NotLower}
 use Rattle.guarantees.proofs.Order.{Waits, Kept, kept, released-in}
 use Rattle.guarantees.proofs.Totals.{total-append}
 use Rattle.guarantees.proofs.Count.{at-most-three}
@@ -29,7 +25,7 @@ use Rattle.guarantees.proofs.Executions.{executed}
 use Rattle.guarantees.proofs.Told.{tells}
 use Rattle.guarantees.proofs.Closings.{all-done}
 use Rattle.guarantees.proofs.Courses.{proceeds, Follows, courses}
-use Rattle.guarantees.proofs.Known.{KnownTask, AllKnown, release-known, begins-known, completes-known, interval-known, all-known}
+use Rattle.guarantees.proofs.Known.{AllKnown, begins-known, completes-known, all-known}
 use Rattle.guarantees.proofs.Serving.{all-served-jobs}
 use Rattle.guarantees.proofs.Deferred.{taken-small, deferred-small, taken-later}
 use Rattle.guarantees.proofs.Marks.{taken-marked}
@@ -37,37 +33,22 @@ use Rattle.guarantees.proofs.Fates.{balanced as releases-balanced, plac
 use Rattle.guarantees.proofs.Turns.{one-at-a-time, in-time, resumed-in}
 use Rattle.guarantees.proofs.Turning.{turns}
 use Rattle.guarantees.proofs.Counts.{counts-rise}
+use Rattle.guarantees.proofs.Chosen.{first-come}
 use Rattle.guarantees.proofs.Arithmetic.{plain}
 use Rattle.guarantees.proofs.Completion.{AtRest, rests, drains, Drained, drained, balanced}
 
 module _ (table : Table) (marks : ℕ) (fair : Fair table marks) where
   -- ---- the order
 
-  -- all priorities are different, so that a job that is not lower is this one or higher
-  this-or-higher : (n : ℕ) (r : MaybeTask) → member n (table .present) ≡ true → KnownTask (table .present) r → NotLower (table .priority) n r
-      → ThisOrHigher (table .priority) n r
-  this-or-higher n NoTask h k l = l
-  this-or-higher n (Task j) h k l =
-      by-test (ltb (getD (table .priority) j 0) (getD (table .priority) n 0))
-      (λ e. inr (ltb-true (getD (table .priority) j 0) (getD (table .priority) n 0) e))
-      (λ e. inl (fair .different j n k h (omega (arith, ltb-false (getD (table .priority) j 0) (getD (table .priority) n 0) e))))
-
   not-lower : (n : ℕ) (r : MaybeTask) → NotLower (table .priority) n r → Lower (table .priority) n r → ⊥
   not-lower n NoTask h l = l
   not-lower n (Task k) h l = omega arith
 
-  -- the intervals from the third on have all begun after the release
-  third-known : (n : ℕ) (at : Situation) (es : List Event) → AllKnown (table .present) es → (i : ℕ) → 2 ≤ i → i < length (met n at (intervals es))
-      → KnownTask (table .present) (getD (met n at (intervals es)) i NoTask)
-  third-known n NoneOpen es h i a l = interval-known (table .present) n es h i l
-  third-known n (Open r) es h zero a l = absurd (omega arith)
-  third-known n (Open r) es h (suc i) a l = interval-known (table .present) n es h i (le-of-suc-le-suc l)
-
-  in-order : (n : ℕ) (m : Bool) (at : Situation) (es : List Event) → member n (table .present) ≡ true → AllKnown (table .present) es
+  in-order : (n : ℕ) (m : Bool) (at : Situation) (es : List Event)
       → Waits (table .priority) n m at (intervals es) → InOrder (table .priority) n m (met n at (intervals es))
-  in-order n m at es h k w = record {
+  in-order n m at es w = record {
     lower-in-two = λ i a l. not-lower n (getD (met n at (intervals es)) i NoTask) (w .third i a l);
-    third-on = λ i a l. this-or-higher n (getD (met n at (intervals es)) i NoTask) h (third-known n at es k i a l) (w .third i a l);
+    third-on = w .third;
     marked-in-one = λ e i a l. not-lower n (getD (met n at (intervals es)) i NoTask) (w .later e i a l);
   }
 
@@ -79,8 +60,7 @@ module _ (table : Table) (marks : ℕ) (fair : Fair table marks) where
   holds : (calls : List Call) → Holds table (history (opened table marks) calls)
   holds calls = record {
     each-job = λ before after n t m e.
-        let k : (member n (table .present) ≡ true) × AllKnown (table .present) after = release-known (table .present) before after n t m (subst (AllKnown (table .present)) e known) in
-        in-order n m (situation NoneOpen before) after (k .0) (k .1) (released-in (table .priority) h before after n t m in-turn e .0);
+        in-order n m (situation NoneOpen before) after (released-in (table .priority) h before after n t m in-turn e .0);
     each-taking = λ before after n t m e. released-in (table .priority) h before after n t m in-turn e .1;
     each-execution = λ before after n t l e. execution-in (table .columns) n h before after t l (executed table marks fair calls) e;
     each-interval = proceeds (table .priority) h (follows calls .executing);
@@ -186,6 +166,7 @@ module _ (table : Table) (marks : ℕ) (fair : Fair table marks) where
         );
     counts = counts-rise table marks fair calls;
     plain = plain table marks fair calls;
+    first-come = λ before after t set c e. first-come table marks before t set e;
   }
     where
       d : State

@@ -1,6 +1,6 @@
 -- The steps leave the table and the marks, and the clock at the instant's time; steps a and c alone change what is pending, and step c alone what
--- waits.
-use Rattle.guarantees.specs.Types.{_≡_, refl, ap, _∙_, ℕ, Table, WaitingReleases, Clock, At, MaybeTask, NoTask, Task, Interval, Phase, Between, Within, State, Stage}
+-- waits and the release times.
+use Rattle.guarantees.specs.Types.{_≡_, refl, ap, _∙_, List, ℕ, Table, WaitingReleases, Clock, At, MaybeTask, NoTask, Task, Interval, Phase, Between, Within, State, Stage}
 use Rattle.sets.specs.Sets.{union}
 use Rattle.rules.specs.Instant.{step-a, step-b, step-c, step-d, step-e, step-g, without-done, after-done, close, cancel, choose, begin, at-a, at-b, at-e, at-f, at-g, taken-at, deferred-at, fresh-stage}
 use Rattle.rules.specs.With.{at-clock}
@@ -13,17 +13,19 @@ pub record Frame : Type 0 where
   pub clock : Clock
   pub pending : ℕ
   pub waiting : WaitingReleases
+  pub release : List ℕ
 
 abbrev pub frame : State → Frame
-frame d = record { table = d .table; marked = d .marked; clock = d .clock; pending = d .jobs .pending; waiting = d .waiting }
+frame d = record { table = d .table; marked = d .marked; clock = d .clock; pending = d .jobs .pending; waiting = d .waiting; release = d .jobs .release }
 
 -- with other pending jobs
 abbrev frame-with : State → ℕ → Frame
-frame-with d s = record { table = d .table; marked = d .marked; clock = d .clock; pending = s; waiting = d .waiting }
+frame-with d s = record { table = d .table; marked = d .marked; clock = d .clock; pending = s; waiting = d .waiting; release = d .jobs .release }
 
 -- ---- each step
 
 a-frame : (d : State) (t : ℕ) → frame (step-a d t (d .phase) .state) ≡ frame-with d (step-a d t (d .phase) .state .jobs .pending)
+unfolding without-done
 a-frame d t = a-cases (λ x. frame x ≡ frame-with d (x .jobs .pending)) d t (λ next outgoing e. refl) (λ i e. refl)
 
 pub b-frame : (s : Stage) (t : ℕ) → frame (step-b s t (s .state .phase) .state) ≡ frame (s .state)
@@ -75,6 +77,9 @@ pending-b d t = ap (λ (x : Frame). x .pending) (frame-b d t) ∙ a-pending (at-
 pub waiting-b : (d : State) (t : ℕ) → at-b d t .state .waiting ≡ d .waiting
 waiting-b d t = ap (λ (x : Frame). x .waiting) (frame-b d t)
 
+pub release-b : (d : State) (t : ℕ) → at-b d t .state .jobs .release ≡ d .jobs .release
+release-b d t = ap (λ (x : Frame). x .release) (frame-b d t)
+
 -- ---- step c, and from it on
 
 -- the state that it leaves
@@ -104,7 +109,7 @@ frame-e d t set =
     let c : State = at-c d t set in
     e-frame (step-d c taken (c .phase)) t ∙ d-frame c taken
 
-frame-g : (d : State) (t set : ℕ) → frame (at-g d t set) ≡ frame (at-c d t set)
+pub frame-g : (d : State) (t set : ℕ) → frame (at-g d t set) ≡ frame (at-c d t set)
 unfolding at-g at-f
 frame-g d t set =
     g-frame (at-f d t set .state) t (held-at d t set)
@@ -134,3 +139,6 @@ module _ (d : State) (t set : ℕ) where
   -- what waits after an instant waits since its step c
   pub waiting-g : at-g d t set .waiting ≡ at-c d t set .waiting
   waiting-g = ap (λ (x : Frame). x .waiting) (frame-g d t set)
+
+  pub release-g : at-g d t set .jobs .release ≡ at-c d t set .jobs .release
+  release-g = ap (λ (x : Frame). x .release) (frame-g d t set)

@@ -1,14 +1,11 @@
 -- Every task that is taken, executed, copied out or completed in a history is one of the table's.
-use Rattle.guarantees.specs.Types.{_≡_, ap, _∙_, ⊎-elim, Bool, true, false, cond, List, [], _∷_, _++_, sym, subst, ℕ, zero, suc, _<_, Table, WaitingReleases, MaybeTask, NoTask, Task, Processor, Idle, CopyingIn, Executing, Finished, CopyOut, NoCopyOut, CopyingOut, CopiedOut, Phase, Between, Within, State, Call}
-use native.Mathlib.Nat.{not-suc-le-zero, le-of-suc-le-suc}
+use Rattle.guarantees.specs.Types.{_≡_, ap, _∙_, ⊎-elim, true, List, [], _∷_, _++_, sym, subst, ℕ, Table, WaitingReleases, MaybeTask, NoTask, Task, Processor, Idle, CopyingIn, Executing, Finished, CopyOut, NoCopyOut, CopyingOut, CopiedOut, Phase, Between, Within, State, Call}
 use lib.Dec.{eqb}
-use lib.ListN.{getD, length}
 use Rattle.sets.specs.Sets.{member}
 use Rattle.sets.proofs.Laws.{by-test}
 use Rattle.rules.specs.Instant.{step-a, completed, at-a, at-b, at-e, at-f, at-g, taken-at, deferred-at, processor-task, copyout-task}
 use Rattle.rules.specs.With.{at-clock}
 use Rattle.guarantees.specs.History.{Event, Starts, Stops, Comes, Finishes, Completes, Ends, Takes, Defers, GivesWay, Begins, history, happens, finish-events-in, completion-events, end-events, take-events, giving-events-in, begin-events, start-events}
-use Rattle.guarantees.specs.Queries.{is-task, intervals, each, upto}
 use Rattle.guarantees.proofs.Proper.{Fair}
 use Rattle.guarantees.proofs.Walk.{walk}
 use Rattle.guarantees.proofs.Events.{by-processor, by-finishes, by-gives, by-ends, by-takes, by-defers, by-starts, tail-of, happens-parts, front-parts, tail-parts}
@@ -42,11 +39,6 @@ module _ (present : ℕ) where
 
   -- ---- what a history with known tasks says of a release
 
-  pub release-known : (before after : List Event) (n t : ℕ) (m : Bool) → AllKnown (before ++ (Takes n t m ∷ after)) → (member n present ≡ true) × AllKnown after
-  unfolding AllKnown
-  release-known [] after n t m h = h
-  release-known (e ∷ es) after n t m h = release-known es after n t m (h .1)
-
   pub begins-known : (before after : List Event) (t : ℕ) (r l : MaybeTask) → AllKnown (before ++ (Begins t r l ∷ after)) → KnownTask r × KnownTask l
   unfolding AllKnown
   begins-known [] after t r l h = h .0
@@ -56,26 +48,6 @@ module _ (present : ℕ) where
   unfolding AllKnown
   completes-known [] after n t h = h .0
   completes-known (e ∷ es) after n t h = completes-known es after n t (h .1)
-
-  pub interval-known : (n : ℕ) (es : List Event) → AllKnown es → (i : ℕ) → i < length (upto n (intervals es)) → KnownTask (getD (upto n (intervals es)) i NoTask)
-  unfolding AllKnown each upto
-  interval-known n [] h i l = absurd (not-suc-le-zero l)
-  interval-known n (Comes t ∷ es) h i l = interval-known n es (h .1) i l
-  interval-known n (Finishes k ∷ es) h i l = interval-known n es (h .1) i l
-  interval-known n (Defers k t ∷ es) h i l = interval-known n es (h .1) i l
-  interval-known n (GivesWay k ∷ es) h i l = interval-known n es (h .1) i l
-  interval-known n (Starts k v ∷ es) h i l = interval-known n es (h .1) i l
-  interval-known n (Stops k v ∷ es) h i l = interval-known n es (h .1) i l
-  interval-known n (Completes k t ∷ es) h i l = interval-known n es (h .1) i l
-  interval-known n (Ends t ∷ es) h i l = interval-known n es (h .1) i l
-  interval-known n (Takes k t m ∷ es) h i l = interval-known n es (h .1) i l
-  interval-known n (Begins t r x ∷ es) h i l = go i (is-task n r) l (interval-known n es (h .1))
-    where
-      go : (i : ℕ) (b : Bool) → i < length (r ∷ cond b [] (upto n (intervals es)))
-          → ((j : ℕ) → j < length (upto n (intervals es)) → KnownTask (getD (upto n (intervals es)) j NoTask)) → KnownTask (getD (r ∷ cond b [] (upto n (intervals es))) i NoTask)
-      go zero b l k = h .0 .0
-      go (suc i) true l k = absurd (not-suc-le-zero (le-of-suc-le-suc l))
-      go (suc i) false l k = k i (le-of-suc-le-suc l)
 
   -- ---- the events of an instant
 

@@ -1,5 +1,5 @@
 -- What a state knows of the last job of a task is what the walk of Tally finds, and each step keeps that.
-use Rattle.guarantees.specs.Types.{_≡_, refl, sym, ap, _∙_, subst, Bool, true, false, cond, not, _&&_, _||_, false≢true, List, [], _∷_, _++_, _⊎_, inl, inr, ⊎-elim, ℕ, _+_, _^_, _≤_, _<_, min, Table, WaitingReleases, MaybeTask, NoTask, Task, Processor, Idle, CopyingIn, Executing, Finished, CopyOut, NoCopyOut, CopyingOut, CopiedOut, CopyIn, Unchosen, NoneChosen, Copying, Loaded, Cancelled, Interval, Next, NoneNext, LoadedNext, PromotedNext, Outgoing, NoneOutgoing, AwaitsCopyOut, Phase, Between, Within, State, Stage, Due, Never, Tick}
+use Rattle.guarantees.specs.Types.{_≡_, refl, sym, ap, _∙_, subst, Bool, true, false, cond, _&&_, _||_, false≢true, List, [], _∷_, _++_, _⊎_, inl, inr, ⊎-elim, ℕ, _+_, _^_, _≤_, _<_, min, Table, WaitingReleases, MaybeTask, NoTask, Task, Processor, Idle, CopyingIn, Executing, Finished, CopyOut, NoCopyOut, CopyingOut, CopiedOut, CopyIn, Unchosen, NoneChosen, Copying, Loaded, Cancelled, Interval, Next, NoneNext, LoadedNext, PromotedNext, Outgoing, NoneOutgoing, AwaitsCopyOut, Phase, Between, Within, State, Stage, Due, Never, Tick}
 use native.Mathlib.Omega.{arith}
 use native.Mathlib.Nat.{add-zero, zero-add}
 use borrow.Author.Tests.{eqb-true, ne-eqb, le-ltb}
@@ -10,7 +10,7 @@ use Rattle.sets.specs.Sets.{member, difference, bit}
 use Rattle.sets.proofs.Laws.{by-test, clash, none, collected, united, difference-member, union-out, same-task, insert-same, insert-other}
 use Rattle.rules.specs.With.{later}
 use Rattle.rules.specs.Order.{highest-of, higher, higher-than}
-use Rattle.rules.specs.Instant.{step-a, step-b, step-c, step-d, step-e, step-g, close, close-stage, over, promoted, awaiting-copyout, awaiting-execution, blocks, stamped, settled, with-candidates, original as stamps, cancel, choose, begin, begin-processor, begin-copyout, wanted, without-done, ended, processor-at, copyout-at, copyin-at, processor-task}
+use Rattle.rules.specs.Instant.{step-a, step-b, step-c, step-d, step-e, step-g, close, close-stage, over, promoted, awaiting-copyout, awaiting-execution, blocks, settled, with-candidates, original as stamps, cancel, choose, begin, begin-processor, begin-copyout, wanted, without-done, ended, processor-at, copyout-at, processor-task}
 use Rattle.guarantees.specs.History.{Event, Takes, Ends, processor-events, processor-events-in, finish-events, finish-events-in, completion-events, end-events, take-events, defer-events, begin-events, start-events}
 use Rattle.guarantees.specs.Queries.{is-task, Situation, Open, original}
 use Rattle.guarantees.specs.Entries.{is-lower, lower-in}
@@ -21,8 +21,9 @@ use Rattle.guarantees.proofs.Waiting.{held-task, next-task, up-next, ru
 use Rattle.guarantees.proofs.Order.{situation-of, c-situation, d-situation, e-situation}
 use Rattle.guarantees.proofs.Blocking.{Place, Out, In, place, c-place, c-up-next, Awaits, AwaitsIn, Bounded, Like, a-like, d-like, e-like, promoted-awaits, promoted-ready}
 use Rattle.guarantees.proofs.Places.{Parted, stage, next-bit, outgoing-bit, processor-bit, copyout-bit}
+use Rattle.guarantees.proofs.Origins.{original-is, held-is, stamp}
 use Rattle.guarantees.proofs.Tally.{Tally, first-of, or-else, grown, tally-by, tally, tally-append}
-use Rattle.guarantees.proofs.Tallies.{counted-length, counted-exact, stamped-length, stamped-exact, with-started, with-held, started-after, processor-tally, finish-tally, completion-tally, takes-others, takes-this, defers-tally, started-next, begun, opened-tally}
+use Rattle.guarantees.proofs.Tallies.{counted-length, counted-exact, stamped-length, with-started, with-held, started-after, processor-tally, finish-tally, completion-tally, takes-others, takes-this, defers-tally, started-next, begun, opened-tally}
 
 -- ---- how many intervals are lower
 
@@ -423,25 +424,6 @@ module _ (pr : List ℕ) (n : ℕ) (small : n < 32) where
   is-fresh : (t : ℕ) (m : Bool) (x : Tally) → tally-by n x (Takes n t m) ≡ fresh t x
   is-fresh t m x = rw (same-task n)
 
-  -- by the task's release that waits: its original tick, where it is taken
-  original-is : (w : Bool) (a t : ℕ) (h : Due) → h ≡ cond w (Tick a) Never → original h t ≡ cond w a t
-  original-is true a t h e = ap (λ (y : Due). original y t) e
-  original-is false a t h e = ap (λ (y : Due). original y t) e
-
-  -- and what waits after step c, where it is taken (b) or not, and another waits from now on (c) or not
-  held-is : (b c w : Bool) (a t : ℕ) (h : Due) → h ≡ cond w (Tick a) Never → cond c (Tick t) (cond b Never h) ≡ cond ((w && not b) || c) (Tick (cond c t a)) Never
-  held-is true true true a t h e = refl
-  held-is true true false a t h e = refl
-  held-is true false true a t h e = refl
-  held-is true false false a t h e = refl
-  held-is false true true a t h e = refl
-  held-is false true false a t h e = refl
-  held-is false false true a t h e = e
-  held-is false false false a t h e = e
-
-  stamp : (s : ℕ) (f : ℕ → ℕ) (xs : List ℕ) → n < length xs → getD (stamped s f 0 xs) n 0 ≡ cond (member n s) (f n) (getD xs n 0)
-  stamp s f xs l = stamped-exact s f 0 xs n l ∙ ap (λ (j : ℕ). cond (member j s) (f j) (getD xs n 0)) (zero-add n)
-
   module _ (d : State) (t taken deferred : ℕ) (x : Tally) (k : Knows x d) where
     -- the tick of the release that waits then
     abbrev held-c : Due
@@ -455,7 +437,7 @@ module _ (pr : List ℕ) (n : ℕ) (small : n < 32) where
           rw (
             united (difference (d .waiting .tasks) taken) deferred n small,
             difference-member (d .waiting .tasks) taken n small,
-            stamp deferred (λ j. t) (d .waiting .times) (k .holds .times),
+            stamp n deferred (λ j. t) (d .waiting .times) (k .holds .times),
           )
           (held-is (member n taken) (member n deferred) (member n (d .waiting .tasks)) (getD (d .waiting .times) n 0) t (x .held) (k .holds .is));
     }
@@ -471,12 +453,12 @@ module _ (pr : List ℕ) (n : ℕ) (small : n < 32) where
       awaits = λ w. record {
         release =
             ap Tick (original-is (member n (d .waiting .tasks)) (getD (d .waiting .times) n 0) t (x .held) (k .holds .is)
-            ∙ sym (stamp taken (stamps (d .waiting) t) (d .jobs .release) (k .releases) ∙ ap (λ (b : Bool). cond b (stamps (d .waiting) t n) (getD (d .jobs .release) n 0)) m));
+            ∙ sym (stamp n taken (stamps (d .waiting) t) (d .jobs .release) (k .releases) ∙ ap (λ (b : Bool). cond b (stamps (d .waiting) t n) (getD (d .jobs .release) n 0)) m));
         unexecuted = refl;
         count =
             omega (
               arith,
-              stamp taken (λ j. 0) (d .jobs .blocked) (k .counts) ∙ ap (λ (b : Bool). cond b 0 (getD (d .jobs .blocked) n 0)) m,
+              stamp n taken (λ j. 0) (d .jobs .blocked) (k .counts) ∙ ap (λ (b : Bool). cond b 0 (getD (d .jobs .blocked) n 0)) m,
               ap low (c-place d taken (d .phase)),
               first-low (d .phase),
               ap (λ (s : Situation). lower-in pr n (first-of s)) (k .at),
@@ -493,13 +475,13 @@ module _ (pr : List ℕ) (n : ℕ) (small : n < 32) where
         (record {
           like = record {
             table = refl;
-            count = stamp taken (λ j. 0) (d .jobs .blocked) (k .counts) ∙ ap (λ (b : Bool). cond b 0 (getD (d .jobs .blocked) n 0)) m;
+            count = stamp n taken (λ j. 0) (d .jobs .blocked) (k .counts) ∙ ap (λ (b : Bool). cond b 0 (getD (d .jobs .blocked) n 0)) m;
             place = sym (c-place d taken (d .phase));
             awaits = λ w.
                 ⊎-elim (λ y. inl (⊎-elim (λ z. z) (λ z. clash (member n taken) z m) (union-out (d .jobs .ready) taken n y)))
                 (λ y. inr (ap (is-task n) (sym (c-up-next d taken (d .phase))) ∙ y)) w;
           };
-          release = stamp taken (stamps (d .waiting) t) (d .jobs .release) (k .releases) ∙ ap (λ (b : Bool). cond b (stamps (d .waiting) t n) (getD (d .jobs .release) n 0)) m;
+          release = stamp n taken (stamps (d .waiting) t) (d .jobs .release) (k .releases) ∙ ap (λ (b : Bool). cond b (stamps (d .waiting) t n) (getD (d .jobs .release) n 0)) m;
           releases = stamped-length taken (stamps (d .waiting) t) 0 (d .jobs .release);
           counts = stamped-length taken (λ j. 0) 0 (d .jobs .blocked);
           at = c-situation d taken (d .phase);

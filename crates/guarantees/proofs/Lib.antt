@@ -30,6 +30,7 @@ pub mod Closings
 pub mod Told
 pub mod Counts
 pub mod Deferred
+pub mod Origins
 pub mod Turns
 pub mod Turning
 pub mod Fates
@@ -37,4 +38,5 @@ pub mod Marks
 pub mod Courses
 pub mod Serving
 pub mod Arithmetic
+pub mod Chosen
 pub mod Demand3

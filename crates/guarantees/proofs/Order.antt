@@ -1,5 +1,5 @@
 -- The order, along a history: the claim on each release, from what the states say of the intervals to come (Waiting).
-use Rattle.guarantees.specs.Types.{_≡_, refl, sym, ap, _∙_, subst, Bool, true, false, cond, false≢true, List, [], _∷_, _++_, _↔_, ℕ, zero, suc, _≤_, _<_, Table, MaybeTask, NoTask, Task, CopyIn, Unchosen, NoneChosen, Copying, Loaded, Cancelled, Processor, Interval, Next, NoneNext, LoadedNext, PromotedNext, Outgoing, NoneOutgoing, AwaitsCopyOut, Phase, Between, Within, State, Stage, Due, Tick, Call}
+use Rattle.guarantees.specs.Types.{_≡_, refl, sym, ap, _∙_, subst, Bool, true, false, cond, false≢true, List, [], _∷_, _++_, ℕ, zero, suc, _≤_, _<_, Table, MaybeTask, NoTask, Task, CopyIn, Unchosen, NoneChosen, Copying, Loaded, Cancelled, Processor, Interval, Next, NoneNext, LoadedNext, PromotedNext, Outgoing, NoneOutgoing, AwaitsCopyOut, Phase, Between, Within, State, Stage, Due, Tick, Call}
 use native.Mathlib.Omega.{arith}
 use native.Mathlib.Nat.{not-suc-le-zero, le-of-suc-le-suc}
 use borrow.Author.Tests.{eqb-true, ltb-false}
@@ -10,13 +10,14 @@ use Rattle.sets.proofs.Laws.{by-test, clash, none, union-right, intersection-in
 use Rattle.guarantees.proofs.Highest.{Best}
 use Rattle.guarantees.proofs.Walk.{walk}
 use Rattle.guarantees.specs.History.{history, Event, Starts, Stops, Comes, Takes, Defers, GivesWay, Begins, Completes, Finishes, Ends, happens, finish-events-in, completion-events, end-events, take-events, defer-events, giving-events-in, begin-events, start-events}
-use Rattle.rules.specs.Instant.{step-a, step-b, step-c, step-d, step-e, step-g, close, close-stage, over, with-candidates, cancel, cancel-by, choose, begin, begin-processor, wanted, taken, ended, processor-task, copyin-at, at-a, at-b, at-e, at-f, at-g, taken-at, deferred-at, fresh-stage}
+use Rattle.rules.specs.Instant.{step-a, step-b, step-c, step-d, step-e, step-g, close, close-stage, over, with-candidates, cancel, cancel-by, choose, begin, begin-processor, wanted, taken, ended, processor-task, at-a, at-b, at-e, at-f, at-g, taken-at, deferred-at, fresh-stage}
 use Rattle.rules.specs.With.{at-clock}
 use Rattle.rules.specs.Order.{highest-of, outranks}
-use Rattle.guarantees.specs.Queries.{is-task, Situation, NoneOpen, Open, situation, after-event, intervals, begin-tick, after, each, first, upto, met}
+use Rattle.guarantees.specs.Queries.{is-task, Situation, NoneOpen, Open, situation, intervals, begin-tick, after, each, first, upto, met}
+use Rattle.guarantees.specs.Claim.{NotLower}
 use Rattle.guarantees.proofs.Frames.{table-b, marked-b, table-g}
 use Rattle.guarantees.proofs.Cases.{held-at, d-cases, e-cases}
-use Rattle.guarantees.proofs.Waiting.{NotLower, Waiting, Fate, Rule, Rival, Bound, Old, Ahead, Then, rule-old, rule-none, e-waiting, from-c, to-come, ahead, soon}
+use Rattle.guarantees.proofs.Waiting.{Waiting, Fate, Rule, Rival, Bound, Old, Ahead, Then, rule-old, rule-none, e-waiting, from-c, to-come, ahead, soon}
 use Rattle.guarantees.proofs.Steps.{processor-task-same, Opened, e-opens, NewIn, NewAt, c-new, best-of}
 use Rattle.guarantees.proofs.Events.{by-processor, by-finishes, by-gives, by-completes, by-takes, by-defers, by-starts, tail-of, tail-intervals, front-of, happens-parts, front-parts, tail-parts}
 

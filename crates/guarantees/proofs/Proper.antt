@@ -1,21 +1,19 @@
--- The tables that opening serves: they have a task, all priorities are different, and each length is in its range.
-use Rattle.guarantees.specs.Types.{_≡_, refl, sym, ap, _∙_, subst, Bool, true, false, cond, _&&_, _||_, List, _⊎_, inl, inr, ⊎-elim, ℕ, zero, suc, _+_, _^_, _≤_, _<_, Table, State, NoRefusal, AtEntry, Head}
+-- The tables that opening serves: they have a task, and each length is in its range.
+use Rattle.guarantees.specs.Types.{_≡_, refl, sym, _∙_, subst, Bool, true, false, cond, _||_, List, _⊎_, inl, inr, ⊎-elim, ℕ, zero, suc, _+_, _^_, _≤_, _<_, Table, State, NoRefusal, AtEntry, Head}
 use Rattle.entries.specs.declared.TaskParameters.{TaskParameters}
 use Rattle.entries.specs.declared.Entry.{Entry}
 use Rattle.entries.specs.declared.Entry.the-variants.{Malformed, TaskEntry, ReleaseEntry}
 use native.Mathlib.Omega.{arith}
-use native.Mathlib.Nat.{not-suc-le-zero}
-use borrow.Author.Tests.{eqb-true, eqb-false, eq-eqb, leb-false, ltb-false}
+use borrow.Author.Tests.{eqb-false, eq-eqb, leb-false, ltb-false}
 use lib.Dec.{eqb, leb, ltb}
-use lib.ListN.{length, getD, set, length-set}
-use lib.Seq.{getD-set-same, getD-set-other}
+use lib.ListN.{length, length-set}
 use Rattle.table.specs.Table.{copyin-length, execution-length, copyout-length, with-lengths}
 use Rattle.table.proofs.Columns.{copyin-more, execution-more, copyout-more, columns-long}
 use Rattle.sets.specs.Sets.{member, insert}
-use Rattle.sets.proofs.Laws.{by-test, below-suc, clash, both, none, insert-same, insert-other, insert-out, insert-small, member-task}
+use Rattle.sets.proofs.Laws.{by-test, clash, none, insert-same, insert-other, insert-out, insert-small, member-task}
 use Rattle.entries.specs.Entries.{entry-at}
 use Rattle.entries.specs.Limits as limits
-use Rattle.table.specs.Head.{no-table, given, outside, number-refused, mark-or-length-refusal, task-refusal, with-task, with-marked, refused-at, read-to, behind-head, head-from, head-of}
+use Rattle.table.specs.Head.{no-table, outside, number-refused, mark-or-length-refusal, task-refusal, with-task, with-marked, refused-at, read-to, behind-head, head-from, head-of}
 use Rattle.table.proofs.Alone.{Whole, accepted, whole-head}
 use Rattle.rules.specs.Calls.{opened, opening}
 
@@ -42,8 +40,6 @@ InRange x = (1 ≤ x) × (x ≤ limits.longest-phase)
 pub record Fair (table : Table) (marked : ℕ) : Type 0 where
   pub present : table .present < 2 ^ 32
   pub marks : (k : ℕ) → member k marked ≡ true → member k (table .present) ≡ true
-  pub different : (j k : ℕ) → member j (table .present) ≡ true → member k (table .present) ≡ true
-      → getD (table .priority) j 0 ≡ getD (table .priority) k 0 → j ≡ k
   pub copyins : (k : ℕ) → member k (table .present) ≡ true → InRange (copyin-length (table .columns) k)
   pub executions : (k : ℕ) → member k (table .present) ≡ true → InRange (execution-length (table .columns) k)
   pub copyouts : (k : ℕ) → member k (table .present) ≡ true → InRange (copyout-length (table .columns) k)
@@ -60,20 +56,10 @@ fair-none : Fair no-table 0
 fair-none = record {
   present = omega arith;
   marks = λ k h. h;
-  different = λ j k h. clash (member j 0) h (none j);
   copyins = λ k h. clash (member k 0) h (none k);
   executions = λ k h. clash (member k 0) h (none k);
   copyouts = λ k h. clash (member k 0) h (none k);
 }
-
-not-given : (m : ℕ) (t : Table) (p : ℕ) → given m t p ≡ false → (j : ℕ) → j < m → member j (t .present) ≡ true → getD (t .priority) j 0 ≡ p → ⊥
-unfolding given
-not-given zero t p h j l = absurd (not-suc-le-zero l)
-not-given (suc m) t p h j l =
-    let x : ((member m (t .present) && eqb (getD (t .priority) m 0) p) ≡ false) × (given m t p ≡ false) =
-    neither (member m (t .present) && eqb (getD (t .priority) m 0) p) (given m t p) h in
-    below-suc (λ (j : ℕ). member j (t .present) ≡ true → getD (t .priority) j 0 ≡ p → ⊥) m (not-given m t p (x .1))
-    (λ y z. clash (member m (t .present) && eqb (getD (t .priority) m 0) p) (both (member m (t .present)) (eqb (getD (t .priority) m 0) p) y (eq-eqb (getD (t .priority) m 0) p z)) (x .0)) j l
 
 in-range : (x : ℕ) → outside x ≡ false → InRange x
 unfolding outside
@@ -87,7 +73,7 @@ module _ (t : Table) (marked : ℕ) (fair : Fair t marked) (roomy : Roomy t) (p 
   n = p .number
 
   abbrev Met : Type 0
-  Met = (n < 32) × (member n (t .present) ≡ false) × (given 32 t (p .priority) ≡ false)
+  Met = (n < 32) × (member n (t .present) ≡ false)
       × InRange (p .copyin) × InRange (p .execution) × InRange (p .copyout)
 
   met : Met
@@ -95,13 +81,13 @@ module _ (t : Table) (marked : ℕ) (fair : Fair t marked) (roomy : Roomy t) (p 
   met =
       let a : Bool = leb limits.tasks n || member n (t .present) in
       let c : Bool = outside (p .copyin) || (outside (p .execution) || outside (p .copyout)) in
-      let f : (a ≡ false) × (given 32 t (p .priority) ≡ false) × (ltb 1 (p .mark) ≡ false) × (c ≡ false) =
-      none-passed 3 4 5 6 a (given 32 t (p .priority)) (ltb 1 (p .mark)) c taken in
+      let f : (a ≡ false) × (ltb 1 (p .mark) ≡ false) × (c ≡ false) × (false ≡ false) =
+      none-passed 3 5 6 0 a (ltb 1 (p .mark)) c false taken in
       let x : (leb limits.tasks n ≡ false) × (member n (t .present) ≡ false) = neither (leb limits.tasks n) (member n (t .present)) (f .0) in
       let y : (outside (p .copyin) ≡ false) × ((outside (p .execution) || outside (p .copyout)) ≡ false) =
-      neither (outside (p .copyin)) (outside (p .execution) || outside (p .copyout)) (f .3) in
+      neither (outside (p .copyin)) (outside (p .execution) || outside (p .copyout)) (f .2) in
       let z : (outside (p .execution) ≡ false) × (outside (p .copyout) ≡ false) = neither (outside (p .execution)) (outside (p .copyout)) (y .1) in
-      (omega (arith, leb-false limits.tasks n (x .0)), x .1, f .1, in-range (p .copyin) (y .0), in-range (p .execution) (z .0), in-range (p .copyout) (z .1))
+      (omega (arith, leb-false limits.tasks n (x .0)), x .1, in-range (p .copyin) (y .0), in-range (p .execution) (z .0), in-range (p .copyout) (z .1))
 
   -- of a column: a property of the new task's value and of those of the tasks before
   stored : (P : ℕ → Type 0) (old new : ℕ → ℕ) (v : ℕ) → ((k : ℕ) → k < 32 → new k ≡ cond (eqb k n) v (old k)) → P v
@@ -111,31 +97,6 @@ module _ (t : Table) (marked : ℕ) (fair : Fair t marked) (roomy : Roomy t) (p 
       by-test (eqb k n)
       (λ e. subst P (sym (is ∙ rw e)) h)
       (λ e. subst P (sym (is ∙ rw e)) (f k (⊎-elim (λ x. clash (eqb k n) x e) (λ x. x) (insert-out n (t .present) k m))))
-
-  apart : (j k : ℕ) → member j (insert n (t .present)) ≡ true → member k (insert n (t .present)) ≡ true
-      → getD (set (t .priority) n (p .priority)) j 0 ≡ getD (set (t .priority) n (p .priority)) k 0 → j ≡ k
-  apart j k a b e =
-      by-test (eqb j n)
-      (λ x. by-test (eqb k n)
-      (λ y. eqb-true j n x ∙ sym (eqb-true k n y))
-      (λ y. absurd (other k y (old k y b) (sym (at-n j x) ∙ e))))
-      (λ x. by-test (eqb k n)
-      (λ y. absurd (other j x (old j x a) (sym (at-n k y) ∙ sym e)))
-      (λ y. fair .different j k (old j x a) (old k y b) (sym (at-other j x) ∙ e ∙ at-other k y)))
-    where
-      old : (k : ℕ) → eqb k n ≡ false → member k (insert n (t .present)) ≡ true → member k (t .present) ≡ true
-      old k e m = ⊎-elim (λ x. clash (eqb k n) x e) (λ x. x) (insert-out n (t .present) k m)
-
-      at-n : (k : ℕ) → eqb k n ≡ true → getD (set (t .priority) n (p .priority)) k 0 ≡ p .priority
-      at-n k e =
-          ap (λ (x : ℕ). getD (set (t .priority) n (p .priority)) x 0) (eqb-true k n e)
-          ∙ getD-set-same (t .priority) n (p .priority) 0 (omega (arith, met .0, roomy .priorities))
-
-      at-other : (k : ℕ) → eqb k n ≡ false → getD (set (t .priority) n (p .priority)) k 0 ≡ getD (t .priority) k 0
-      at-other k e = getD-set-other (t .priority) n k (p .priority) 0 (eqb-false k n e)
-
-      other : (k : ℕ) → eqb k n ≡ false → member k (t .present) ≡ true → p .priority ≡ getD (set (t .priority) n (p .priority)) k 0 → ⊥
-      other k e m h = not-given 32 t (p .priority) (met .2) k (member-task k (t .present) (fair .present) m) m (sym (h ∙ at-other k e))
 
   marks-more : (k : ℕ) → member k (with-marked marked p) ≡ true → member k (insert n (t .present)) ≡ true
   unfolding with-marked
@@ -156,10 +117,9 @@ module _ (t : Table) (marked : ℕ) (fair : Fair t marked) (roomy : Roomy t) (p 
   fair-more = record {
     present = insert-small n (t .present);
     marks = marks-more;
-    different = apart;
-    copyins = stored InRange (copyin-length (t .columns)) (copyin-length (with-lengths (t .columns) p)) (p .copyin) (copyin-more (t .columns) p (roomy .columns) (met .0)) (met .3) (fair .copyins);
-    executions = stored InRange (execution-length (t .columns)) (execution-length (with-lengths (t .columns) p)) (p .execution) (execution-more (t .columns) p (roomy .columns) (met .0)) (met .4) (fair .executions);
-    copyouts = stored InRange (copyout-length (t .columns)) (copyout-length (with-lengths (t .columns) p)) (p .copyout) (copyout-more (t .columns) p (roomy .columns) (met .0)) (met .5) (fair .copyouts);
+    copyins = stored InRange (copyin-length (t .columns)) (copyin-length (with-lengths (t .columns) p)) (p .copyin) (copyin-more (t .columns) p (roomy .columns) (met .0)) (met .2) (fair .copyins);
+    executions = stored InRange (execution-length (t .columns)) (execution-length (with-lengths (t .columns) p)) (p .execution) (execution-more (t .columns) p (roomy .columns) (met .0)) (met .3) (fair .executions);
+    copyouts = stored InRange (copyout-length (t .columns)) (copyout-length (with-lengths (t .columns) p)) (p .copyout) (copyout-more (t .columns) p (roomy .columns) (met .0)) (met .4) (fair .copyouts);
   }
 
   roomy-more : Roomy (with-task t p)

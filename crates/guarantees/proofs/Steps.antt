@@ -2,13 +2,14 @@
 use Rattle.guarantees.specs.Types.{_≡_, refl, sym, ap, subst, true, not, _&&_, ℕ, _<_, Table, MaybeTask, NoTask, Task, Processor, Interval, Phase, Between, Within, State}
 use Rattle.sets.specs.Sets.{member, intersection}
 use Rattle.sets.proofs.Laws.{right, union-right, intersection-in}
+use lib.ListN.{getD}
 use Rattle.rules.specs.Order.{highest-of}
 use Rattle.rules.specs.Instant.{processor-at, processor-task, resting, settled, step-c, step-e, over, with-candidates, choose, copying-out}
 use Rattle.guarantees.proofs.Highest.{Best, best}
 use Rattle.guarantees.proofs.Cases.{processor-cases, e-cases}
 
 pub best-of : (d : State) (s : ℕ) → Best (d .table .priority) s (highest-of d s)
-best-of d s = best (d .table .priority) s
+best-of d s = best (d .table .priority) (λ k. getD (d .jobs .release) k 0) s
 
 -- an interval is open, and its processor is this one
 abbrev pub Opened : Processor → Phase → Type 0

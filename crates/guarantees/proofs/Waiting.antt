@@ -17,6 +17,7 @@ use Rattle.rules.specs.Instant.{settled, step-a, step-b, step-c, step-d, step-e
 use Rattle.rules.specs.With.{at-clock, later}
 use Rattle.rules.specs.Order.{highest-of, outranks}
 use Rattle.guarantees.specs.Queries.{is-task, intervals, each}
+use Rattle.guarantees.specs.Claim.{NotLower}
 use Rattle.guarantees.proofs.Steps.{Sub, NewIn, NewAt, c-new, best-of, settles, Opened, e-opens}
 use Rattle.guarantees.proofs.Events.{happens-intervals}
 use Rattle.guarantees.proofs.Cases.{held-at, Held, copyin-cases, a-cases, b-cases, d-cases, e-cases, g-cases}
@@ -46,11 +47,6 @@ pub runs : (table : Table) (t : ℕ) (next : Next) → processor-task (begin-pro
 runs table t NoneNext = refl
 runs table t (LoadedNext c) = refl
 runs table t (PromotedNext c) = refl
-
--- a task of no lower priority than n's
-abbrev pub NotLower : List ℕ → ℕ → MaybeTask → Type 0
-NotLower pr n NoTask = ⊥
-NotLower pr n (Task k) = getD pr k 0 ≤ getD pr n 0
 
 module _ (pr : List ℕ) (n : ℕ) where
   -- What holds of the copy-in of the open interval, F, so that what the next interval runs has Q.

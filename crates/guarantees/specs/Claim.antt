@@ -1,6 +1,6 @@
 -- Demand 3: the claim about a whole list of instants and mark calls. What stands between quotation marks is the demand, or document 01,
 -- "The dispatcher by instants", second paragraph; below each quotation stands what it says of a history (History, Queries).
-use Rattle.guarantees.specs.Types.{_≡_, Bool, true, false, cond, List, _∷_, _++_, _⊎_, ℕ, _+_, _*_, _≤_, _<_, Table, MaybeTask, NoTask, Task, State, Due, Never, Tick, NoRefusal, Call}
+use Rattle.guarantees.specs.Types.{_≡_, Bool, true, false, cond, List, [], _∷_, _++_, ℕ, _+_, _*_, _≤_, _<_, Table, MaybeTask, NoTask, Task, State, Due, Never, Tick, NoRefusal, Call, Instant}
 use lib.Dec.{leb}
 use lib.ListN.{getD, length}
 use Rattle.sets.specs.Sets.{size}
@@ -14,28 +14,31 @@ use Rattle.guarantees.specs.Pending.{OneAtATime, InTime}
 use Rattle.guarantees.specs.Intervals.{Proceeds}
 use Rattle.guarantees.specs.Entries.{EntriesTell}
 use Rattle.guarantees.specs.Counting.{CountsRise}
+use Rattle.guarantees.specs.Choosing.{FirstCome}
 use Rattle.guarantees.specs.States.{PlainState}
-use Rattle.guarantees.specs.Queries.{is-task, Situation, NoneOpen, situation, Latest, none-yet, latest, loaded, Execution, not-yet, execution, intervals, met, end-tick, begin-tick, copied-out, taking, start, stop, completion, last-instant, is-take, is-begin, is-completion, total}
+use Rattle.guarantees.specs.Queries.{is-task, Situation, NoneOpen, situation, Latest, none-yet, latest, loaded, Execution, not-yet, execution, intervals, met, end-tick, begin-tick, copied-out, taking, start, stop, completion, since, last-instant, is-take, is-begin, is-completion, total}
 
 -- ---- The order
 
 module _ (priority : List ℕ) (n : ℕ) where
-  -- a job of lower priority than task n's: of a greater number
+  -- a job of lower priority than task n's: of a greater number. One of equal priority is not lower (6/13)
   abbrev pub Lower : MaybeTask → Type 0
   Lower NoTask = ⊥
   Lower (Task k) = getD priority n 0 < getD priority k 0
 
-  abbrev pub ThisOrHigher : MaybeTask → Type 0
-  ThisOrHigher NoTask = ⊥
-  ThisOrHigher (Task k) = (k ≡ n) ⊎ (getD priority k 0 < getD priority n 0)
+  -- 6/13: "Where the demands say a higher-priority job runs, read one that is not lower."
+  abbrev pub NotLower : MaybeTask → Type 0
+  NotLower NoTask = ⊥
+  NotLower (Task k) = getD priority k 0 ≤ getD priority n 0
 
   -- a job of task n, marked or not, with its intervals: interval i, counted from 0, is getD met i NoTask
   pub record InOrder (marked : Bool) (met : List MaybeTask) : Type 0 where
     -- "From its release to the start of its execution a lower-priority job executes in none but the first two intervals, counting the
     -- one that holds the release." The tick of that start, in the last of its intervals, is said below (`Executed`).
     pub lower-in-two : (i : ℕ) → 2 ≤ i → i < length met → Lower (getD met i NoTask) → ⊥
-    -- "In each from the third on, up to the one that executes it, the processor runs this job or a higher-priority one."
-    pub third-on : (i : ℕ) → 2 ≤ i → i < length met → ThisOrHigher (getD met i NoTask)
+    -- "In each from the third on, up to the one that executes it, the processor runs this job or a higher-priority one": one that is not
+    -- lower, which this job is too
+    pub third-on : (i : ℕ) → 2 ≤ i → i < length met → NotLower (getD met i NoTask)
     -- 2/13: "From here on a marked job meets a lower-priority one in its first interval only, without the old condition."
     pub marked-in-one : marked ≡ true → (i : ℕ) → 1 ≤ i → i < length met → Lower (getD met i NoTask) → ⊥
 
@@ -161,6 +164,10 @@ pub record Claim (d : State) (calls : List Call) : Type 0 where
   pub counts : (t set : ℕ) → refusal (after-calls d calls) t set ≡ 0 → CountsRise (after-calls d calls) t set
   -- and no time and no count of that state comes near the end of its type
   pub plain : PlainState (after-calls d calls)
+  -- 6/13: at each instant of the list that is served the engine chooses the first of the ready jobs, by the history's original times
+  pub first-come : (before after : List Call) (t set : ℕ) → calls ≡ before ++ (Instant t set ∷ after)
+      → refusal (after-calls d before) t set ≡ 0
+      → FirstCome (after-calls d before) t set (since (history d (before ++ (Instant t set ∷ []))))
 
 -- "Demand 3 is a single claim about a whole list of instants and mark calls, and not one for each call. The list starts from the state
 -- that opening returned, for any table it serves."

@@ -5,10 +5,10 @@ use lib.Dec.{eqb}
 use Rattle.sets.specs.Sets.{insert}
 use Rattle.rules.specs.Order.{highest}
 use Rattle.guarantees.specs.History.{Event, Finishes, Ends, GivesWay, Begins}
-use Rattle.guarantees.specs.Queries.{details, finishes, ends, takes, begins, gives-way, after}
+use Rattle.guarantees.specs.Queries.{details, finishes, ends, takes, begins, gives-way, after, Origin, no-origin, origin-by}
 
 -- the last interval to begin, as far as it has gone; `own` are the tasks of the marked jobs that were taken in it, `next` of those
--- taken since its end
+-- taken since its end; `origins` has of each task when its releases were handed in; `decided` is what the next interval executes
 pub record Course : Type 0 where
   pub is-open : Bool
   pub begin : ℕ
@@ -20,6 +20,8 @@ pub record Course : Type 0 where
   pub fate : ℕ
   pub own : ℕ
   pub next : ℕ
+  pub origins : ℕ → Origin
+  pub decided : MaybeTask
 
 -- "the first interval gives the processor half 0"
 abbrev pub no-course : Course
@@ -35,6 +37,8 @@ no-course =
       fate = 0;
       own = 0;
       next = 0;
+      origins = λ n. no-origin;
+      decided = NoTask;
     }
 
 abbrev pub with-task : MaybeTask → ℕ → ℕ
@@ -50,38 +54,44 @@ work-by fate (Task n) = cond (eqb fate 1) 1 2
 abbrev pub fate-by : ℕ → Event → ℕ
 fate-by fate e = cond (finishes e) 1 (cond (gives-way e) (cond (eqb fate 1) 3 2) fate)
 
--- "The halves swap (R1)"; the releases of an instant "belong to the open interval, else to the one that step g begins"
-abbrev pub course-by : Course → Event → Course
-course-by x e = record {
-  is-open = cond (begins e) true (cond (ends e) false (x .is-open));
-  begin = cond (begins e) (details e .tick) (x .begin);
-  half = cond (begins e) (1 - x .half) (x .half);
-  task = cond (begins e) (details e .task) (x .task);
-  work = cond (begins e) (work-by (x .fate) (details e .task)) (x .work);
-  copiedout = cond (begins e) (details e .out) (x .copiedout);
-  chosen = cond (begins e) NoTask (cond (finishes e || gives-way e) (details e .task) (x .chosen));
-  fate = cond (begins e) 0 (fate-by (x .fate) e);
-  own = cond (begins e) (x .next) (cond (takes e && (details e .mark && x .is-open)) (with-task (details e .task) (x .own)) (x .own));
-  next = cond (begins e) 0 (cond (takes e && (details e .mark && not (x .is-open))) (with-task (details e .task) (x .next)) (x .next));
-}
-
-abbrev pub course : List Event → Course
-course = after course-by no-course
-
 module _ (priority : List ℕ) where
-  -- "When an interval ends and its copy-in was cancelled or none was chosen, the highest-priority marked job released in it and ready is
-  -- promoted (R4)": all of them are ready then, since only one whose copy-in is done would not be
+  -- "the highest-priority marked job released in it and ready"; 6/13: "promotion follows the same order", by priority, then the original
+  -- time, then the task number. All of them are ready then, since only one whose copy-in is done would not be
+  abbrev pub highest-own : Course → MaybeTask
+  highest-own x = highest priority (λ n. x .origins n .since) (x .own)
+
+  -- "When an interval ends and its copy-in was cancelled or none was chosen, the highest-priority marked job .. is promoted (R4)"
   abbrev pub promoted-by : Course → MaybeTask
-  promoted-by x = cond (eqb (x .fate) 1) NoTask (highest priority (x .own))
+  promoted-by x = cond (eqb (x .fate) 1) NoTask (highest-own x)
 
   -- "The processor copies in and then executes the promoted job; else it executes the loaded one; else it idles (R5)."
   abbrev pub executes-next : Course → MaybeTask
-  executes-next x = cond (eqb (x .fate) 1) (x .chosen) (highest priority (x .own))
+  executes-next x = cond (eqb (x .fate) 1) (x .chosen) (highest-own x)
+
+  -- "The halves swap (R1)"; the releases of an instant "belong to the open interval, else to the one that step g begins"
+  abbrev pub course-by : Course → Event → Course
+  course-by x e = record {
+    is-open = cond (begins e) true (cond (ends e) false (x .is-open));
+    begin = cond (begins e) (details e .tick) (x .begin);
+    half = cond (begins e) (1 - x .half) (x .half);
+    task = cond (begins e) (details e .task) (x .task);
+    work = cond (begins e) (work-by (x .fate) (details e .task)) (x .work);
+    copiedout = cond (begins e) (details e .out) (x .copiedout);
+    chosen = cond (begins e) NoTask (cond (finishes e || gives-way e) (details e .task) (x .chosen));
+    fate = cond (begins e) 0 (fate-by (x .fate) e);
+    own = cond (begins e) (x .next) (cond (takes e && (details e .mark && x .is-open)) (with-task (details e .task) (x .own)) (x .own));
+    next = cond (begins e) 0 (cond (takes e && (details e .mark && not (x .is-open))) (with-task (details e .task) (x .next)) (x .next));
+    origins = λ n. origin-by n (x .origins n) e;
+    decided = cond (ends e) (executes-next x) (x .decided);
+  }
+
+  abbrev pub course : List Event → Course
+  course = after course-by no-course
 
   pub record Proceeds (h : List Event) : Type 0 where
     -- "If no interval is open .. an interval begins"
     pub each-begin : (before after : List Event) (t : ℕ) (r l : MaybeTask) → h ≡ before ++ (Begins t r l ∷ after)
-        → (course before .is-open ≡ false) × (r ≡ executes-next (course before))
+        → (course before .is-open ≡ false) × (r ≡ course before .decided)
     -- "If an interval is open .. it ends"
     pub each-end : (before after : List Event) (t : ℕ) → h ≡ before ++ (Ends t ∷ after) → course before .is-open ≡ true
     -- the choice "is made once an interval": the engine finishes one copy-in in the open interval,

@@ -7,4 +7,5 @@ pub mod Intervals
 pub mod Entries
 pub mod Claim
 pub mod Counting
+pub mod Choosing
 pub mod States

@@ -147,6 +147,23 @@ abbrev pub original : Due → ℕ → ℕ
 original Never t = t
 original (Tick u) t = u
 
+-- of the releases of task n, the tick of the one that waits, and the original tick of the last that was taken
+pub record Origin : Type 0 where
+  pub waits : Due
+  pub since : ℕ
+
+abbrev pub no-origin : Origin
+no-origin = record { waits = Never; since = 0 }
+
+abbrev pub origin-by : ℕ → Origin → Event → Origin
+origin-by n x e =
+    cond (takes e && is-task n (details e .task)) (record { waits = Never; since = original (x .waits) (details e .tick) })
+    (cond (defers e && is-task n (details e .task)) (record { waits = Tick (details e .tick); since = x .since }) x)
+
+-- the original tick of the last release of task n that was taken
+abbrev pub since : List Event → ℕ → ℕ
+since h n = after (origin-by n) no-origin h .since
+
 -- ---- What comes next
 
 -- the intervals that begin, each by the task that it executes

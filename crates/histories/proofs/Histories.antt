@@ -38,7 +38,7 @@ use Rattle.guarantees.proofs.Demand3.{demand-3}
 
 -- what opening and the calls compute with
 unfoldable computed : Unit {0}
-unfolding Words.numberAt Sets.member Sets.below Sets.collect Sets.union Sets.intersection Sets.difference Sets.insert Sets.remove Entries.task-at Entries.release-at Entries.entry-at Head.given
+unfolding Words.numberAt Sets.member Sets.below Sets.collect Sets.union Sets.intersection Sets.difference Sets.insert Sets.remove Entries.task-at Entries.release-at Entries.entry-at
     Head.outside Head.number-refused Head.mark-or-length-refusal Head.task-refusal Head.with-task Head.with-marked Head.behind-head Head.head-from Head.head-of Head.head-alone Order.better
     Order.highest-below Order.highest Order.higher-than Instant.processor-at Instant.copyout-at Instant.ended Instant.completed Instant.without-done Instant.step-a Instant.promoted Instant.blocks
     Instant.counted Instant.close Instant.interval-entry Instant.close-stage Instant.step-b Instant.taken Instant.deferred Instant.skipped Instant.stamped Instant.with-candidates Instant.step-c

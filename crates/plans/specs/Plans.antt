@@ -165,17 +165,21 @@ record-unmarked =
     job 2 4 10 15 1 ++
     interval 14 15 0 none 0 2 none 0 none
 
--- the copy's interval ends at step b of the release's instant, so that it stays: 201 bytes
-unfoldable pub record-interval-over : List ℕ
-record-interval-over =
+-- the copy of 2 stays where task 1 is released so late, or is not higher: 201 bytes
+unfoldable pub loaded-stays : ℕ → List ℕ
+loaded-stays r =
     interval 0 2 0 none 0 none 3 1 none ++
     interval 2 7 1 3 1 none 2 1 none ++
     job 3 0 2 9 0 ++
     interval 7 11 0 2 1 3 1 1 none ++
     job 2 2 7 12 1 ++
     interval 11 14 1 1 1 2 none 0 none ++
-    job 1 7 11 15 1 ++
+    job 1 r 11 15 1 ++
     interval 14 15 0 none 0 1 none 0 none
+
+-- the copy's interval ends at step b of the release's instant
+unfoldable pub record-interval-over : List ℕ
+record-interval-over = loaded-stays 7
 
 -- ---- The rows
 

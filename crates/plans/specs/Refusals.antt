@@ -2,7 +2,7 @@
 use mathlib.Core.List.{List, [], _∷_, _++_}
 use Prim.Native.Nat.{ℕ}
 use Rattle.rules.specs.declared.Call.the-variants.{Instant, Mark}
-use Rattle.plans.specs.Rows.{Row, refused, answered}
+use Rattle.plans.specs.Rows.{Row, recorded, refused, answered}
 use Rattle.plans.specs.Plans.{task, release, tasks}
 
 -- an opening that is refused: its number and its place
@@ -16,7 +16,6 @@ refusals =
     refused (tasks ++ (release 0 1 ++ task 4 4 0 1 1 1)) 1 3 58 ∷
     refused (task 32 1 0 1 1 1) 1 4 0 ∷
     refused (task 1 1 0 1 1 1 ++ task 1 2 0 1 1 1) 1 4 16 ∷
-    refused (task 1 9 0 1 1 1 ++ task 2 9 0 1 1 1) 1 5 16 ∷
     refused (task 1 1 2 1 1 1) 1 6 0 ∷
     refused (task 1 1 0 1 0 1) 1 7 0 ∷
     refused (task 1 1 0 1000001 1 1) 1 7 0 ∷
@@ -28,12 +27,14 @@ refusals =
     refused (tasks ++ (release 0 1 ++ (1 ∷ []))) 1 1 58 ∷
     refused (tasks ++ (release 0 1 ++ task 1 1 2 0 0 0)) 1 3 58 ∷
     refused (task 1 9 0 1 1 1 ++ task 1 9 0 1 1 1) 1 4 16 ∷
-    refused (task 1 9 0 1 1 1 ++ task 2 9 2 1 1 1) 1 5 16 ∷
+    refused (task 1 9 0 1 1 1 ++ task 2 9 2 1 1 1) 1 6 16 ∷
     refused (task 1 9 2 1 0 1) 1 6 0 ∷
     refused (tasks ++ release 1000000001 4) 1 8 48 ∷
     refused (tasks ++ (release 5 2 ++ release 1000000001 4)) 1 8 58 ∷
     refused (tasks ++ (release 1000000000 2 ++ (release 1000000001 1 ++ release 1000000001 1))) 1 10 58 ∷
     refused (tasks ++ (release 1000000000 2 ++ release 1000000000 1)) 1 9 58 ∷
+    -- 6/13: 5 no longer occurs, and its number is kept free
+    recorded (task 1 9 0 1 1 1 ++ task 2 9 0 1 1 1) [] 0 2 ∷
     -- openings
     unopened [] 12 0 ∷
     unopened (2 ∷ []) 2 0 ∷

@@ -1,4 +1,5 @@
--- Every plan, every row on releases that wait, every refusal, every random run and every waveform comes out of the definitions as it must.
+-- Every plan, every row on releases that wait and on desks of equal standing, every refusal, every random run and every waveform comes
+-- out of the definitions as it must.
 use mathlib.Core.Path.{_≡_, refl}
 use mathlib.Core.List.{_++_}
 use Rattle.words.specs.Words
@@ -24,6 +25,8 @@ use Rattle.plans.specs.Plans.{plans}
 use Rattle.plans.specs.Plans
 use Rattle.plans.specs.Waiting.{waiting}
 use Rattle.plans.specs.Waiting
+use Rattle.plans.specs.Desks.{equals}
+use Rattle.plans.specs.Desks
 use Rattle.plans.specs.Refusals.{refusals}
 use Rattle.plans.specs.Refusals
 use Rattle.plans.specs.Runs.{runs}
@@ -31,11 +34,11 @@ use Rattle.plans.specs.Runs
 use Rattle.plans.specs.Waveforms.{waveforms}
 use Rattle.plans.specs.Waveforms
 
-pub table : all-found (plans ++ (waiting ++ (refusals ++ (runs ++ waveforms))))
-    ≡ all-expected (plans ++ (waiting ++ (refusals ++ (runs ++ waveforms))))
+pub table : all-found (plans ++ (waiting ++ (equals ++ (refusals ++ (runs ++ waveforms)))))
+    ≡ all-expected (plans ++ (waiting ++ (equals ++ (refusals ++ (runs ++ waveforms)))))
 unfolding Words.bytesOf Words.numberAt Words.room Words.written Sets.member Sets.below Sets.collect Sets.union Sets.intersection
     Sets.difference Sets.insert Sets.remove Sets.lowestIn Sets.lowest Entries.task-at Entries.release-at Entries.entry-at
-    Entries.job-bytes Entries.choice-bytes Entries.interval-bytes Entries.skipped-bytes Head.given Head.outside Head.number-refused
+    Entries.job-bytes Entries.choice-bytes Entries.interval-bytes Entries.skipped-bytes Head.outside Head.number-refused
     Head.mark-or-length-refusal Head.behind-head Head.task-refusal Table.with-lengths Head.with-task Head.with-marked Head.head-from
     Head.head-of Head.head-alone Order.better Order.highest-below Order.highest Order.higher-than Instant.processor-at
     Instant.copyout-at Instant.ended Instant.completed Instant.without-done Instant.step-a Instant.promoted Instant.blocks
@@ -50,11 +53,14 @@ unfolding Words.bytesOf Words.numberAt Words.room Words.written Sets.member Sets
     Rows.with-put Rows.found Rows.all-found Rows.all-expected Rows.recorded Rows.refused Rows.answered Rows.answered-behind Plans.task
     Plans.release Plans.tasks Plans.two-marked Plans.none Plans.interval Plans.job Plans.skipped Plans.record-A Plans.record-B
     Plans.record-C Plans.record-D Plans.record-E Plans.two-jobs Plans.record-F Plans.record-F′ Plans.record-thrown-out
-    Plans.record-higher-promoted Plans.record-higher-stays Plans.record-unmarked Plans.record-interval-over Plans.plans
+    Plans.record-higher-promoted Plans.record-higher-stays Plans.record-unmarked Plans.loaded-stays Plans.record-interval-over Plans.plans
     Waiting.record-in-its-turn Waiting.record-third-skipped Waiting.record-chosen-at-once Waiting.record-from-the-taking
     Waiting.record-marks Waiting.record-cancels Waiting.record-throws-out Waiting.record-belongs-to-next Waiting.waiting
     Refusals.unopened Refusals.refusals
+    Desks.desks Desks.record-at-one-tick Desks.record-in-turn Desks.record-original-time Desks.record-cancels-nothing
+    Desks.record-throws-out-nothing Desks.record-earlier-promoted Desks.record-lower-number-promoted Desks.record-passes-an-equal
+    Desks.equals
     Runs.runs Lines.digits Lines.decimal Dump.ascii Dump.line Dump.header Dump.wires Dump.wire Dump.all Dump.changed Dump.mark
     Dump.change Dump.changes Dump.dump Samples.samples Samples.samples-of WaveWriting.dumped Rows.drawn Rows.not-drawn Waveforms.lines
-    Waveforms.header Waveforms.dump-A Waveforms.dump-B Waveforms.dump-G Waveforms.waveforms
+    Waveforms.header Waveforms.dump-until Waveforms.dump-A Waveforms.dump-B Waveforms.dump-G Waveforms.waveforms
 table = refl

@@ -25,13 +25,14 @@ header =
     "$enddefinitions $end" ∷
     [])
 
--- plan A: 445 bytes with the header; a line here is what stands under one time mark. Task 2's copy is cancelled at 3
-unfoldable pub dump-A : List ℕ
-dump-A =
+-- plans A and B: 445 bytes with the header; a line here is what stands under one time mark. They differ in the tick from which on task 2 is no
+-- longer copied in
+unfoldable pub dump-until : String → List ℕ
+dump-until tick =
     header ++ lines (
     "#0" ∷ "b11111111 a" ∷ "b00000011 b" ∷ "b11111111 c" ∷ "0d" ∷
     "#2" ∷ "b00000011 a" ∷ "b00000010 b" ∷ "1d" ∷
-    "#3" ∷ "b11111111 b" ∷
+    tick ∷ "b11111111 b" ∷
     "#7" ∷ "b00000001 a" ∷ "b00000011 c" ∷ "0d" ∷
     "#9" ∷ "b00000010 b" ∷ "b11111111 c" ∷
     "#11" ∷ "b11111111 b" ∷
@@ -41,21 +42,13 @@ dump-A =
     "#17" ∷ "b11111111 c" ∷
     [])
 
--- plan B: 445 bytes with the header. Task 2's copy is done at 4, and thrown out
+-- plan A: it is cancelled at 3
+unfoldable pub dump-A : List ℕ
+dump-A = dump-until "#3"
+
+-- plan B: it is done at 4, and thrown out
 unfoldable pub dump-B : List ℕ
-dump-B =
-    header ++ lines (
-    "#0" ∷ "b11111111 a" ∷ "b00000011 b" ∷ "b11111111 c" ∷ "0d" ∷
-    "#2" ∷ "b00000011 a" ∷ "b00000010 b" ∷ "1d" ∷
-    "#4" ∷ "b11111111 b" ∷
-    "#7" ∷ "b00000001 a" ∷ "b00000011 c" ∷ "0d" ∷
-    "#9" ∷ "b00000010 b" ∷ "b11111111 c" ∷
-    "#11" ∷ "b11111111 b" ∷
-    "#12" ∷ "b00000010 a" ∷ "b00000001 c" ∷ "1d" ∷
-    "#13" ∷ "b11111111 c" ∷
-    "#16" ∷ "b11111111 a" ∷ "b00000010 c" ∷ "0d" ∷
-    "#17" ∷ "b11111111 c" ∷
-    [])
+dump-B = dump-until "#4"
 
 -- plan G: 233 bytes with the header: nothing is released
 unfoldable pub dump-G : List ℕ

@@ -9,7 +9,7 @@ use Rattle.sets.proofs.Laws.{by-test}
 use Rattle.words.specs.Words.{numberAt}
 use Rattle.entries.specs.Entries.{task-at, release-at, entry-at, job-at, interval-at, record-entry-at, record-entry-size}
 use Rattle.table.specs.Refusals.{refusal-number}
-use Rattle.table.specs.Head.{no-table, given, outside, number-refused, mark-or-length-refusal, task-refusal, with-task, with-marked, refused, behind-head, head-from, head-of, with-nothing-behind, head-alone}
+use Rattle.table.specs.Head.{no-table, outside, number-refused, mark-or-length-refusal, task-refusal, with-task, with-marked, refused, behind-head, head-from, head-of, with-nothing-behind, head-alone}
 use Rattle.table.proofs.Laws.{at-end, malformed, released, refuses, takes}
 use Rattle.rules.specs.Calls.{opening}
 use Rattle.guarantees.specs.Types.{Table, Head}
@@ -55,8 +55,7 @@ task-low t p =
     let Few : ℕ → Type 0 = λ n. n < 13 in
     let lengths : Bool = outside (p .copyin) || (outside (p .execution) || outside (p .copyout)) in
     either Few (number-refused (t .present) (p .number)) 4 _ (omega arith)
-    (either Few (given 32 t (p .priority)) 5 _ (omega arith)
-    (either Few (ltb 1 (p .mark)) 6 _ (omega arith) (either Few lengths 7 0 (omega arith) (omega arith))))
+    (either Few (ltb 1 (p .mark)) 6 _ (omega arith) (either Few lengths 7 0 (omega arith) (omega arith)))
 
 abbrev HeadLow : Head → Type 0
 HeadLow k = RefusalLow (k .refusal)

@@ -102,8 +102,8 @@ skips-fit (suc k) set t h = both-fit (skipped-entries k set t) _ (skips-fit k se
     go false = tt
 
 -- what is picked from a set is a task below 32
-picked : (priority : List ℕ) (s : ℕ) → TaskFits (highest priority s)
-picked priority s = go (highest priority s) (best priority s)
+picked : (priority : List ℕ) (since : ℕ → ℕ) (s : ℕ) → TaskFits (highest priority since s)
+picked priority since s = go (highest priority since s) (best priority since s)
   where
     go : (p : MaybeTask) → Best priority s p → TaskFits p
     go NoTask b = unfold TaskFits in tt
@@ -149,10 +149,10 @@ module _ (t : ℕ) (now : TimeFits t) where
   b-promoted : (d : State) (i : Interval) (c : CopyIn) → TaskFits (promoted d i c)
   unfolding promoted
   b-promoted d i Unchosen = unfold TaskFits in tt
-  b-promoted d i NoneChosen = picked (d .table .priority) _
+  b-promoted d i NoneChosen = picked (d .table .priority) _ _
   b-promoted d i (Copying n until) = unfold TaskFits in tt
   b-promoted d i (Loaded n) = unfold TaskFits in tt
-  b-promoted d i (Cancelled n fate) = picked (d .table .priority) _
+  b-promoted d i (Cancelled n fate) = picked (d .table .priority) _ _
 
   b-next : (c : CopyIn) (p : MaybeTask) → CopyInFits c → TaskFits p → NextFits (next-of c p)
   b-next c (Task n) h k = k
@@ -246,7 +246,7 @@ module _ (t : ℕ) (now : TimeFits t) where
 
   e-fits : (d : State) → StateFits d → StateFits (step-e d t (d .phase))
   e-fits d h =
-      e-cases StateFits d t h (λ i e s u. e-choose d i _ (picked (d .table .priority) (d .jobs .ready)) h (subst PhaseFits e (h .phase)))
+      e-cases StateFits d t h (λ i e s u. e-choose d i _ (picked (d .table .priority) _ (d .jobs .ready)) h (subst PhaseFits e (h .phase)))
 
   -- g
   g-processor : (table : Table) (next : Next) → NextFits next → ProcessorFits (begin-processor table t next)

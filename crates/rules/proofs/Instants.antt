@@ -41,7 +41,7 @@ module _ (t : ℕ) (k : Kept) (b : Beside) {over : Bool} (h : OverAt (k .codes) 
       none-over c = unfold phase-in is-over in simp c
 
   pub closes-with : (p : ℕ) {e : IntervalEntry} {blocked : List ℕ} {k' : Kept} → Whole k → over ≡ true
-      → PromotedAt (b .priority) (k .sets) (k .codes) p
+      → PromotedAt (b .priority) (b .by-task .release) (k .sets) (k .codes) p
       → CountsAt (b .priority) (k .sets) (k .codes) (b .by-task .blocked) blocked
       → e ≡ entry-with (getD (k .codes) 0 0) t (interval-in (registers-in k)) (as-task p)
       → ClosedAt p k k'
@@ -52,7 +52,7 @@ module _ (t : ℕ) (k : Kept) (b : Beside) {over : Bool} (h : OverAt (k .codes) 
       let now : is-over (phase-in r) ≡ true = sym (h (k .times) (k .sets)) ∙ f in
       let e : step-f (read k b) t ≡ record { state = close (read k b) (interval-in r); done = NoJob; closed = Span (interval-entry (read k b) t (interval-in r)) } =
       closes-at (read k b) t (phase-in r) (interval-in r) (open-in r now) now in
-      let promoted-is = promotes (k .times) (b .columns) (b .by-task) now in
+      let promoted-is = promotes (k .times) (b .columns) (b .by-task .blocked) (b .by-task .waits) now in
       let x = closing (rests now) (with-counts b blocked) w in
       rw e (record {
         whole = x .whole;
@@ -70,7 +70,7 @@ module _ (t : ℕ) (k : Kept) (b : Beside) {over : Bool} (h : OverAt (k .codes) 
       same-entry q = rw q (unfold interval-entry state-in interval-in in refl)
 
   pub closes : (p : ℕ) {e : IntervalEntry} {blocked : List ℕ} {k' : Kept} → Whole k → over ≡ true
-      → PromotedAt (b .priority) (k .sets) (k .codes) p
+      → PromotedAt (b .priority) (b .by-task .release) (k .sets) (k .codes) p
       → CountsAt (b .priority) (k .sets) (k .codes) (b .by-task .blocked) blocked
       → EntryAt t p (k .times) (k .codes) e
       → ClosedAt p k k'

@@ -133,7 +133,7 @@ unfolding choose-if step-e state-in interval-in phase-in
 chosen-later b t k w e f = record { whole = w; state = simp (e, f) }
 
 pub chosen-now : (b : Beside) (t n ready until length : ℕ) (k : Kept) → Whole k
-    → getD (k .codes) 6 0 ≡ 0 → (getD (k .codes) 4 0 ≡ 1 → ⊥) → as-task n ≡ highest (b .priority) (getD (k .sets) 2 0) → n < 32
+    → getD (k .codes) 6 0 ≡ 0 → (getD (k .codes) 4 0 ≡ 1 → ⊥) → as-task n ≡ highest (b .priority) (λ j. getD (b .by-task .release) j 0) (getD (k .sets) 2 0) → n < 32
     → length ≡ copyin-length (b .columns) n → until ≡ later t length → ready ≡ remove n (getD (k .sets) 2 0)
     → Becomes (λ d. step-e d t (d .phase)) k b (kept (set (k .times) 5 until) (set (k .sets) 2 ready) (set (set (k .codes) 6 2) 7 n)) b
 unfolding choose choose-if step-e interval-in phase-in state-in
@@ -144,7 +144,7 @@ chosen-now b t n ready until length =
     })
 
 pub none-chosen : (b : Beside) (t n : ℕ) (k : Kept) → Whole k
-    → getD (k .codes) 6 0 ≡ 0 → (getD (k .codes) 4 0 ≡ 1 → ⊥) → as-task n ≡ highest (b .priority) (getD (k .sets) 2 0) → 32 ≤ n
+    → getD (k .codes) 6 0 ≡ 0 → (getD (k .codes) 4 0 ≡ 1 → ⊥) → as-task n ≡ highest (b .priority) (λ j. getD (b .by-task .release) j 0) (getD (k .sets) 2 0) → 32 ≤ n
     → Becomes (λ d. step-e d t (d .phase)) k b (kept (k .times) (k .sets) (set (k .codes) 6 1)) b
 unfolding choose choose-if step-e interval-in phase-in state-in
 none-chosen b t n =

@@ -6,7 +6,8 @@ use borrow.Author.Tests.{eqb-true}
 use lib.Dec.{eqb}
 use Rattle.sets.specs.Sets.{member, union, difference, intersection}
 use Rattle.sets.proofs.Laws.{none, empty, by-test, clash, ext, united, difference-member, union-small, union-none, intersection-none, difference-small, difference-left, difference-in}
-use Rattle.rules.specs.Order.{highest-below, highest, outranks}
+use lib.ListN.{getD}
+use Rattle.rules.specs.Order.{highest-below, highest, highest-of, outranks}
 use Rattle.rules.specs.Instant.{original, stamped, step-c, cancel, cancel-by, step-d, steps-c-d}
 use Rattle.rules.specs.Registers.{is-held, interval-in, phase-in, arrays, waits, Memory, state-in}
 use Rattle.rules.proofs.ByTask.{stamped-none}
@@ -33,7 +34,7 @@ stays d taken r h =
 
 -- where it holds one, this gives way, or does not
 pub cancels : {by : MaybeTask} {b : Bool} (d : State) (taken : ℕ) (r : Registers)
-    → is-held (r .copyin) ≡ true → by ≡ highest (d .table .priority) (intersection taken (d .marked)) → b ≡ outranks d (r .intask) by
+    → is-held (r .copyin) ≡ true → by ≡ highest-of d (intersection taken (d .marked)) → b ≡ outranks d (r .intask) by
     → step-d d taken (phase-in r) ≡ cancel d (interval-in r) (r .intask) (cond (eqb (r .copyin) 3) 3 2) b
 unfolding cancel-by step-d interval-in phase-in
 cancels d taken r h e q =
@@ -51,21 +52,21 @@ steps d t taken deferred e f = rw (f, e)
 
 -- ---- no release
 
-none-below : (k : ℕ) (priority : List ℕ) → highest-below k priority 0 ≡ NoTask
+none-below : (k : ℕ) (priority : List ℕ) (since : ℕ → ℕ) → highest-below k priority since 0 ≡ NoTask
 unfolding highest-below
-none-below zero priority = refl
-none-below (suc k) priority = rw (none k, none-below k priority)
+none-below zero priority since = refl
+none-below (suc k) priority since = rw (none k, none-below k priority since)
 
-highest-none : (priority : List ℕ) → highest priority 0 ≡ NoTask
+highest-none : (d : State) → highest-of d 0 ≡ NoTask
 unfolding highest
-highest-none priority = none-below 32 priority
+highest-none d = none-below 32 (d .table .priority) (λ k. getD (d .jobs .release) k 0)
 
 none-cancelled-by : (d : State) (i : Interval) (c : CopyIn) → d ≡ cancel-by d 0 i c
 unfolding cancel cancel-by
 none-cancelled-by d i Unchosen = refl
 none-cancelled-by d i NoneChosen = refl
-none-cancelled-by d i (Copying n until) = sym (ap (λ x. cancel d i n 2 (outranks d n x)) (ap (highest (d .table .priority)) (intersection-none (d .marked)) ∙ highest-none (d .table .priority)))
-none-cancelled-by d i (Loaded n) = sym (ap (λ x. cancel d i n 3 (outranks d n x)) (ap (highest (d .table .priority)) (intersection-none (d .marked)) ∙ highest-none (d .table .priority)))
+none-cancelled-by d i (Copying n until) = sym (ap (λ x. cancel d i n 2 (outranks d n x)) (ap (λ s. highest-of d s) (intersection-none (d .marked)) ∙ highest-none d))
+none-cancelled-by d i (Loaded n) = sym (ap (λ x. cancel d i n 3 (outranks d n x)) (ap (λ s. highest-of d s) (intersection-none (d .marked)) ∙ highest-none d))
 none-cancelled-by d i (Cancelled n fate) = refl
 
 none-cancelled : (d : State) (x : Phase) → d ≡ step-d d 0 x

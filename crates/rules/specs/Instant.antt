@@ -302,7 +302,8 @@ held-over (Within i) taken = 0
 -- cancelled and its job is ready again (R3). A marked release that is taken also throws out a lower-priority copy-in that the engine has
 -- already finished in the open interval: its job is ready again, its fate is 3, and the interval counts as cancelled for promotion.
 
--- the copy-in of task n gives way, or stays
+-- the copy-in of task n gives way, or stays: to the highest marked one, of which the priority alone is compared, so that none of equal
+-- priority makes it give way (6/13)
 unfoldable pub cancel : State → Interval → ℕ → ℕ → Bool → State
 cancel d i n fate false = d
 cancel d i n fate true = with-phase (with-ready d (insert n (d .jobs .ready))) (Within (with-copyin i (Cancelled n fate)))

@@ -92,6 +92,12 @@ abbrev pub Step : (State → State) → List ℕ → List ℕ → Kept → Kept 
 Step change priority columns k k' =
     (o : ByTask) → Whole k → Becomes change k (beside priority columns o) k' (beside priority columns o)
 
+-- and where the step goes by the order of jobs, so that it reads the release times
+abbrev pub StepInOrder : (State → State) → List ℕ → List ℕ → List ℕ → Kept → Kept → Type 0
+StepInOrder change priority release columns k k' =
+    (blocked waits : List ℕ) → Whole k
+    → Becomes change k (beside priority columns (by-task release blocked waits)) k' (beside priority columns (by-task release blocked waits))
+
 -- and where the step reads none of what stands beside
 abbrev pub StepAlone : (State → State) → Kept → Kept → Type 0
 StepAlone change k k' = (b : Beside) → Whole k → Becomes change k b k' b

@@ -12,7 +12,7 @@ use Rattle.rules.specs.Blocking.{blockable, CanBlock}
 use Rattle.rules.specs.Instant.{copyin-at, settled, processor-task, copyout-task, copyin-task, copyin-fate, is-over, promoted, resting, awaiting-execution, over, blocks, counted, without-promoted, next-of, awaiting-copyout, processor-at, step-a, step-d, steps-c-d, step-e, begin, step-g, closed-with, entry-with, begin-processor, work-of, wanted, held-over, sooner, copyout-due, copyin-due, due}
 use Rattle.rules.specs.Registers.{as-task, as-next, as-outgoing, as-processor, as-copyout, as-copyin, processor-in, copyin-in, interval-in, phase-in}
 use Rattle.rules.specs.View.{on-processor, processor-until, viewed}
-use Rattle.rules.specs.Kept.{Kept, kept, Whole, ByTask, by-task, Beside, beside, registers-in, read, Becomes, Step, StepAlone, copyout-ends}
+use Rattle.rules.specs.Kept.{Kept, kept, Whole, ByTask, by-task, Beside, beside, registers-in, read, Becomes, Step, StepInOrder, StepAlone, copyout-ends}
 
 -- ---- Order
 
@@ -84,12 +84,12 @@ Settled kind x = (n until : ℕ) → x ≡ settled (as-copyin kind n until)
 abbrev pub OverAt : List ℕ → Bool → Type 0
 OverAt codes x = (times sets : List ℕ) → x ≡ is-over (phase-in (registers-in (kept times sets codes)))
 
-abbrev pub PromotedAt : List ℕ → List ℕ → List ℕ → ℕ → Type 0
-PromotedAt priority sets codes x =
-    (times columns : List ℕ) (o : ByTask)
+abbrev pub PromotedAt : List ℕ → List ℕ → List ℕ → List ℕ → ℕ → Type 0
+PromotedAt priority release sets codes x =
+    (times columns blocked waits : List ℕ)
     → let k : Kept = kept times sets codes in
     is-over (phase-in (registers-in k)) ≡ true
-    → as-task x ≡ promoted (read k (beside priority columns o)) (interval-in (registers-in k)) (copyin-in (registers-in k))
+    → as-task x ≡ promoted (read k (beside priority columns (by-task release blocked waits))) (interval-in (registers-in k)) (copyin-in (registers-in k))
 
 abbrev pub ProcessorTask : ℕ → ℕ → MaybeTask → Type 0
 ProcessorTask kind n x = (start until : ℕ) → x ≡ processor-task (as-processor kind n start until)
@@ -175,10 +175,10 @@ pub record GivenWay (kind x : ℕ) : Type 0 where
   pub is : (n until : ℕ) → as-copyin x n until ≡ Cancelled n (cond (eqb kind 3) 3 2)
   pub stays : eqb x 6 ≡ false
 
-abbrev pub GivesWayAt : ℕ → List ℕ → List ℕ → List ℕ → List ℕ → List ℕ → Type 0
-GivesWayAt taken priority sets codes sets' codes' =
+abbrev pub GivesWayAt : ℕ → List ℕ → List ℕ → List ℕ → List ℕ → List ℕ → List ℕ → Type 0
+GivesWayAt taken priority release sets codes sets' codes' =
     (times columns : List ℕ)
-    → Step (λ d. step-d d taken (d .phase)) priority columns (kept times sets codes) (kept times sets' codes')
+    → StepInOrder (λ d. step-d d taken (d .phase)) priority release columns (kept times sets codes) (kept times sets' codes')
 
 pub record SetsFit (sets : List ℕ) : Type 0 where
   pub pending-fits : getD sets 1 0 < 2 ^ 32
@@ -194,14 +194,14 @@ TakesAt t taken deferred priority sets codes o sets' codes' o' =
 
 -- ---- e
 
-abbrev pub ChosenAt : ℕ → List ℕ → List ℕ → Kept → Kept → Type 0
-ChosenAt t priority columns k k' = Step (λ d. step-e d t (d .phase)) priority columns k k'
+abbrev pub ChosenAt : ℕ → List ℕ → List ℕ → List ℕ → Kept → Kept → Type 0
+ChosenAt t priority release columns k k' = StepInOrder (λ d. step-e d t (d .phase)) priority release columns k k'
 
 -- where n is the highest of the ready, the choice has not been made and the engine is free
 abbrev pub MadeChoice : ℕ → ℕ → List ℕ → Kept → Kept → Type 0
 MadeChoice n t columns k k' =
-    (priority : List ℕ) → as-task n ≡ highest priority (getD (k .sets) 2 0)
-    → getD (k .codes) 6 0 ≡ 0 → (getD (k .codes) 4 0 ≡ 1 → ⊥) → ChosenAt t priority columns k k'
+    (priority release : List ℕ) → as-task n ≡ highest priority (λ j. getD release j 0) (getD (k .sets) 2 0)
+    → getD (k .codes) 6 0 ≡ 0 → (getD (k .codes) 4 0 ≡ 1 → ⊥) → ChosenAt t priority release columns k k'
 
 -- ---- g
 
@@ -229,13 +229,18 @@ next-in k = as-next (getD (k .codes) 1 0) (getD (k .codes) 3 0)
 abbrev pub outgoing-in : Kept → Outgoing
 outgoing-in k = as-outgoing (getD (k .codes) 4 0) (getD (k .codes) 5 0) (getD (k .times) 3 0)
 
--- an interval begins, whether or not one is wanted
-abbrev pub OpenedAt : ℕ → ℕ → List ℕ → List ℕ → Kept → Kept → Type 0
-OpenedAt t taken priority columns k k' =
-    Step (λ d. let b : State = begin d t taken (next-in k) (outgoing-in k) in step-e b t (b .phase)) priority columns k k'
+-- an interval begins, whether or not one is wanted, and its choice is not made yet; and whether the engine is free
+pub record Opened (t taken : ℕ) (b : Beside) (k k' : Kept) (free : Bool) : Type 0 where
+  pub becomes : Becomes (λ d. begin d t taken (next-in k) (outgoing-in k)) k b k' b
+  pub unchosen : getD (k' .codes) 6 0 ≡ 0
+  pub is-free : free ≡ true → getD (k' .codes) 4 0 ≡ 1 → ⊥
+  pub is-busy : free ≡ false → getD (k' .codes) 4 0 ≡ 1
 
-abbrev pub BegunAt : ℕ → ℕ → List ℕ → List ℕ → Kept → Kept → Type 0
-BegunAt t taken priority columns k k' = Step (λ d. step-g d t taken (d .phase)) priority columns k k'
+abbrev pub OpenedAt : ℕ → ℕ → List ℕ → Kept → Kept → Bool → Type 0
+OpenedAt t taken columns k k' x = (priority : List ℕ) (o : ByTask) → Whole k → Opened t taken (beside priority columns o) k k' x
+
+abbrev pub BegunAt : ℕ → ℕ → List ℕ → List ℕ → List ℕ → Kept → Kept → Type 0
+BegunAt t taken priority release columns k k' = StepInOrder (λ d. step-g d t taken (d .phase)) priority release columns k k'
 
 -- ---- The next due time: as a plain number, and whether there is one
 

@@ -1,8 +1,11 @@
-// The order in which jobs go: by priority, where the smaller number is the higher priority.
+// The order in which jobs go: by priority, where the smaller number is the higher priority, then by release time, then by task number.
 use crate::arrays::byte_of;
+use crate::arrays::time_of;
 use crate::codes::NO_TASK;
 ghost use mathlib.Core.Path.{_≡_};
 ghost use mathlib.Core.Bool.{cond};
+ghost use lib.Dec.{eqb, ltb};
+ghost use lib.ListN.{getD};
 ghost use Prim.Native.Nat.{_+_, _<_, min};
 ghost use Rattle.rules.specs.Instant as instant;
 ghost use Rattle.rules.specs.Order as order;
@@ -16,17 +19,30 @@ fn wide(x: u8) -> u32
     x as u32
 }
 
-// The highest-priority task of a set, NO_TASK if there is none. The loop goes from member to member.
-pub fn first(priority: &[u8; 32], set: u32) -> u8
-    ensures { λ r. ⌜ as-task r ≡ order.highest (now (priority .entry)) set ⌝ }
+// Whether task `n` of priority `p` goes before task `best` of priority `least`. The times are looked at only where the priorities are equal.
+fn goes_before(p: u32, n: u8, least: u32, best: u8, release: &[u64; 32]) -> bool
+    ensures { λ x. ⌜ x ≡ cond (eqb p least) (ltb (getD (now (release .entry)) n 0) (getD (now (release .entry)) best 0)) (ltb p least) ⌝ }
 {
-    let mut left = set;
-    let mut best: u8 = NO_TASK;
-    let mut least: u32 = 256;
+    if p == least {
+        return time_of(release, n) < time_of(release, best);
+    }
+    p < least
+}
+
+// The highest task of a set, NO_TASK if there is none. The loop goes from member to member, behind the lowest: most sets have one member or none.
+pub fn first(priority: &[u8; 32], release: &[u64; 32], set: u32) -> u8
+    ensures { λ r. ⌜ as-task r ≡ order.highest (now (priority .entry)) (λ k. getD (now (release .entry)) k 0) set ⌝ }
+{
+    if set == 0 {
+        return NO_TASK;
+    }
+    let mut best = sets::lowest(set);
+    let mut least = wide(priority[best as usize]);
+    let mut left = sets::rest(set);
     while left != 0 {
         let n = sets::lowest(left);
         let p = wide(priority[n as usize]);
-        if p < least {
+        if goes_before(p, n, least, best, release) {
             least = p;
             best = n;
         }

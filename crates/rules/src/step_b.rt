@@ -48,16 +48,17 @@ pub fn is_over(codes: &at::Codes) -> bool
     copyout != codes::COPYING_OUT
 }
 
-// R4, at an interval's end: where the copy-in was cancelled or thrown out, or none was chosen, the highest-priority marked job released
+// R4, at an interval's end: where the copy-in was cancelled or thrown out, or none was chosen, the highest marked job released
 // in the interval and ready is promoted, or NO_TASK.
-pub fn promoted(sets: &at::Sets, codes: &at::Codes, priority: &[u8; 32]) -> u8
-    ensures { λ x. ⌜ PromotedAt (now (priority .entry)) (now (sets .entry)) (now (codes .entry)) x ⌝ }
+pub fn promoted(sets: &at::Sets, codes: &at::Codes, priority: &[u8; 32], release: &[u64; 32]) -> u8
+    ensures { λ x. ⌜ PromotedAt (now (priority .entry)) (now (release .entry)) (now (sets .entry)) (now (codes .entry)) x ⌝ }
 {
     if codes[at::COPYIN] == codes::LOADED {
         return codes::NO_TASK;
     }
     first(
         priority,
+        release,
         sets::intersection(sets[at::CANDIDATES], sets[at::READY]),
     )
 }

@@ -34,15 +34,22 @@ fn given_way(kind: u8) -> u8
     codes::CANCELLED
 }
 
-fn give_way(taken: u32, sets: &mut at::Sets, codes: &mut at::Codes, priority: &[u8; 32])
-    ensures { λ _. ⌜ GivesWayAt taken (now (priority .entry))
+fn give_way(
+    taken: u32,
+    sets: &mut at::Sets,
+    codes: &mut at::Codes,
+    priority: &[u8; 32],
+    release: &[u64; 32],
+)
+    ensures { λ _. ⌜ GivesWayAt taken (now (priority .entry)) (now (release .entry))
         (now (sets .entry)) (now (codes .entry)) (now (sets .exit)) (now (codes .exit)) ⌝ }
 {
     let kind = codes[at::COPYIN];
     if !holds(kind) {
         return;
     }
-    let by = first(priority, sets::intersection(taken, sets[at::MARKED]));
+    let marked = sets::intersection(taken, sets[at::MARKED]);
+    let by = first(priority, release, marked);
     let n = codes[at::INTASK];
     if outranks(priority, by, n) {
         sets[at::READY] = sets::insert(sets[at::READY], n);
@@ -98,5 +105,5 @@ pub fn take_releases(
         sets[at::CANDIDATES],
         sets::intersection(taken, sets[at::MARKED]),
     );
-    give_way(taken, sets, codes, priority);
+    give_way(taken, sets, codes, priority, release);
 }

@@ -1,4 +1,4 @@
-// e. If an interval is open, the engine is free and the choice has not been made, it is made: the highest-priority ready job begins
+// e. If an interval is open, the engine is free and the choice has not been made, it is made: the highest ready job begins
 // copy-in, or none does (R2). It is made once an interval.
 use crate::at;
 use crate::codes;
@@ -37,10 +37,11 @@ pub fn choose(
     times: &mut at::Times,
     sets: &mut at::Sets,
     codes: &mut at::Codes,
-    priority: &[u8; 32],
     columns: &Columns,
+    priority: &[u8; 32],
+    release: &[u64; 32],
 )
-    ensures { λ _. ⌜ ChosenAt t (now (priority .entry)) (now (columns .entry))
+    ensures { λ _. ⌜ ChosenAt t (now (priority .entry)) (now (release .entry)) (now (columns .entry))
         (kept (now (times .entry)) (now (sets .entry)) (now (codes .entry)))
         (kept (now (times .exit)) (now (sets .exit)) (now (codes .exit))) ⌝ }
 {
@@ -50,6 +51,6 @@ pub fn choose(
     if codes[at::COPYOUT] == codes::COPYING_OUT {
         return;
     }
-    let n = first(priority, sets[at::READY]);
+    let n = first(priority, release, sets[at::READY]);
     make_choice(n, t, times, sets, codes, columns);
 }

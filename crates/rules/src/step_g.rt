@@ -61,20 +61,19 @@ fn swapped(half: u8) -> u8
     if half == 0 { 1 } else { 0 }
 }
 
-// `taken` are the releases that belong to the interval. The engine copies out the job executed in the interval before; without one the
-// choice is made now.
+// `taken` are the releases that belong to the interval. The engine copies out the job executed in the interval before; without one it is
+// free, which is the answer.
 fn open_interval(
     t: u64,
     taken: u32,
     times: &mut at::Times,
     sets: &mut at::Sets,
     codes: &mut at::Codes,
-    priority: &[u8; 32],
     columns: &Columns,
-)
-    ensures { λ _. ⌜ OpenedAt t taken (now (priority .entry)) (now (columns .entry))
+) -> bool
+    ensures { λ x. ⌜ OpenedAt t taken (now (columns .entry))
         (kept (now (times .entry)) (now (sets .entry)) (now (codes .entry)))
-        (kept (now (times .exit)) (now (sets .exit)) (now (codes .exit))) ⌝ }
+        (kept (now (times .exit)) (now (sets .exit)) (now (codes .exit))) x ⌝ }
 {
     let work = codes[at::WORK];
     let n = codes[at::TASK];
@@ -90,32 +89,37 @@ fn open_interval(
     set_processor(work, n, t, times, codes, columns);
     if copyout == codes::NO_COPYOUT {
         times[at::OUTUNTIL] = t;
-        let chosen = first(priority, sets[at::READY]);
-        make_choice(chosen, t, times, sets, codes, columns);
-        return;
+        return true;
     }
     let outuntil = later(t, table::copyout_length(columns, out));
     codes[at::COPYOUT] = codes::COPYING_OUT;
     times[at::OUTUNTIL] = outuntil;
+    false
 }
 
+// Where the engine is free the choice is made now.
 pub fn begin_interval(
     t: u64,
     taken: u32,
     times: &mut at::Times,
     sets: &mut at::Sets,
     codes: &mut at::Codes,
-    priority: &[u8; 32],
     columns: &Columns,
+    priority: &[u8; 32],
+    release: &[u64; 32],
 )
-    ensures { λ _. ⌜ BegunAt t taken (now (priority .entry)) (now (columns .entry))
+    ensures { λ _. ⌜ BegunAt t taken (now (priority .entry)) (now (release .entry)) (now (columns .entry))
         (kept (now (times .entry)) (now (sets .entry)) (now (codes .entry)))
         (kept (now (times .exit)) (now (sets .exit)) (now (codes .exit))) ⌝ }
 {
     if codes[at::COPYIN] != codes::NO_INTERVAL {
         return;
     }
-    if is_wanted(sets, codes) {
-        open_interval(t, taken, times, sets, codes, priority, columns);
+    if !is_wanted(sets, codes) {
+        return;
+    }
+    if open_interval(t, taken, times, sets, codes, columns) {
+        let n = first(priority, release, sets[at::READY]);
+        make_choice(n, t, times, sets, codes, columns);
     }
 }

@@ -50,16 +50,16 @@ pub record TestPut (after : Stage) (k' : Kept) (b' : Beside) (at : ℕ) (out : L
   pub state : read k' b' ≡ after .state
   pub puts : Puts at (span-entries (after .closed)) out place out'
 
-abbrev pub EndsBefore : ℕ → ℕ → List ℕ → Kept → List ℕ → List ℕ → ℕ → Kept → List ℕ → List ℕ → Type 0
-EndsBefore t at priority k blocked out place k' blocked' out' =
-    (columns release waits : List ℕ) → Whole k
+abbrev pub EndsBefore : ℕ → ℕ → List ℕ → List ℕ → Kept → List ℕ → List ℕ → ℕ → Kept → List ℕ → List ℕ → Type 0
+EndsBefore t at priority release k blocked out place k' blocked' out' =
+    (columns waits : List ℕ) → Whole k
     → TestPut (step-f (read k (beside priority columns (by-task release blocked waits))) t)
     k' (beside priority columns (by-task release blocked' waits)) at out place out'
 
 -- with the choice of step e before it
-abbrev pub EndsAfter : ℕ → ℕ → List ℕ → List ℕ → Kept → List ℕ → List ℕ → ℕ → Kept → List ℕ → List ℕ → Type 0
-EndsAfter t at priority columns k blocked out place k' blocked' out' =
-    (release waits : List ℕ) → Whole k
+abbrev pub EndsAfter : ℕ → ℕ → List ℕ → List ℕ → List ℕ → Kept → List ℕ → List ℕ → ℕ → Kept → List ℕ → List ℕ → Type 0
+EndsAfter t at priority release columns k blocked out place k' blocked' out' =
+    (waits : List ℕ) → Whole k
     → let d : State = read k (beside priority columns (by-task release blocked waits)) in
     TestPut (step-f (step-e d t (d .phase)) t) k' (beside priority columns (by-task release blocked' waits)) at out place out'
 

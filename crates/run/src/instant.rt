@@ -45,17 +45,18 @@ fn end_before(
     sets: &mut at::Sets,
     codes: &mut at::Codes,
     priority: &[u8; 32],
+    release: &[u64; 32],
     blocked: &mut [u8; 32],
     out: &mut [u8],
     place: usize,
 ) -> usize
     requires { ⌜ place ≤ 1000 ⌝ }
-    ensures { λ x. ⌜ EndsBefore t place (now (priority .entry))
+    ensures { λ x. ⌜ EndsBefore t place (now (priority .entry)) (now (release .entry))
         (kept (now (times .entry)) (now (sets .entry)) (now (codes .entry))) (now (blocked .entry)) (now (out .entry)) x
         (kept (now (times .exit)) (now (sets .exit)) (now (codes .exit))) (now (blocked .exit)) (now (out .exit)) ⌝ }
 {
     if rules::is_over(codes) {
-        let p = rules::promoted(sets, codes, priority);
+        let p = rules::promoted(sets, codes, priority, release);
         rules::count_blocked(sets, codes, priority, blocked);
         let end = interval_at(out, place, rules::interval_entry(t, p, times, codes));
         rules::close(p, times, sets, codes);
@@ -71,22 +72,23 @@ fn end_after<'a>(
     sets: &mut at::Sets,
     codes: &mut at::Codes,
     priority: &'a [u8; 32],
+    release: &[u64; 32],
     columns: &'a Columns,
     blocked: &mut [u8; 32],
     out: &mut [u8],
     place: usize,
 ) -> usize
     requires { ⌜ place ≤ 1000 ⌝ }
-    ensures { λ x. ⌜ EndsAfter t place (now (priority .entry)) (now (columns .entry))
+    ensures { λ x. ⌜ EndsAfter t place (now (priority .entry)) (now (release .entry)) (now (columns .entry))
         (kept (now (times .entry)) (now (sets .entry)) (now (codes .entry))) (now (blocked .entry)) (now (out .entry)) x
         (kept (now (times .exit)) (now (sets .exit)) (now (codes .exit))) (now (blocked .exit)) (now (out .exit)) ⌝ }
 {
     if codes[at::COPYIN] == codes::NO_INTERVAL {
         return place;
     }
-    rules::choose(t, times, sets, codes, priority, columns);
+    rules::choose(t, times, sets, codes, columns, priority, release);
     if rules::is_over(codes) {
-        let p = rules::promoted(sets, codes, priority);
+        let p = rules::promoted(sets, codes, priority, release);
         rules::count_blocked(sets, codes, priority, blocked);
         let end = interval_at(out, place, rules::interval_entry(t, p, times, codes));
         rules::close(p, times, sets, codes);
@@ -130,7 +132,7 @@ pub fn advance<'a>(
     rules::stamp(t, times, sets, codes);
     let done = end_copyout(t, times, sets, codes, release, blocked, out);
     rules::others_end(t, times, codes, columns);
-    let first = end_before(t, times, sets, codes, priority, blocked, out, done);
+    let first = end_before(t, times, sets, codes, priority, release, blocked, out, done);
     let r = rules::released(sets[at::PENDING], sets[at::WAITING], batch.set);
     let skipped = skips_at(out, first, r.skipped, t);
     let held = rules::held_over(codes, r.taken);
@@ -141,12 +143,13 @@ pub fn advance<'a>(
         sets,
         codes,
         priority,
+        release,
         columns,
         blocked,
         out,
         skipped,
     );
-    rules::begin_interval(t, held, times, sets, codes, priority, columns);
+    rules::begin_interval(t, held, times, sets, codes, columns, priority, release);
     Advanced {
         time: t,
         read: batch.read,

@@ -1,21 +1,20 @@
--- `head-from` by cases, one law for each way that a turn of the reading goes, and the search for a priority given before. Assumes nothing.
-use mathlib.Core.Path.{_≡_, refl, sym, ap, _∙_}
-use mathlib.Core.Bool.{Bool, true, false, _&&_, _||_}
+-- `head-from` by cases, one law for each way that a turn of the reading goes. Assumes nothing.
+use mathlib.Core.Path.{_≡_, refl, sym, _∙_}
+use mathlib.Core.Bool.{Bool, true, false, _||_}
 use mathlib.Core.Logic.{_⊎_, inl, inr, ⊎-elim}
 use mathlib.Core.List.{List}
-use Prim.Native.Nat.{ℕ, zero, suc, _+_, _-_, _^_, _≤_, _<_}
-use native.Mathlib.Nat.{not-suc-le-zero}
+use Prim.Native.Nat.{ℕ, zero, suc, _+_, _-_, _≤_, _<_}
 use native.Mathlib.Omega.{arith}
-use borrow.Author.Tests.{eqb-true, eq-eqb, ne-eqb, leb-true, le-leb, leb-false, lt-leb}
+use borrow.Author.Tests.{leb-true, le-leb, leb-false, lt-leb}
 use lib.Dec.{eqb, leb}
-use lib.ListN.{length, getD}
-use Rattle.sets.specs.Sets.{member, remove}
-use Rattle.sets.proofs.Laws.{by-test, clash, none, both, either-left, either-right, remove-in, remove-out, remove-small}
+use lib.ListN.{length}
+use Rattle.sets.specs.Sets.{member}
+use Rattle.sets.proofs.Laws.{by-test, clash, either-right}
 use Rattle.words.specs.Words.{numberAt}
 use Rattle.entries.specs.Entries.{is-release, entry-at, release-at}
 use Rattle.entries.specs.Limits as limits
 use Rattle.table.specs.Types.{TaskParameters, Release, Entry, Malformed, TaskEntry, ReleaseEntry, Table, Head}
-use Rattle.table.specs.Head.{no-table, behind-head, given, number-refused, mark-or-length-refusal, task-refusal, with-task, with-marked, refused-at, read-to, head-from, head-of}
+use Rattle.table.specs.Head.{no-table, behind-head, number-refused, mark-or-length-refusal, task-refusal, with-task, with-marked, refused-at, read-to, head-from, head-of}
 
 -- ---- a turn of the reading
 
@@ -94,56 +93,6 @@ module _ (s : List ℕ) (at : ℕ) (t : Table) (m : ℕ) (rest : Rest s at t m) 
       go zero e q = absurd (omega arith)
       go (suc k) e q = record { fuel = k; enough = omega arith; same = sym (h k) ∙ q }
 
--- ---- the search for a priority given before
-
-given-none : (k : ℕ) (t : Table) (p : ℕ) → ((j : ℕ) → j < k → member j (t .present) ≡ true → getD (t .priority) j 0 ≡ p → ⊥) → given k t p ≡ false
-unfolding given
-given-none zero t p h = refl
-given-none (suc k) t p h =
-    rw (given-none k t p (λ j l. h j (omega arith)))
-    (by-test (member k (t .present))
-    (λ e. rw (e, ne-eqb (getD (t .priority) k 0) p (h k (omega arith) e)))
-    (λ e. rw e))
-
-given-some : (k : ℕ) (t : Table) (p j : ℕ) → j < k → member j (t .present) ≡ true → getD (t .priority) j 0 ≡ p → given k t p ≡ true
-unfolding given
-given-some zero t p j l e h = absurd (not-suc-le-zero l)
-given-some (suc k) t p j l e h =
-    by-test (eqb j k)
-    (λ x. let y : j ≡ k = eqb-true j k x in
-    either-left (member k (t .present) && eqb (getD (t .priority) k 0) p) (given k t p)
-    (both (member k (t .present)) (eqb (getD (t .priority) k 0) p) (rw y at e) (eq-eqb (getD (t .priority) k 0) p (rw y at h))))
-    (λ x. either-right (member k (t .present) && eqb (getD (t .priority) k 0) p) (given k t p)
-    (given-some k t p j (below j k l (λ y. clash (eqb j k) (eq-eqb j k y) x)) e h))
-  where
-    below : (j k : ℕ) → j < suc k → (j ≡ k → ⊥) → j < k
-    below j k l h = omega arith
-
--- the tasks passed do not have the priority, and those left are in the table
-pub record Searched (t : Table) (p left : ℕ) : Type 0 where
-  pub few : left < 2 ^ 32
-  pub within : (k : ℕ) → k < 32 → member k left ≡ true → member k (t .present) ≡ true
-  pub passed : (k : ℕ) → k < 32 → member k (t .present) ≡ true → member k left ≡ false → getD (t .priority) k 0 ≡ p → ⊥
-
-pub searched-none : (t : Table) (p : ℕ) → t .present < 2 ^ 32 → Searched t p (t .present)
-searched-none t p f = record { few = f; within = λ k l h. h; passed = λ k l h g e. clash (member k (t .present)) h g }
-
-pub searched-more : (t : Table) (p left n : ℕ) → (getD (t .priority) n 0 ≡ p → ⊥) → Searched t p left → Searched t p (remove n left)
-searched-more t p left n h s = record {
-  few = remove-small n left;
-  within = λ k l m. s .within k l (remove-out n left k m);
-  passed = λ k l m g e.
-      by-test (eqb k n)
-      (λ x. h (rw (eqb-true k n x) at e))
-      (λ x. by-test (member k left) (λ y. clash (member k (remove n left)) (remove-in n left k l x y) g) (λ y. s .passed k l m y e));
-}
-
-pub searched-all : (t : Table) (p left : ℕ) → left ≡ 0 → Searched t p left → given 32 t p ≡ false
-searched-all t p left e s = given-none 32 t p (λ k l m. s .passed k l m (ap (member k) e ∙ none k))
-
-pub searched-found : (t : Table) (p left n : ℕ) → n < 32 → member n left ≡ true → getD (t .priority) n 0 ≡ p → Searched t p left → given 32 t p ≡ true
-searched-found t p left n l m e s = given-some 32 t p n l (s .within n l m) e
-
 -- ---- the refusals of a task entry, in their order
 
 module _ (t : Table) (p : TaskParameters) where
@@ -151,14 +100,9 @@ module _ (t : Table) (p : TaskParameters) where
   unfolding task-refusal
   number-first e = rw e
 
-  module _ (number : number-refused (t .present) (p .number) ≡ false) where
-    pub priority-next : given 32 t (p .priority) ≡ true → task-refusal t p ≡ 5
-    unfolding task-refusal
-    priority-next e = rw (number, e)
-
-    pub others-last : given 32 t (p .priority) ≡ false → task-refusal t p ≡ mark-or-length-refusal p
-    unfolding task-refusal
-    others-last e = rw (number, e)
+  pub others-last : number-refused (t .present) (p .number) ≡ false → task-refusal t p ≡ mark-or-length-refusal p
+  unfolding task-refusal
+  others-last e = rw e
 
 pub number-small : (present n : ℕ) → number-refused present n ≡ false → n < 32
 unfolding number-refused

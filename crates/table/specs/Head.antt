@@ -1,11 +1,11 @@
 -- The head of an input: the part before its releases, which a file, opening and the reader of records have alike. Its entries are checked
--- one by one, 2, 1, then 4, 5, 6, 7 of a task. It ends at the input's end or at the first release entry, be that whole or cut short: what
+-- one by one, 2, 1, then 4, 6, 7 of a task; 5 is kept free (6/13). It ends at the input's end or at the first release entry, be that whole or cut short: what
 -- comes there is for whoever reads on.
-use mathlib.Core.Bool.{Bool, true, false, cond, _&&_, _||_}
+use mathlib.Core.Bool.{Bool, true, false, cond, _||_}
 use mathlib.Core.List.{List}
 use Prim.Native.Nat.{ℕ, zero, suc, _+_, _*_}
 use lib.Dec.{eqb, ltb, leb}
-use lib.ListN.{length, getD, set, replicate}
+use lib.ListN.{length, set, replicate}
 use Rattle.sets.specs.Sets.{member, insert}
 use Rattle.entries.specs.Entries.{size, is-release, entry-at}
 use Rattle.entries.specs.Limits as limits
@@ -15,11 +15,6 @@ use Rattle.table.specs.Types.{TaskParameters, Malformed, TaskEntry, Rele
 -- the table with no task
 abbrev pub no-table : Table
 no-table = record { present = 0; priority = replicate limits.tasks 0; columns = replicate (3 * limits.tasks) 0 }
-
--- some task below k has the priority p
-unfoldable pub given : ℕ → Table → ℕ → Bool
-given zero t p = false
-given (suc k) t p = (member k (t .present) && eqb (getD (t .priority) k 0) p) || given k t p
 
 -- no length of a phase: outside 1 to the longest
 unfoldable pub outside : ℕ → Bool
@@ -35,9 +30,9 @@ mark-or-length-refusal p =
     cond (ltb 1 (p .mark)) 6
     (cond (outside (p .copyin) || (outside (p .execution) || outside (p .copyout))) 7 0)
 
--- 4 to 7, in this order; 0 is none
+-- 4, 6, 7, in this order; 0 is none
 unfoldable pub task-refusal : Table → TaskParameters → ℕ
-task-refusal t p = cond (number-refused (t .present) (p .number)) 4 (cond (given limits.tasks t (p .priority)) 5 (mark-or-length-refusal p))
+task-refusal t p = cond (number-refused (t .present) (p .number)) 4 (mark-or-length-refusal p)
 
 unfoldable pub with-task : Table → TaskParameters → Table
 unfolding with-lengths

@@ -208,14 +208,6 @@ pub fn head_of(s: &[u8]) -> Head
                 if number_refused(t.present, p.number) {
                     break 'entries refused_at(4, at);
                 }
-                let mut left = t.present;
-                while left != 0 {
-                    let k = sets::lowest(left);
-                    if t.priority[k as usize] == p.priority {
-                        break 'entries refused_at(5, at);
-                    }
-                    left = sets::rest(left);
-                }
                 let n = mark_or_length_refusal(p);
                 if n != 0 {
                     break 'entries refused_at(n, at);

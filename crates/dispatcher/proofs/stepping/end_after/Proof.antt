@@ -11,8 +11,8 @@ use Rattle.dispatcher.proofs.stepping.end_after.Tie as tie
 returns : tie.Need-returns
 returns c =
     let a = c .before .before .args in (
-      λ release waits w.
-          stays-told 2 (none-ends (a .t) (kept (a .times .now) (a .sets .now) (a .codes .now)) (beside (a .priority .now) (a .columns .now) (by-task release (a .blocked .now) waits)) w (c .if1 .taken)),
+      λ waits w.
+          stays-told 2 (none-ends (a .t) (kept (a .times .now) (a .sets .now) (a .codes .now)) (beside (a .priority .now) (a .columns .now) (by-task (a .release .now) (a .blocked .now) waits)) w (c .if1 .taken)),
       omega arith,
     )
 
@@ -23,9 +23,9 @@ returns-2 c =
     let c18 = c12 .before .before .before .before .before .before in
     let c24 = c18 .before .before .before .before .before .before in
     let a = c24 .args in (
-      λ release waits w.
-          let b = beside (a .priority .now) (a .columns .now) (by-task release (a .blocked .now) waits) in
-          let x = c18 .choose .ensures (by-task release (a .blocked .now) waits) w in
+      λ waits w.
+          let b = beside (a .priority .now) (a .columns .now) (by-task (a .release .now) (a .blocked .now) waits) in
+          let x = c18 .choose .ensures (a .blocked .now) waits w in
           closes-told 2 (behind (a .t) (x .state)
           (closes-with (a .t) _ b (c12 .before .before .before .before .is-over .ensures) (c12 .promoted .result) (x .whole) (c12 .before .before .before .if2 .taken)
           (c12 .promoted .ensures) (c8 .count-blocked .ensures) refl (c .close .ensures))) (c .before .before .before .before .tell-interval .ensures (c18 .choose .last .1 .1 .0)),
@@ -35,9 +35,9 @@ returns-2 c =
 returns-3 : tie.Need-returns-3
 returns-3 c =
     let a = c .before .before .before .before .before .before .before .before .before .args in (
-      λ release waits w.
-          let b = beside (a .priority .now) (a .columns .now) (by-task release (a .blocked .now) waits) in
-          let x = c .before .before .before .choose .ensures (by-task release (a .blocked .now) waits) w in
+      λ waits w.
+          let b = beside (a .priority .now) (a .columns .now) (by-task (a .release .now) (a .blocked .now) waits) in
+          let x = c .before .before .before .choose .ensures (a .blocked .now) waits w in
           stays-told 2 (behind (a .t) (x .state) (stays (a .t) _ b (c .before .is-over .ensures) (x .whole) (c .if2 .left))),
       omega arith,
     )

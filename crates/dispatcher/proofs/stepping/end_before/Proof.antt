@@ -14,8 +14,8 @@ returns c =
     let c12 = c8 .before .before .before .before in
     let c18 = c12 .before .before .before .before .before .before in
     let a = c18 .args in (
-      λ columns release waits w.
-          closes-told 1 (closes-with (a .t) (kept (a .times .now) (a .sets .now) (a .codes .now)) (beside (a .priority .now) columns (by-task release (a .blocked .now) waits))
+      λ columns waits w.
+          closes-told 1 (closes-with (a .t) (kept (a .times .now) (a .sets .now) (a .codes .now)) (beside (a .priority .now) columns (by-task (a .release .now) (a .blocked .now) waits))
           (c12 .before .before .before .before .is-over .ensures) (c12 .promoted .result) w (c12 .before .before .before .if1 .taken)
           (c12 .promoted .ensures) (c8 .count-blocked .ensures) refl (c .close .ensures)) (c .before .before .before .before .tell-interval .ensures (a .sets .now)),
       omega arith,
@@ -24,8 +24,8 @@ returns c =
 returns-2 : tie.Need-returns-2
 returns-2 c =
     let a = c .before .before .before .args in (
-      λ columns release waits w.
-          stays-told 1 (stays (a .t) (kept (a .times .now) (a .sets .now) (a .codes .now)) (beside (a .priority .now) columns (by-task release (a .blocked .now) waits)) (c .before .is-over .ensures) w (c .if1 .left)),
+      λ columns waits w.
+          stays-told 1 (stays (a .t) (kept (a .times .now) (a .sets .now) (a .codes .now)) (beside (a .priority .now) columns (by-task (a .release .now) (a .blocked .now) waits)) (c .before .is-over .ensures) w (c .if1 .left)),
       omega arith,
     )
 

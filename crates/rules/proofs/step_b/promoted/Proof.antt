@@ -13,11 +13,11 @@ use Rattle.rules.proofs.step_b.promoted.Tie as tie
 
 returns : tie.Need-returns
 unfolding promoted interval-in state-in
-returns c times columns o h = simp (c .if1 .taken)
+returns c times columns blocked waits h = simp (c .if1 .taken)
 
 returns-2 : tie.Need-returns-2
 unfolding promoted interval-in state-in
-returns-2 c times columns o h =
+returns-2 c times columns blocked waits h =
     let l = c .before .before .before .before in
     let a = l .before .before .args in
     let k = getD (a .codes .now) 6 0 in

@@ -25,7 +25,7 @@ returns c times columns w =
 returns-2 : tie.Need-returns-2
 unfolding steps-c-d
 returns-2 c times columns w =
-    let c5 = c .before .before .before in
+    let c5 = c .before .before .before .before in
     let i = c5 .before in
     let c4 = i .before .before .before in
     let c3 = c4 .before .before in
@@ -38,7 +38,7 @@ returns-2 c times columns w =
     (e .difference .result) (c2 .union2 .result) (c3 .union3 .result) (c4 .union4 .result) (i .intersection .result) (c5 .union5 .result)
     (kept times (a .sets .now) (a .codes .now)) w (e .difference .ensures) (c2 .union2 .ensures) (c3 .union3 .ensures) (c4 .union4 .ensures) (i .intersection .ensures) (c5 .union5 .ensures)
     (k .take .ensures .0) (k .take .ensures .1) (d .defer .ensures) in
-    both m (c .give-way .ensures times columns _ (m .whole))
+    both m (c .give-way .ensures times columns _ _ (m .whole))
 
 pub take-releases-spec : {M : Type 1} → statement M
 take-releases-spec =

@@ -41,14 +41,12 @@ add-turn-requires c κs =
     let a = u .before .before .before .before .before .before .before in
     let l = a .before .before .before .before .before .before .before .before .before .before .before .before in
     let v = l .before .loop in
-    let made = a .advance .ensures in
-    let now = u .shown2 in
     let f = l .before .before .before .before .before .before .before .before .before .before .before .before .before .before in
     let on = u .before .before .before .before .if1 .left in (
-      half-before (v .inv) made,
+      half-before (v .inv) (a .advance .ensures),
       (
-        half-now (v .inv) made (now .result) (now .ensures),
-        (omega (arith, v .inv .few), room (v .inv) made on (now .result) (now .ensures) (l .loop-test .taken) (λ e. f .pre .kept e)),
+        half-now (v .inv) (a .advance .ensures) (u .shown2 .result) (u .shown2 .ensures),
+        (omega (arith, v .inv .few), room (v .inv) (a .advance .ensures) on (u .shown2 .result) (u .shown2 .ensures) (l .loop-test .taken) (λ e. f .pre .kept e)),
       ),
     )
 
