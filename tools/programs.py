@@ -23,6 +23,7 @@ NAMES = ("gateway", "recorder", "reader", "waveform")  # those that a command ru
 CANNOT_WRITE = (errno.EACCES, errno.EPERM, errno.EROFS)
 PIECE = 1 << 16
 STACK = 1 << 20  # bytes, more than any of them takes
+AT_ONCE = "4"  # crates proved at once, on two processors too: `rt` waits for the longest of those that it starts together
 
 
 # What a program is made of.
@@ -102,7 +103,7 @@ def prove(name, held):
     log = ROOT / "target/build.log"
     with open(log, "wb") as said:
         check = subprocess.Popen(["rt", "check", name], cwd=ROOT, stdin=subprocess.DEVNULL, stdout=said, stderr=subprocess.STDOUT,
-                                 pass_fds=(held.fileno(),))
+                                 env={"RT_JOBS": AT_ONCE, **os.environ}, pass_fds=(held.fileno(),))
     follow(check, log)
     if check.returncode != 0:
         raise Trouble(log.read_text(encoding="utf-8", errors="replace") + f"gateway: {name} is not proved, so that it is not run")

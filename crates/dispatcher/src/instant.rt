@@ -6,10 +6,8 @@ use crate::refusing::refusal;
 use crate::stepping::steps;
 use crate::telling::WORDS;
 use rules::Answer;
-use rules::View;
 ghost use mathlib.Core.Path.{_≡_};
 ghost use Rattle.rules.specs.Calls as calls;
-ghost use Rattle.rules.specs.View.{viewed};
 ghost use Rattle.dispatcher.specs.Dispatcher.{state-of, step-of, Answers};
 
 fn served(d: Dispatcher, t: u64, set: u32) -> Step
@@ -63,12 +61,5 @@ impl Dispatcher {
             state: self,
             answer: Answer::Refused(number),
         }
-    }
-
-    // What goes on now.
-    pub fn viewed(self) -> View
-        ensures { λ r. ⌜ r ≡ viewed (state-of self) ⌝ }
-    {
-        rules::viewed(&self.times, &self.sets, &self.codes)
     }
 }

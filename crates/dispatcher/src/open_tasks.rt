@@ -32,7 +32,7 @@ pub fn opened(table: Table, marked: u32) -> Dispatcher
 pub fn open(s: &[u8]) -> Opening
     ensures { λ r. ⌜ opening-of r ≡ calls.opening (now (s .entry)) ⌝ }
 {
-    let head = table::head_alone(s);
+    let head = heads::head_alone(s);
     let table = head.table;
     let refusal = head.refusal;
     Opening {

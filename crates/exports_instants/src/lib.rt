@@ -71,9 +71,9 @@ pub extern "C" fn gateway_now_v3<'a>(
     ensures { λ _. ⌜ Shows (now (times .entry)) (now (sets .entry)) (now (codes .entry))
         (now (ticks .exit)) (now (tasks .exit)) (now (units .exit)) ⌝ }
 {
-    let sets_of = rules::viewed(times, sets, codes);
+    let sets_of = views::viewed(times, sets, codes);
     *tasks = [sets_of.pending, sets_of.waiting, sets_of.marked];
-    rules::show(times, codes, ticks, units);
+    views::show(times, codes, ticks, units);
 }
 
 // A mark call on the dispatcher whose sets are lent: 0, or the number of the refusal.

@@ -41,7 +41,7 @@ fn print_run(input: &[u8], head: Head, out: &mut [u8])
     let mut at = head.end;
     let mut left = limits::BUDGET_MOST;
     while left != 0 {
-        let x = run::next_piece(&input[at..], d, left, &mut entries);
+        let x = pieces::next_piece(&input[at..], d, left, &mut entries);
         let size = x.size;
         if !print_lines(&entries[..size], out) {
             return;

@@ -226,7 +226,7 @@ fn replays(source: Source, list: &[u8], part: Head, size: usize, input: &mut [u8
     let mut left = limits::BUDGET_MOST;
     let mut rest = size;
     while left != 0 {
-        let x = run::next_piece(&list[at..], d, left, &mut made);
+        let x = pieces::next_piece(&list[at..], d, left, &mut made);
         let n = x.size;
         if rest < n {
             return differs(true);

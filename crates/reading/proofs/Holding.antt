@@ -16,8 +16,8 @@ use Rattle.dispatcher.specs.declared.Dispatcher.{Dispatcher}
 use Rattle.dispatcher.specs.Dispatcher.{state-of}
 use Rattle.entries.specs.Entries.{each}
 use Rattle.run.specs.Run.{run, record-entries, record-bytes}
-use Rattle.run.specs.Pieces.{Makes}
-use Rattle.run.proofs.Reaching.{same-slice, front}
+use Rattle.pieces.specs.Pieces.{Makes}
+use Rattle.pieces.proofs.Reaching.{same-slice, front}
 use Rattle.record.specs.Types.{Head, NoRefusal, Piece}
 use Rattle.record.specs.Cursor.{Cursor, Served, Room, start, run-bytes, budget-at}
 use Rattle.record.proofs.Running.{is-start, splits, served-on}

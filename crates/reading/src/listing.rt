@@ -144,7 +144,7 @@ fn read_opened(tasks: &[u8], head: Head, stored: &[u8], out: &mut [u8]) -> Outco
 fn read_checked(tasks: &[u8], stored: &[u8], out: &mut [u8]) -> Outcome
     ensures { λ r. ⌜ Wrote (reading (now (tasks .entry)) (now (stored .entry)) (now (out .entry))) r (now (out .exit)) ⌝ }
 {
-    let head = table::head_alone(tasks);
+    let head = heads::head_alone(tasks);
     let refusal = head.refusal;
     match refusal {
         Refusal::NoRefusal => read_opened(tasks, head, stored, out),

@@ -66,7 +66,7 @@ fn replays(s: &[u8], head: Head, budget: usize, stored: &[u8]) -> bool
     let mut size: usize = 0;
     let mut left = budget;
     while left != 0 {
-        let x = run::next_piece(&s[at..], d, left, &mut made);
+        let x = pieces::next_piece(&s[at..], d, left, &mut made);
         if !goes_on_with(stored, size, &made, x.size) {
             return false;
         }

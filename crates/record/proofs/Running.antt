@@ -20,10 +20,10 @@ use Rattle.dispatcher.specs.Dispatcher.{state-of}
 use Rattle.record.specs.Types.{Release, Head, State, Never, Tick, Piece}
 use Rattle.run.specs.Listed.{releases-at}
 use Rattle.run.specs.Run.{Moment, next-time, record-entries, record-bytes, run, first-time, released-at, released-after}
-use Rattle.run.specs.Pieces.{Leads, Makes}
+use Rattle.pieces.specs.Pieces.{Leads, Makes}
 use Rattle.run.proofs.Listing.{in-part, behind-part}
 use Rattle.run.proofs.Slices.{laid-none, laid-both}
-use Rattle.run.proofs.Reaching.{along, bytes-both, grows, same-slice, reads-on}
+use Rattle.pieces.proofs.Reaching.{along, bytes-both, grows, same-slice, reads-on}
 use Rattle.record.specs.FileClaim.{Feeds, AllServed}
 use Rattle.record.specs.Cursor.{Cursor, start, AllEarly, Served, Room, Ran, RestRoom, RestRan, cursor-of, rest-bytes, run-bytes}
 use Rattle.record.proofs.FileClaim.{not-over}

@@ -2,7 +2,7 @@
 use crate::Outcome;
 use entries::RELEASE_SIZE;
 use entries::limits;
-use run::Piece;
+use pieces::Piece;
 use table::Head;
 use table::Refusal;
 ghost use mathlib.Core.Path.{_≡_};
@@ -36,7 +36,7 @@ fn go_on(s: &[u8], from: Piece, out: &mut [u8], keep: bool) -> usize
     let mut size = from.size;
     let mut left = from.left;
     while left != 0 {
-        let x = run::next_piece(&s[at..], d, left, &mut scratch);
+        let x = pieces::next_piece(&s[at..], d, left, &mut scratch);
         let n = x.size;
         keep_piece(&scratch[..n], out, size, keep);
         size += n;
@@ -56,7 +56,7 @@ fn run_over(s: &[u8], head: Head, budget: usize, out: &mut [u8], keep: bool) -> 
     let read = head.end;
     let state = dispatcher::opened(table, head.marked);
     if keep {
-        let x = run::next_piece(&s[read..], state, budget, out);
+        let x = pieces::next_piece(&s[read..], state, budget, out);
         return go_on(
             s,
             Piece {

@@ -23,7 +23,7 @@ fn write_run(input: &[u8], head: Head, out: &mut [u8])
     let mut at = head.end;
     let mut left = limits::BUDGET_MOST;
     while left != 0 {
-        let x = run::next_piece(&input[at..], d, left, out);
+        let x = pieces::next_piece(&input[at..], d, left, out);
         if !streams::write_front(b"recorder", out, x.size) {
             return;
         }

@@ -11,4 +11,3 @@ pub mod Cut
 pub mod Releases
 pub mod Kept
 pub mod Instants
-pub mod Views

@@ -13,4 +13,3 @@ pub mod Answers
 pub mod Entries
 pub mod View
 pub mod Steps
-pub mod Showing

@@ -1,17 +1,15 @@
 -- What each step over lent arrays promises: the rules' step of the state that was read before, whatever stands in the arrays that it is
 -- not lent.
-use Rattle.rules.specs.Types.{Bool, true, false, cond, List, ℕ, _-_, _^_, _<_, _≤_, _≡_, _⊎_, MaybeTask, NoTask, Table, Cancelled, Interval, Within, Next, Outgoing, State, Stage, Closed, Job, Due, Never, Tick, JobEntry, IntervalEntry, View}
+use Rattle.rules.specs.Types.{Bool, true, false, cond, List, ℕ, _-_, _^_, _<_, _≤_, _≡_, _⊎_, MaybeTask, Table, Cancelled, Interval, Within, Next, Outgoing, State, Stage, Closed, Job, Due, Never, Tick, JobEntry, IntervalEntry}
 use mathlib.Core.Logic.{_↔_}
 use lib.Dec.{eqb}
 use lib.ListN.{getD, set}
 use Rattle.sets.specs.Sets.{member}
-use Rattle.entries.specs.Entries.{task-byte}
 use Rattle.rules.specs.With.{at-clock}
 use Rattle.rules.specs.Order.{highest, outranks}
 use Rattle.rules.specs.Blocking.{blockable, CanBlock}
 use Rattle.rules.specs.Instant.{copyin-at, settled, processor-task, copyout-task, copyin-task, copyin-fate, is-over, promoted, resting, awaiting-execution, over, blocks, counted, without-promoted, next-of, awaiting-copyout, processor-at, step-a, step-d, steps-c-d, step-e, begin, step-g, closed-with, entry-with, begin-processor, work-of, wanted, held-over, sooner, copyout-due, copyin-due, due}
 use Rattle.rules.specs.Registers.{as-task, as-next, as-outgoing, as-processor, as-copyout, as-copyin, processor-in, copyin-in, interval-in, phase-in}
-use Rattle.rules.specs.View.{on-processor, processor-until, viewed}
 use Rattle.rules.specs.Kept.{Kept, kept, Whole, ByTask, by-task, Beside, beside, registers-in, read, Becomes, Step, StepInOrder, StepAlone, copyout-ends}
 
 -- ---- Order
@@ -273,21 +271,3 @@ pub record IsDue (x : Bool) (d : Due) : Type 0 where
 
 abbrev pub SomeDue : List ℕ → Bool → Type 0
 SomeDue codes x = (times sets : List ℕ) → IsDue x (due (phase-in (registers-in (kept times sets codes))))
-
--- ---- What goes on now
-
-abbrev pub OnProcessor : ℕ → Bool → Type 0
-OnProcessor kind x =
-    (n start until : ℕ)
-    → (task-byte (on-processor (as-processor kind n start until)) ≡ cond x n (task-byte NoTask))
-    × (processor-until (as-processor kind n start until) ≡ cond x until 0)
-
-abbrev pub ViewedAt : List ℕ → List ℕ → List ℕ → View → Type 0
-ViewedAt times sets codes x = (b : Beside) → x ≡ viewed (read (kept times sets codes) b)
-
--- where none is open, and where one is
-abbrev pub NoneOpen : List ℕ → List ℕ → View → Type 0
-NoneOpen sets codes x = (times : List ℕ) (b : Beside) → getD codes 6 0 ≡ 6 → x ≡ viewed (read (kept times sets codes) b)
-
-abbrev pub OneOpen : List ℕ → List ℕ → List ℕ → View → Type 0
-OneOpen times sets codes x = (b : Beside) → (getD codes 6 0 ≡ 6 → ⊥) → x ≡ viewed (read (kept times sets codes) b)

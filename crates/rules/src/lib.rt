@@ -13,7 +13,6 @@ mod step_d;
 mod step_e;
 mod step_g;
 mod times;
-mod viewing;
 
 pub use blocking::blockable;
 pub use blocking::count_blocked;
@@ -36,8 +35,6 @@ pub use step_c::released;
 pub use step_d::take_releases;
 pub use step_e::choose;
 pub use step_g::begin_interval;
-pub use viewing::show;
-pub use viewing::viewed;
 
 pub enum Done {
     NoJob,

@@ -2,19 +2,24 @@
 -- interval that ends after them. Assumes nothing.
 use mathlib.Core.Path.{_≡_, refl, sym, ap, _∙_, subst}
 use mathlib.Core.List.{List, [], _∷_, _++_, append-nil}
-use Prim.Native.Nat.{ℕ, _+_, _≤_}
+use Prim.Native.Nat.{ℕ, _+_, _-_, _^_, _≤_}
 use native.Mathlib.Omega.{arith}
-use lib.ListN.{length, length-append}
+use lib.ListN.{length, length-append, getD}
 use Rattle.entries.specs.Entries.{interval-bytes, entry-bytes, each, record-entry-size}
 use Rattle.entries.proofs.Each.{each-both, each-one, entry-size}
-use Rattle.rules.specs.Instant.{step-a, step-f, skipped, closing, due, occurred}
+use Rattle.rules.specs.With.{at-clock}
+use Rattle.rules.specs.Instant.{released, taken, deferred, skipped, step-a, step-f, step-g, steps-c-d, closing, due, sooner, occurred}
+use Rattle.rules.specs.Registers.{state-in}
 use Rattle.rules.specs.Entries.{done-entries, skipped-entries, closed-entries, entries}
-use Rattle.rules.specs.Kept.{Kept, Beside, read}
-use Rattle.rules.specs.Steps.{TestedAt}
-use Rattle.rules.proofs.Instants.{step-e-f, Left, occurred-by, once-here}
-use Rattle.run.specs.Types.{State, Stage, Done, NoJob, Job, Closed, NoInterval, Span, Closing, Unclosed, BeforeReleases, AfterReleases, Occurred, JobEntry, IntervalEntry, RecordEntry, JobDone, IntervalEnded}
+use Rattle.rules.specs.Kept.{Kept, Beside, read, Becomes}
+use Rattle.rules.specs.Steps.{Stands, TestedAt, HeldOverAt}
+use Rattle.rules.specs.declared.ReleaseFates.{ReleaseFates}
+use Rattle.rules.proofs.Instants.{step-e-f, Left, left, occurred-by, once-here}
+use Rattle.run.specs.Types.{State, Stage, Done, NoJob, Job, Closed, NoInterval, Span, Closing, Unclosed, BeforeReleases, AfterReleases, Occurred, JobEntry, IntervalEntry, RecordEntry, JobDone, IntervalEnded, Batch, Advanced}
+use Rattle.run.specs.Listed.{releases-at}
+use Rattle.run.specs.Run.{first-time}
 use Rattle.run.specs.Putting.{Puts}
-use Rattle.run.specs.Advance.{span-entries, CopyOutPut, TestPut}
+use Rattle.run.specs.Advance.{Gathered, span-entries, CopyOutPut, TestPut, Steps, Advances}
 use Rattle.run.proofs.Slices.{skips-most, none, both}
 
 -- ---- the job that is done, with its entry
@@ -64,6 +69,45 @@ module _ {new late held : ℕ} {timed a b x f g : State} (d : State) (t set : �
   all-put {skips} {p} {q} {r} {s} {out} {out₁} {out₂} {out₃} {out₄} e w y z v =
       subst (λ (l : List RecordEntry). Puts 0 l out s out₄) (sym (in-order skips e))
       (both 0 _ _ out p out₁ s out₄ w (both p _ _ out₁ q out₂ s out₄ y (both q _ _ out₂ r out₃ s out₄ z v)))
+
+-- ---- where the state is kept: the steps one behind the other
+
+module _ {kt ko ka kb kx kf kg : Kept} {bb bx bf : Beside} {fates : ReleaseFates} {held p q r s : ℕ} {out out₁ out₂ out₃ out₄ : List ℕ}
+    (k : Kept) (b : Beside) (t set : ℕ) where
+  pub composed : Becomes (λ d. at-clock d t) k b kt b
+      → CopyOutPut t kt ko b out p out₁
+      → Becomes (λ d. step-a d t (d .phase) .state) ko b ka b
+      → TestPut (step-f (read ka b) t) kb bb p out₁ q out₂
+      → fates ≡ released (getD (kb .sets) 1 0) (getD (kb .sets) 5 0) set
+      → Puts q (skipped-entries 32 (fates .skipped) t) out₂ r out₃
+      → HeldOverAt (kb .codes) (fates .taken) held
+      → Becomes (λ d. steps-c-d d t (fates .taken) (fates .deferred)) kb bb kx bx
+      → TestPut (step-e-f (read kx bx) t) kf bf r out₃ s out₄
+      → Becomes (λ d. step-g d t held (d .phase)) kf bf kg bf
+      → Steps t set k b out s kg bf out₄
+  unfolding state-in taken deferred skipped
+  composed stamps outs ends tests takes skips holds moves second begins =
+      let fate : (which : ReleaseFates → ℕ) → which fates ≡ which (released (getD (kb .sets) 1 0) (getD (kb .sets) 5 0) set) = λ which. ap which takes in
+      let h : Left (read k b) t set (fates .taken) (fates .deferred) held (read kt b) (read ka b) (read kb bb) (read kx bx) (read kf bf) (read kg bf) =
+      record { timed-is = stamps .state; a-is = ends .state ∙ outs .copies .state; b-is = tests .state; taken-is = fate (λ z. z .taken); deferred-is = fate (λ z. z .deferred); held-is = holds (kb .times) (kb .sets); x-is = moves .state; f-is = second .state; g-is = begins .state } in
+      record {
+        state = left (read k b) t set h;
+        puts = all-put (read k b) t set h (fate (λ z. z .skipped)) (outs .puts) (tests .puts) skips (second .puts);
+      }
+
+-- an instant that is not the last tick, with the releases that were gathered for it
+module _ (rest : List ℕ) (t : ℕ) (g : Batch) (size : ℕ) (k : Kept) (b : Beside) (out : List ℕ) {k' : Kept} {b' : Beside} {out' : List ℕ} where
+  pub advanced : Stands t (sooner (first-time (releases-at rest 0)) (due (read k b .phase))) → (t ≡ 2 ^ 64 - 1 → ⊥) → Gathered rest t g
+      → Steps t (g .set) k b out size k' b' out'
+      → Advances rest k b out (record { time = t; read = g .read; size = size }) k' b' out'
+  advanced next goes gathered steps = record {
+    time-is = next;
+    ended = λ e. absurd (goes e);
+    made = λ e. record {
+      gathered = (g, refl, gathered);
+      steps = subst (λ (i : ℕ). Steps t i k b out size k' b' out') (gathered .set-is) steps;
+    };
+  }
 
 -- ---- what a step leaves at most
 

@@ -3,5 +3,4 @@ pub mod Listing
 pub mod Checking
 pub mod InOrder
 pub mod Advancing
-pub mod Reaching
 pub mod Cut

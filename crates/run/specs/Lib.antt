@@ -4,5 +4,4 @@ pub mod Listed
 pub mod Run
 pub mod Putting
 pub mod Advance
-pub mod Pieces
 pub mod Cut

@@ -102,7 +102,7 @@ pub fn check_file(s: &[u8]) -> Head
     if s.len() == 0 {
         return table::refused(Refusal::Alone(12));
     }
-    let head = table::head_of(s);
+    let head = heads::head_of(s);
     let refusal = head.refusal;
     match refusal {
         Refusal::NoRefusal => check_behind(s, head),

@@ -1,16 +1,13 @@
-// The run of a file, instant by instant.
+// A file checked, and the instants of its run.
 mod check;
 mod instant;
-mod pieces;
 mod putting;
 mod releases;
 
 pub use check::check_behind;
 pub use check::check_file;
-use dispatcher::Dispatcher;
 use entries::Release;
 pub use instant::advance;
-pub use pieces::next_piece;
 
 // The release before the one that is checked.
 pub enum Last {
@@ -24,14 +21,4 @@ pub struct Advanced {
     pub time: u64,
     pub read: usize,
     pub size: usize,
-}
-
-// A piece of a run: the dispatcher that it leaves, how many bytes of the releases were read and of the slice were written, how many
-// instants may still be made, and whether the run has come to its end: then none.
-pub struct Piece {
-    pub state: Dispatcher,
-    pub read: usize,
-    pub size: usize,
-    pub left: usize,
-    pub ended: bool,
 }

@@ -28,17 +28,17 @@ fn write_run(input: &[u8], head: Head)
     let mut entries = [0u8; limits::INSTANT_MOST];
     let table = head.table;
     let mut d = dispatcher::opened(table, head.marked);
-    let mut seen = d.viewed();
+    let mut seen = views::viewed_of(d);
     let mut from = head.end;
     let mut left = limits::BUDGET_MOST;
     let mut begun = false;
     while left != 0 {
-        let x = run::next_piece(&input[from..], d, 1, &mut entries);
+        let x = pieces::next_piece(&input[from..], d, 1, &mut entries);
         if x.ended {
             break;
         }
         d = x.state;
-        let now = d.viewed();
+        let now = views::viewed_of(d);
         if !write_instant(begun, d.times[at::LAST], seen, now) {
             return;
         }

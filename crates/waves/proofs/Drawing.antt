@@ -18,7 +18,7 @@ use Rattle.run.specs.Listed.{releases-at}
 use Rattle.run.specs.Run.{Moment, released-at, next-time, moment, run}
 use Rattle.run.specs.Advance.{Advances}
 use Rattle.run.proofs.Slices.{laid-none, laid-both}
-use Rattle.run.proofs.Reaching.{along, none-before, next-made, steps-made, reads-within, leads-on}
+use Rattle.pieces.proofs.Reaching.{along, none-before, next-made, steps-made, reads-within, leads-on}
 use Rattle.record.specs.Cursor.{Cursor, Served, KeptAt}
 use Rattle.record.proofs.Running.{Fed, fed, behind, comes-early, none-left, over}
 use Rattle.waves.specs.Types.{Shown, Drawn}

@@ -65,7 +65,7 @@ fn keep_piece(piece: &[u8], out: &mut [u8], place: usize, keep: bool)
 fn shown<'a>(times: &'a at::Times, sets: &'a at::Sets, codes: &'a at::Codes) -> Shown
     ensures { λ x. ⌜ SeenIn (now (times .entry)) (now (sets .entry)) (now (codes .entry)) x ⌝ }
 {
-    let v = rules::viewed(times, sets, codes);
+    let v = views::viewed(times, sets, codes);
     Shown {
         processor: v.processor,
         copyin: v.copyin,

@@ -2,7 +2,7 @@
 use mathlib.Core.Path.{ap, _∙_}
 use mathlib.Core.List.{[], _∷_}
 use Rattle.rules.specs.declared.View.{View}
-use Rattle.rules.specs.Showing.{ticks-of, units-of}
+use Rattle.views.specs.Showing.{ticks-of, units-of}
 use borrow.Author.Needs.{needs}
 use Rattle.exports_instants.proofs.gateway_now_v3.Statement.{statement}
 use Rattle.exports_instants.proofs.gateway_now_v3.Tie as tie

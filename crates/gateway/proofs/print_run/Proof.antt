@@ -4,7 +4,7 @@ use Prim.Native.Nat.{_≤_}
 use native.Mathlib.Omega.{arith}
 use lib.ListN.{length}
 use lib.Seq.{length-take-le}
-use Rattle.run.proofs.Reaching.{moves-on, same-slice, reads-on}
+use Rattle.pieces.proofs.Reaching.{moves-on, same-slice, reads-on}
 use borrow.Author.Needs.{needs}
 use Rattle.gateway.proofs.print_run.Statement.{statement}
 use Rattle.gateway.proofs.print_run.Tie as tie

@@ -5,7 +5,7 @@ use native.Mathlib.Omega.{arith}
 use borrow.Author.Needs.{needs}
 use lib.ListN.{length}
 use lib.Seq.{length-take-le}
-use Rattle.run.proofs.Reaching.{moves-on, same-slice, reads-on}
+use Rattle.pieces.proofs.Reaching.{moves-on, same-slice, reads-on}
 use Rattle.reader.proofs.replays.Statement.{statement}
 use Rattle.reader.proofs.replays.Tie as tie
 

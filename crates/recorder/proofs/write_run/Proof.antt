@@ -3,7 +3,7 @@ use mathlib.Core.Path.{_≡_, refl, _∙_}
 use Prim.Native.Nat.{_≤_}
 use native.Mathlib.Omega.{arith}
 use lib.ListN.{length}
-use Rattle.run.proofs.Reaching.{moves-on, same-slice, reads-on}
+use Rattle.pieces.proofs.Reaching.{moves-on, same-slice, reads-on}
 use borrow.Author.Needs.{needs}
 use Rattle.recorder.proofs.write_run.Statement.{statement}
 use Rattle.recorder.proofs.write_run.Tie as tie

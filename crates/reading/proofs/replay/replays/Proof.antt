@@ -5,7 +5,7 @@ use lib.ListN.{length}
 use borrow.Author.Tests.{not-true, not-false}
 use Rattle.sets.proofs.Laws.{clash}
 use Rattle.dispatcher.specs.Dispatcher.{state-of}
-use Rattle.run.proofs.Reaching.{moves-on, same-slice}
+use Rattle.pieces.proofs.Reaching.{moves-on, same-slice}
 use Rattle.record.specs.Cursor.{run-bytes}
 use Rattle.record.proofs.Running.{within}
 use Rattle.reading.proofs.Holding.{Holding, begins, as-started, ended, whole-piece, differs, reaches, goes-on}

@@ -6,7 +6,7 @@ use lib.ListN.{length}
 use lib.Seq.{length-take-le}
 use Rattle.entries.specs.Entries.{laid}
 use Rattle.dispatcher.specs.Dispatcher.{state-of}
-use Rattle.run.proofs.Reaching.{moves-on, grows, same-slice, front}
+use Rattle.pieces.proofs.Reaching.{moves-on, grows, same-slice, front}
 use Rattle.record.specs.Cursor.{run-bytes}
 use Rattle.record.proofs.Running.{Progress, begins, spent, room, more, within}
 use borrow.Author.Needs.{needs}

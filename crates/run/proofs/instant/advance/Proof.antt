@@ -1,15 +1,11 @@
 -- `run::advance` meets its contract: the next instant's time and releases, and the steps, one behind the other. Assumes nothing.
-use mathlib.Core.Path.{refl, _∙_, ap}
+use mathlib.Core.Path.{refl, _∙_}
 use mathlib.Core.List.{[]}
 use native.Mathlib.Omega.{arith}
-use Rattle.rules.specs.declared.ReleaseFates.{ReleaseFates}
 use Rattle.rules.specs.Registers.{state-in}
-use Rattle.rules.specs.Instant.{taken, deferred, skipped}
-use Rattle.rules.specs.Kept.{kept, by-task, beside, read}
-use Rattle.rules.proofs.Instants.{Left, left}
+use Rattle.rules.specs.Kept.{kept, by-task, beside}
 use Rattle.run.proofs.Slices.{skips-most}
-use Rattle.run.proofs.Advancing.{with-set}
-use Rattle.run.proofs.InOrder.{all-put, job-most, span-place}
+use Rattle.run.proofs.InOrder.{composed, advanced, job-most, span-place}
 use borrow.Author.Needs.{needs}
 use Rattle.run.proofs.instant.advance.Statement.{statement}
 use Rattle.run.proofs.instant.advance.Tie as tie
@@ -61,7 +57,7 @@ same-length c =
     c .before .before .before .before .before .before .out4 .given ∙ c23 .out3 .given ∙ c30 .out2 .given ∙ c42 .out .given
 
 returns-2 : tie.Need-returns-2
-unfolding state-in taken deferred skipped
+unfolding state-in
 returns-2 c =
     let c7 = c .before .before .before .before .before .before .before in
     let c14 = c7 .before .before .before .before .before .before .before in
@@ -74,38 +70,17 @@ returns-2 c =
     let s = c56 .before .before .before .before .before .args in
     let t = c56 .next-tick .result in
     let batch = c50 .before .before .before .before .gather in
-    let o₀ = by-task (s .release .now) (s .blocked .now) (s .waits .now) in
-    let at = c50 .stamp .ensures (beside (s .priority .now) (s .columns .now) o₀) in
+    let k = kept (s .times .now) (s .sets .now) (s .codes .now) in
+    let b = beside (s .priority .now) (s .columns .now) (by-task (s .release .now) (s .blocked .now) (s .waits .now)) in
+    let at = c50 .stamp .ensures b in
     let o = c38 .before .before .before .before .before .end-copyout .ensures (s .priority .now) (s .columns .now) (s .waits .now) (at .whole) in
-    let a = c38 .others-end .ensures (s .priority .now) _ (o .copies .no-more) o₀ (o .copies .whole) in
-    let b = c31 .end-before .ensures (s .columns .now) (s .waits .now) (a .whole) in
-    let x = c14 .take-releases .ensures _ (s .columns .now) (b .whole) in
+    let a = c38 .others-end .ensures (s .priority .now) _ (o .copies .no-more) _ (o .copies .whole) in
+    let e = c31 .end-before .ensures (s .columns .now) (s .waits .now) (a .whole) in
+    let x = c14 .take-releases .ensures _ (s .columns .now) (e .whole) in
     let f = c7 .end-after .ensures _ (x .whole) in
     let g = c .begin-interval .ensures _ _ (f .whole) in
-    let d = read (kept (s .times .now) (s .sets .now) (s .codes .now)) (beside (s .priority .now) (s .columns .now) o₀) in
-    let r = c26 .released .ensures in
-    let h : Left d t (batch .result .set) _ _ _ _ _ _ _ _ _ = record {
-      timed-is = at .state;
-      a-is = a .state ∙ o .copies .state;
-      b-is = b .state;
-      taken-is = ap (λ (z : ReleaseFates). z .taken) r;
-      deferred-is = ap (λ (z : ReleaseFates). z .deferred) r;
-      held-is = c20 .held-over .ensures (c31 .end-before .last .1 .0) (c31 .end-before .last .1 .1 .0);
-      x-is = x .state;
-      f-is = f .state;
-      g-is = g .state;
-    } in
-    record {
-      time-is = c56 .next-tick .ensures (s .sets .now);
-      ended = λ e. absurd (c50 .before .before .before .before .before .if1 .left e);
-      made = λ e. record {
-        gathered = (batch .result, refl, batch .ensures);
-        steps = with-set (batch .ensures .set-is) (record {
-          state = left d t (batch .result .set) h;
-          puts = all-put d t (batch .result .set) h (ap (λ (z : ReleaseFates). z .skipped) r) (o .puts) (b .puts) (c20 .before .before .before .before .skips-at .ensures) (f .puts);
-        });
-      };
-    }
+    advanced (s .rest .now) t (batch .result) (c7 .end-after .result) k b (s .out .now) (c56 .next-tick .ensures (s .sets .now)) (c50 .before .before .before .before .before .if1 .left) (batch .ensures)
+    (composed k b t (batch .result .set) at o a e (c26 .released .ensures) (c20 .before .before .before .before .skips-at .ensures) (c20 .held-over .ensures) x f g)
 
 pub advance-spec : {M : Type 1} → statement M
 advance-spec =

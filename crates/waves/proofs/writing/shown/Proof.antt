@@ -7,7 +7,7 @@ use Rattle.waves.proofs.writing.shown.Statement.{statement}
 use Rattle.waves.proofs.writing.shown.Tie as tie
 use Rattle.waves.proofs.writing.shown.Reads as reads
 use Rattle.waves.proofs.writing.shown.Lts as lts
-use Rattle.rules.proofs.viewed.Reads as viewed-reads
+use Rattle.views.proofs.viewed.Reads as viewed-reads
 
 -- src/writing.rt:36:9
 viewed-requires : tie.Need-viewed-requires
