@@ -8,7 +8,7 @@
 #include <string.h>
 
 /* Of this header, the library, the pkg-config file and the Rust package: it stands here, and the others are held to it. */
-#define GATEWAY_VERSION "0.5.0"
+#define GATEWAY_VERSION "0.6.0"
 
 #ifdef __cplusplus
 extern "C" {
@@ -183,6 +183,8 @@ uint8_t gateway_open_v3(const uint8_t *entries, size_t length, uint64_t *times, 
 uint8_t gateway_instant_v3(uint64_t time, uint32_t set, uint64_t *times, uint32_t *sets, uint8_t *codes, uint64_t *told,
                            const uint8_t *priority, const uint32_t *columns, uint64_t *release, uint8_t *blocked, uint64_t *waits);
 uint8_t gateway_mark_v3(uint32_t *sets, uint8_t task, uint8_t mark);
+uint64_t gateway_longest_interval_v3(const uint32_t *sets, const uint32_t *columns);
+uint64_t gateway_completes_after_v3(const uint32_t *sets, const uint32_t *columns, uint8_t task, uint32_t h);
 void gateway_now_v3(const uint64_t *times, const uint32_t *sets, const uint8_t *codes, uint64_t *ticks, uint32_t *tasks, uint8_t *units);
 
 /* Opens a dispatcher from `length` bytes of task entries. *place is the place of the entry that is refused, and 0 where there is none. */
@@ -252,6 +254,21 @@ static inline uint8_t gateway_mark(gateway_dispatcher *d, uint8_t task, uint8_t 
 static inline void gateway_now(const gateway_dispatcher *d, gateway_view *view)
 {
     gateway_now_v3(d->times, d->sets, d->codes, &view->begin, &view->pending, &view->is_open);
+}
+
+/* A figure to plan on. No interval lasts longer than this many ticks: the larger of the table's greatest L + C and the sum of its greatest L and its
+ * greatest U. */
+static inline uint64_t gateway_longest_interval(const gateway_dispatcher *d)
+{
+    return gateway_longest_interval_v3(d->sets, d->columns);
+}
+
+/* And a job of the task is done at most this many ticks after it was taken, where h other jobs that are not lower in priority execute between its taking and
+ * its own execution: h + 3 such intervals, h + 2 for a task that is latency-sensitive, as it is marked now, and its own U. A release that waits is taken at
+ * the instant at which its task's job is done. */
+static inline uint64_t gateway_completes_after(const gateway_dispatcher *d, uint8_t task, uint32_t h)
+{
+    return gateway_completes_after_v3(d->sets, d->columns, task, h);
 }
 
 #ifdef __cplusplus

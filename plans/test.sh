@@ -26,7 +26,7 @@ for plan in plans/*.plan; do
         ! grep -q "cut: byte $(stat -c %s "$made/cut"): the record ends" "$made/why"; then
         fail "the record of $plan without its last entry is not refused by 18, or not where it ends"
     fi
-    for words in summary "summary --json" picture page "compare --mark 1=0"; do
+    for words in summary "summary --json" figure "figure --json" picture page "compare --mark 1=0"; do
         # shellcheck disable=SC2086
         ./gateway $words "$plan" >"$made/told" || fail "$words $plan does not end well"
         [ -s "$made/told" ] || fail "$words $plan writes nothing"
@@ -39,7 +39,7 @@ for plan in plans/*.plan; do
         grep -q " $start to [0-9]* *execution$" "$made/told" || fail "$plan $task $time starts otherwise"
         passed=$((passed + 1))
     done <"$made/jobs"
-    passed=$((passed + 8))
+    passed=$((passed + 10))
 done
 ./gateway merge plans/a.plan >"$made/merged" && ./gateway run "$made/merged" | diff <(./gateway run) - || fail "plan A merged runs otherwise"
 echo "$((passed + 1)) passed"

@@ -13,8 +13,8 @@ TOKEN = re.compile(
     r"|(?P<sign>\[\]|\+\+|&&|\|\||[≡→×⊎≤<+\-*^∷λ.:=(){};,])")
 
 # Each sign that stands between two parts, from the loosest to the tightest, and whether it joins from the right.
-SIGNS = (("≡", "≤", "<"), ("∷", "++"), ("||",), ("&&",), ("+", "-"), ("*",))
-FROM_THE_RIGHT = ("∷", "++", "||", "&&")
+SIGNS = (("≡", "≤", "<"), ("∷", "++"), ("||",), ("&&",), ("+", "-"), ("*",), ("^",))
+FROM_THE_RIGHT = ("∷", "++", "||", "&&", "^")
 
 
 class Unread(Exception):

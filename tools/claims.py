@@ -42,15 +42,16 @@ def at(values, index, missing=0):
 
 OPERATIONS = {
     "≡": lambda a, b: a == b, "≤": lambda a, b: a <= b, "<": lambda a, b: a < b, "+": lambda a, b: a + b,
-    "-": lambda a, b: max(0, a - b), "*": lambda a, b: a * b, "∷": lambda a, b: ("∷", a, b), "++": joined}
+    "-": lambda a, b: max(0, a - b), "*": lambda a, b: a * b, "^": lambda a, b: a ** b, "∷": lambda a, b: ("∷", a, b), "++": joined}
 
 # What lower crates define, with how many arguments each has.
 GIVEN = {
     "eqb": (2, lambda a, b: a == b), "ltb": (2, lambda a, b: a < b), "leb": (2, lambda a, b: a <= b), "not": (1, lambda a: not a),
     "bit": (1, int), "size": (1, lambda s: s.bit_count()), "member": (2, lambda n, s: bool(s >> n & 1)),
     "insert": (2, lambda n, s: s | 1 << n),
-    "length": (1, lambda l: len(unlisted(l))),
+    "length": (1, lambda l: len(unlisted(l))), "min": (2, min), "max": (2, max),
     "getD": (3, at), "replicate": (2, lambda n, value: listed([value] * n)), "take": (2, lambda n, l: listed(unlisted(l)[:n])),
+    "drop": (2, lambda n, l: listed(unlisted(l)[n:])),
     "copyin-length": (2, at), "execution-length": (2, lambda c, n: at(c, TASKS + n)),
     "copyout-length": (2, lambda c, n: at(c, 2 * TASKS + n))}
 
@@ -168,7 +169,9 @@ class Claims:
     def matches(self, pattern, value, unknown, bound):
         """Each way in which a pattern is a value; of a term with unknowns only those are bound, and `bound` has all else."""
         kind = pattern[0]
-        if kind == "var" and (is_variable(pattern[1]) if unknown is None else pattern[1] in unknown - set(bound)):
+        if unknown is None and isinstance(value, int) and numeral(pattern):
+            yield from self.counted(pattern, value, bound)
+        elif kind == "var" and (is_variable(pattern[1]) if unknown is None else pattern[1] in unknown - set(bound)):
             yield {**bound, pattern[1]: value}
         elif unknown is not None and not names_in(pattern) & unknown - set(bound):
             if self.value(pattern, bound) == value:
@@ -184,6 +187,14 @@ class Claims:
                 yield from self.parts_match(pattern[2], value[1:], unknown, bound)
         elif value == (self.named(pattern[1], {}) if kind == "var" else pattern[1]):
             yield bound
+
+    def counted(self, pattern, value, bound):
+        """A number as none or one more than another."""
+        if pattern[0] == "var":
+            if value == 0:
+                yield bound
+        elif value > 0:
+            yield from self.matches(pattern[2][0], value - 1, None, bound)
 
     def parts_match(self, patterns, values, unknown, bound):
         if not patterns:
@@ -281,11 +292,18 @@ class Claims:
 
 def misfits(pattern, value):
     """Whether a pattern is of another variant than a value, seen at once."""
+    if numeral(pattern):
+        return False
     if pattern[0] == "app":
         return value[0] != pattern[1][1]
     if pattern[0] == "var":
         return not is_variable(pattern[1]) and value != (pattern[1],)
     return pattern[:2] == ("op", "∷") and value == EMPTY
+
+
+def numeral(pattern):
+    """Whether a pattern is `zero` or `suc` of another."""
+    return pattern == ("var", "zero") or pattern[0] == "app" and pattern[1] == ("var", "suc")
 
 
 def is_variable(name):

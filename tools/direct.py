@@ -94,6 +94,25 @@ def blockable(a, b, s):
     return task_set(other for other in members(a) if ranks[other] < ranks[task])
 
 
+def numbers(s):
+    """The 96 numbers of a table's columns: the lengths of copy-ins, of executions and of copy-outs."""
+    return [int.from_bytes(s[at:at + 4], "little") for at in range(0, 4 * 96, 4)]
+
+
+def longest(a, s):
+    """M, over the tasks of a (7/13)."""
+    columns, tasks = numbers(s), members(a)
+    both = max((columns[n] + columns[32 + n] for n in tasks), default=0)
+    return max(both, max((columns[n] for n in tasks), default=0) + max((columns[64 + n] for n in tasks), default=0))
+
+
+def completes(a, b, s):
+    """By when a job of the task behind the columns completes, marked or not, where b others go before it; held at 64 bits."""
+    task, marked = s[4 * 96:]
+    own = numbers(s)[64 + task] if task < 32 else 0
+    return number(min((b + (2 if marked else 3)) * longest(a, s) + own, 2**64 - 1))
+
+
 # Arguments: lists of a, b and s.
 
 def some_set(rng):
@@ -153,6 +172,22 @@ def set_and_interval(rng):
             for _ in range(EACH)]
 
 
+def some_length(rng):
+    return rng.choice((0, 1, 2, 1_000_000, 2**32 - 1, rng.randint(1, 1_000_000), rng.randint(1, 9)))
+
+
+def table_and_number(rng):
+    """Columns as tables have them, with a 0 or with a length out of its range in some, a task and a mark."""
+    made = []
+    for _ in range(EACH):
+        few = rng.choice(([1, 2, 3], [1_000_000], [0, 1, 2**32 - 1], None))
+        columns = [rng.choice(few) if few else some_length(rng) for _ in range(96)]
+        task = rng.choice((0, 31, 32, 255, rng.randrange(32)))
+        s = b"".join(value.to_bytes(4, "little") for value in columns) + bytes((task, rng.randrange(2)))
+        made.append((some_set(rng), rng.choice((0, 1, 2, 2**31, 2**32 - 1, rng.getrandbits(32))), s))
+    return made
+
+
 CALLS = (
     Call("say(if sets::contains(a, task) { 1 } else { 0 })", lambda a, b, s: number(int(b in members(a))), set_and_task),
     Call("say(sets::insert(a, task) as u64)", lambda a, b, s: task_set(members(a) | {b}), set_and_task),
@@ -173,9 +208,11 @@ CALLS = (
     Call("say_record_entry(entries::record_entry_at(s, at))", refusal((JOB_DONE, INTERVAL, SKIPPED)), record_and_place),
     Call("say(run::check_file(s).end as u64)", head_end, file_or_not),
     Call("say(blockable(s, a) as u64)", blockable, set_and_interval),
+    Call("say(guarantees::longest_interval(&columns_of(s), a))", lambda a, b, s: number(longest(a, s)), table_and_number),
+    Call("say(guarantees::completes_after(&columns_of(s), a, s[384], s[385] == 1, b))", completes, table_and_number),
 )
 
-NEEDS = ("entries", "record_lines", "rules", "run", "sets", "words", "io", "libc")
+NEEDS = ("entries", "guarantees", "record_lines", "rules", "run", "sets", "words", "io", "libc")
 
 SOURCE = """
 use entries::Entry;
@@ -192,6 +229,16 @@ fn blockable(s: &[u8], present: u32) -> u32 {
         k += 1;
     }
     rules::blockable(s[0], s[1], present, &ranks)
+}
+
+fn columns_of(s: &[u8]) -> [u32; 96] {
+    let mut columns = [0u32; 96];
+    let mut k = 0;
+    while k < 96 {
+        columns[k] = read(s, 4 * k);
+        k += 1;
+    }
+    columns
 }
 
 fn read(s: &[u8], at: usize) -> u32 {

@@ -1,5 +1,7 @@
 """What a run comes to, task by task."""
 
+import csv
+import io
 from statistics import median_low
 
 from sim.dispatcher import COPY_IN_CANCELLED
@@ -68,3 +70,12 @@ def table(heads, rows):
     lines = [heads, *([cell(value) for value in row] for row in rows)]
     widths = [max(len(line[at]) for line in lines) for at in range(len(heads))]
     return "".join("  ".join(f"{word:>{width}}" for word, width in zip(line, widths)) + "\n" for line in lines)
+
+
+def as_csv(columns, rows):
+    """The same comma-separated, with the columns' names in the first line; where the table has a dash nothing stands."""
+    text = io.StringIO()
+    writer = csv.writer(text, lineterminator="\n")
+    writer.writerow(columns)
+    writer.writerows(["" if cell(row[name]) == "-" else cell(row[name]) for name in columns] for row in rows)
+    return text.getvalue()

@@ -16,14 +16,15 @@ from sim.sessions import INSTANT
 from tools.claims import Claims, listed, unlisted
 from tools.happenings import OF_RUNS, Opened, Run
 
-CLAIM = tuple(f"specs/{name}.antt" for name in ("Queries", "Pending", "Releases", "Intervals", "Entries", "Claim", "States"))
+CLAIM = tuple(f"specs/{name}.antt" for name in ("Queries", "Pending", "Releases", "Intervals", "Entries", "Figure", "Claim", "States"))
 HISTORIES = "specs/Histories.antt"
 
 # The fields that are computed: what is left out speaks of the steps within an instant, or only that the empty sets come to an end.
 OF_CLAIM = {"of-the-list", "entries", "with-empty-sets", "nothing-pending", "complete-every-job", "nothing-waits", "waiting-taken"}
 OF_STATES = {"behind", "counts"}
 
-OF_HISTORIES = ("PlansAccepted", "WrongRefused", "OneEntry", "WaitedEntry", "ReleasesRefused", "Marks", "PlanEntries")
+OF_HISTORIES = (
+    "PlansAccepted", "WrongRefused", "FigureTells", "OneEntry", "WaitedEntry", "ReleasesRefused", "Marks", "PlanEntries", "BoundsMet")
 
 RUNS = 18
 CALLS = 9
@@ -42,7 +43,7 @@ def drained(run):
 
 
 def chosen_runs():
-    """Runs that random ones seldom make, with document 01's tasks. In the last three tasks share a priority."""
+    """Runs that random ones seldom make, with document 01's tasks. In three of them tasks share a priority; the last is of one task alone."""
     def run(mark, *instants, priorities=(1, 2, 3), second=0, whole=True):
         one, two, three = priorities
         tasks = task_entry(1, one, mark, 2, 3, 1) + task_entry(2, two, second, 2, 4, 1) + task_entry(3, three, 0, 2, 5, 2)
@@ -58,7 +59,8 @@ def chosen_runs():
         run(1, (0, [1]), (2, []), (3, [1]), (4, [1, 2])),  # one waits, one is skipped, and an unmarked one comes where none was chosen
         run(1, (0, [3]), (2, []), (3, [2]), (4, [1]), priorities=(1, 1, 2), second=1),  # of two marked equals the earlier one is promoted
         run(0, (0, [1, 2, 3]), priorities=(1, 1, 1)),  # equals go by number, and the last one meets one in its second and third interval
-        run(0, (0, [2]), (1, [2]), (2, []), (3, [1]), priorities=(1, 1, 2))]  # one that waited goes before an equal that was taken earlier
+        run(0, (0, [2]), (1, [2]), (2, []), (3, [1]), priorities=(1, 1, 2)),  # one that waited goes before an equal that was taken earlier
+        drained(Run(task_entry(1, 1, 0, 2, 2, 2), [("Instant", 0, 2), ("Instant", 1, 2)]))]  # one that waited completes late
 
 
 @functools.cache

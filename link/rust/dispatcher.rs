@@ -36,6 +36,10 @@ mod raw {
 
         pub fn gateway_mark_v3(sets: &mut [u32; 6], task: u8, mark: u8) -> u8;
 
+        pub fn gateway_longest_interval_v3(sets: &[u32; 6], columns: &[u32; 96]) -> u64;
+
+        pub fn gateway_completes_after_v3(sets: &[u32; 6], columns: &[u32; 96], task: u8, h: u32) -> u64;
+
         pub fn gateway_now_v3(
             times: &[u64; 7],
             sets: &[u32; 6],
@@ -285,6 +289,20 @@ impl Dispatcher {
     pub fn now_into(&self, shown: &mut Shown) {
         // As above.
         unsafe { raw::gateway_now_v3(&self.times, &self.sets, &self.codes, &mut shown.ticks, &mut shown.tasks, &mut shown.units) }
+    }
+
+    /// A figure to plan on: no interval lasts longer than this many ticks. It is the larger of the table's greatest L + C and the sum of its greatest L
+    /// and its greatest U.
+    pub fn longest_interval(&self) -> u64 {
+        // As above.
+        unsafe { raw::gateway_longest_interval_v3(&self.sets, &self.columns) }
+    }
+
+    /// By how many ticks after its taking a job of the task is done at the latest, where `h` other jobs that are not lower in priority execute between its
+    /// taking and its own execution; by the mark that the task has now.
+    pub fn completes_after(&self, task: u8, h: u32) -> u64 {
+        // As above.
+        unsafe { raw::gateway_completes_after_v3(&self.sets, &self.columns, task, h) }
     }
 
     /// The tasks that are latency-sensitive now.

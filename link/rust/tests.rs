@@ -189,6 +189,16 @@ fn marks() {
     assert_eq!(d.marked(), 1 << 2);
 }
 
+/// M of the plans' tasks is 7, by L and C of task 3. Task 1 is marked.
+#[test]
+fn a_figure_to_plan_on() {
+    let mut d = Dispatcher::open(&plan()).unwrap();
+    assert_eq!(d.longest_interval(), 7);
+    assert_eq!((d.completes_after(1, 0), d.completes_after(2, 0), d.completes_after(2, 1), d.completes_after(3, 0)), (15, 22, 29, 23));
+    d.mark(2, true).unwrap();
+    assert_eq!(d.completes_after(2, 1), 22);
+}
+
 /// What goes on in plan A, tick by tick: at 3 the copy-in of 2 is broken off, at 7 the processor copies in 1 itself.
 #[test]
 fn what_goes_on() {

@@ -1,4 +1,4 @@
-"""What can be said of a whole run from outside: demand 3 and R1 to R6 over the answers alone.
+"""What can be said of a whole run from outside: demand 3, the figure of 7/13 and R1 to R6 over the answers alone.
 
 Nothing here looks into a dispatcher. A history is made of the calls that were served and their answers,
 and must end with nothing due.
@@ -9,6 +9,7 @@ from typing import Optional
 
 from sim.dispatcher import IntervalClosed, JobDone, members
 from sim.table import Task
+from sim.tests import figure
 
 
 @dataclass
@@ -91,6 +92,7 @@ def check(test, history):
     for index, job in executing.items():
         _check_copy_out(test, history, index, job)
         check_order(test, history, index, job)
+    figure.check(test, history)
 
 
 def _check_halves_and_times(test, history):

@@ -36,7 +36,7 @@ class Told(unittest.TestCase):
         pathlib.Path(self.plan).write_text(plan_text(data), encoding="utf-8")
         return gateway("run", self.plan).decode().splitlines()
 
-    def test_why_and_summary(self):
+    def test_why_summary_and_figure(self):
         rng = random.Random(21)
         for _ in range(PLANS):
             jobs = [tuple(map(int, line.split()[1:])) for line in self.random_plan(rng) if line.startswith("J")]
@@ -49,6 +49,17 @@ class Told(unittest.TestCase):
             rows = json.loads(gateway("summary", "--json", self.plan))
             self.assertEqual(sum(row["done"] for row in rows), len(jobs))
             self.assertEqual(max((row["worst_response"] for row in rows if row["done"]), default=0), max((job[3] - job[1] for job in jobs), default=0))
+            self.check_figure(jobs)
+
+    def check_figure(self, jobs):
+        told = json.loads(gateway("figure", "--json", self.plan))
+        self.assertEqual(sum(row["jobs"] for row in told["tasks"]), len(jobs))
+        for row in told["tasks"]:
+            responses = [job[3] - job[1] for job in jobs if job[0] == row["task"]]
+            self.assertEqual(row["worst_response"], max(responses, default=None))
+            if responses:
+                self.assertEqual(row["left"], row["bound"] - row["worst_from_taking"])
+                self.assertGreaterEqual(row["least_left"], 0)
 
     def test_a_small_stack(self):
         """A soft limit below what a program takes is raised for it; where the hard one is too, that is trouble and is said."""
@@ -63,12 +74,13 @@ class Told(unittest.TestCase):
 
     def test_records(self):
         rng = random.Random(22)
-        for _ in range(PLANS):
+        for turn in range(PLANS):
             lines = self.random_plan(rng)
             stored = gateway("record", self.plan)
             pathlib.Path(self.record).write_bytes(stored)
             self.assertEqual(gateway("show", self.record).decode().splitlines(), lines)
-            self.assertEqual(gateway("summary", self.plan), gateway("summary", self.plan, "--record", self.record))
+            name = ("summary", "figure")[turn % 2]
+            self.assertEqual(gateway(name, self.plan), gateway(name, self.plan, "--record", self.record))
             again = gateway("read", self.plan, self.record)
             pathlib.Path(self.plan).write_bytes(again)
             self.assertEqual(gateway("record", self.plan), stored)

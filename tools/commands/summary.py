@@ -5,13 +5,11 @@ the release of a job that had it; the most intervals in which one of its jobs wa
 it was cancelled or thrown out, and how often a job was promoted. Times are in ticks.
 """
 
-import csv
-import io
 import json
 
 from tools import arguments as common
 from tools import output
-from tools.figures import COLUMNS, cell, summary, table
+from tools.figures import COLUMNS, as_csv, summary, table
 from tools.runs import run_of_plan, run_of_record
 
 
@@ -26,14 +24,6 @@ def arguments(parser):
 check = common.check_stored
 
 
-def as_csv(rows):
-    text = io.StringIO()
-    writer = csv.writer(text, lineterminator="\n")
-    writer.writerow(COLUMNS)
-    writer.writerows(["" if cell(row[name]) == "-" else cell(row[name]) for name in COLUMNS] for row in rows)
-    return text.getvalue()
-
-
 def as_table(rows):
     return table(list(COLUMNS.values()), [[row[name] for name in COLUMNS] for row in rows])
 
@@ -42,4 +32,4 @@ def main(given):
     rows = summary(run_of_plan(given.plan) if given.record is None else run_of_record(given.plan, given.record))
     if given.json:
         return output.write_text(json.dumps(rows, indent=1) + "\n")
-    return output.write_text(as_csv(rows) if given.csv else as_table(rows))
+    return output.write_text(as_csv(COLUMNS, rows) if given.csv else as_table(rows))

@@ -8,7 +8,7 @@ import unittest
 
 from tools.tests.house import House
 
-COMMANDS = (("input",), ("record",), ("run",), ("picture",), ("summary",), ("why", "1", "3"))
+COMMANDS = (("input",), ("record",), ("run",), ("picture",), ("summary",), ("figure",), ("why", "1", "3"))
 
 
 class Filters(unittest.TestCase):

@@ -891,7 +891,7 @@ class Documents(unittest.TestCase):
     def test_what_is_told_in_the_documents(self):
         desks = (ROOT / "docs/DESKS.md").read_text(encoding="utf-8")
         plan = str(ROOT / "plans/a.plan")
-        for words in (("why", plan, "1", "3"), ("summary", plan)):
+        for words in (("why", plan, "1", "3"), ("summary", plan), ("figure", plan)):
             told = gateway(*words)[1].decode()
             self.assertIn("\n\n" + "".join(f"    {line}".rstrip() + "\n" for line in told.splitlines()) + "\n", desks)
 

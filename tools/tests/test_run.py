@@ -131,7 +131,7 @@ class Words(Housed):
     def test_help_lists_every_command(self):
         status, printed, said = self.house.run("--help")
         self.assertEqual((status, said), (0, ""))
-        for name in ("run", "record", "read", "show", "why", "summary", "compare", "picture", "page", "merge", "input", "build"):
+        for name in ("run", "record", "read", "show", "why", "summary", "figure", "compare", "picture", "page", "merge", "input", "build"):
             self.assertRegex(printed, rf"(?m)^  {name} +\S")
             status, more, said = self.house.run(name, "--help")
             self.assertEqual((status, said), (0, ""), name)
@@ -146,7 +146,8 @@ class Words(Housed):
 
     def test_words_too_many_or_too_few(self):
         for words in (("run", "a.plan", "b.plan"), ("record",), ("read", "a.plan"), ("why", "a.plan", "1"), ("summary",), ("compare", "a.plan"),
-                      ("compare", "a.plan", "--mark", "1=2"), ("merge",), ("show",), ("summary", "--csv", "--json", "a.plan"), ("read", "-", "-")):
+                      ("compare", "a.plan", "--mark", "1=2"), ("merge",), ("show",), ("summary", "--csv", "--json", "a.plan"), ("read", "-", "-"),
+                      ("figure",), ("figure", "--csv", "--json", "a.plan"), ("figure", "-", "--record", "-")):
             status, printed, said = self.house.run(*words)
             self.assertEqual((status, printed), (2, ""), words)
             self.assertIn("usage: gateway", said)

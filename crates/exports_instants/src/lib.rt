@@ -9,6 +9,9 @@ use rules::at;
 use table::Columns;
 use table::Refusal;
 ghost use mathlib.Core.Path.{_≡_};
+ghost use lib.ListN.{getD};
+ghost use Rattle.sets.specs.Sets.{member};
+ghost use Rattle.guarantees.specs.Figure.{longest-interval, completes-after};
 ghost use Rattle.rules.specs.Kept.{kept, beside, by-task};
 ghost use Rattle.dispatcher.specs.Dispatcher.{kept-of, beside-of};
 ghost use Rattle.exports_instants.specs.Promises.{Answered, Shows, Marked, OpenedAt};
@@ -74,6 +77,30 @@ pub extern "C" fn gateway_now_v3<'a>(
     let sets_of = views::viewed(times, sets, codes);
     *tasks = [sets_of.pending, sets_of.waiting, sets_of.marked];
     views::show(times, codes, ticks, units);
+}
+
+// 7/13: M, the most that an interval of the dispatcher lasts whose sets and columns are lent.
+#[no_mangle]
+pub extern "C" fn gateway_longest_interval_v3(sets: &at::Sets, columns: &Columns) -> u64
+    ensures { λ r. ⌜ r ≡ longest-interval (getD (now (sets .entry)) 4 0) (now (columns .entry)) ⌝ }
+{
+    guarantees::longest_interval(columns, sets[at::PRESENT])
+}
+
+// 7/13: by how many ticks after its taking a job of the task is done, where h other jobs that are not lower execute between; by the mark
+// that the task has now.
+#[no_mangle]
+pub extern "C" fn gateway_completes_after_v3(
+    sets: &at::Sets,
+    columns: &Columns,
+    task: u8,
+    h: u32,
+) -> u64
+    ensures { λ r. ⌜ r ≡ completes-after (getD (now (sets .entry)) 4 0) (now (columns .entry)) task
+        (member task (getD (now (sets .entry)) 0 0)) h ⌝ }
+{
+    let marked = sets::contains(sets[at::MARKED], task);
+    guarantees::completes_after(columns, sets[at::PRESENT], task, marked, h)
 }
 
 // A mark call on the dispatcher whose sets are lent: 0, or the number of the refusal.

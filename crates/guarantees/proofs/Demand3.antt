@@ -1,5 +1,5 @@
 -- Demand 3: the claim holds of every list of calls.
-use Rattle.guarantees.specs.Types.{_≡_, refl, sym, ap, _∙_, subst, Bool, true, false, List, _∷_, _++_, append-assoc, ℕ, _<_, Table, MaybeTask, NoTask, Task, State, Never, Call}
+use Rattle.guarantees.specs.Types.{_≡_, refl, sym, ap, _∙_, subst, Bool, true, false, List, _∷_, _++_, append-assoc, ℕ, _<_, Table, MaybeTask, NoTask, Task, State, NoRefusal, Never, Call}
 use native.Mathlib.Omega.{arith}
 use lib.ListN.{getD}
 use Rattle.sets.specs.Sets.{member, size}
@@ -11,6 +11,7 @@ use Rattle.guarantees.specs.Queries.{Situation, NoneOpen, situation, int
 use Rattle.guarantees.specs.Pending.{OneAtATime}
 use Rattle.guarantees.specs.Intervals.{no-course}
 use Rattle.guarantees.specs.Entries.{all-occurred, closed}
+use Rattle.guarantees.specs.Figure.{PlainFigure}
 use Rattle.guarantees.specs.Claim.{Lower, NotLower, InOrder, Holds, TakenLater, AllCompleted, Claim, Demand3}
 use Rattle.guarantees.proofs.Proper.{Fair, Opens, opens}
 use Rattle.guarantees.proofs.Walk.{after-append, history-append}
@@ -32,6 +33,8 @@ use Rattle.guarantees.proofs.Marks.{taken-marked}
 use Rattle.guarantees.proofs.Fates.{balanced as releases-balanced, placed}
 use Rattle.guarantees.proofs.Turns.{one-at-a-time, in-time, resumed-in}
 use Rattle.guarantees.proofs.Turning.{turns}
+use Rattle.guarantees.proofs.Lasts.{lasts}
+use Rattle.guarantees.proofs.Figure.{plain-figure, figure}
 use Rattle.guarantees.proofs.Counts.{counts-rise}
 use Rattle.guarantees.proofs.Chosen.{first-come}
 use Rattle.guarantees.proofs.Arithmetic.{plain}
@@ -82,6 +85,8 @@ module _ (table : Table) (marks : ℕ) (fair : Fair table marks) where
     };
     in-time = in-time 0 h (turns table marks fair 0 (omega arith) calls);
     at-most-three = at-most-three table marks calls;
+    figure = figure table h in-turn (copied-out table marks fair calls) (executed table marks fair calls)
+        (λ n l. turns table marks fair n l calls) (λ n l. lasts table marks fair n l calls) (λ before after n t m e. taken-small (opened table marks) calls before after n t m e);
   }
     where
       h : List Event
@@ -193,3 +198,7 @@ demand-3 bytes e calls =
     let o : Opens (opening bytes .state) = opens bytes e in
     let d : State = opening bytes .state in
     subst (λ (x : State). Claim x calls) (sym (o .fresh)) (claim (d .table) (d .marked) (o .proper .fair) calls)
+
+-- the figure of each table that opening serves
+pub figure-opened : (bytes : List ℕ) → opening bytes .refusal ≡ NoRefusal → PlainFigure (opening bytes .state .table)
+figure-opened bytes e = let d : State = opening bytes .state in plain-figure (d .table) (d .marked) (opens bytes e .proper .fair)

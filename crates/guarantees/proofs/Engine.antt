@@ -183,7 +183,7 @@ module _ (columns : List ℕ) where
     begun-runs t NoTask a = refl
     begun-runs t (Task m) a = (refl, a)
 
-    copied : (t : ℕ) (l : MaybeTask) (es : List Event) → Apart (Task n) l → Leaving columns t (begun-to columns t (Task n) l) es → CopiedOut (copyout-length columns n) n t es
+    pub copied : (t : ℕ) (l : MaybeTask) (es : List Event) → Apart (Task n) l → Leaving columns t (begun-to columns t (Task n) l) es → CopiedOut (copyout-length columns n) n t es
     copied t l es a h = record {
       copyout-begins = λ e x. running es t (begun-to columns t (Task n) l) (begun-runs t l a) h e x .begins;
       copyout-ends = λ e x. running es t (begun-to columns t (Task n) l) (begun-runs t l a) h e x .completes;

@@ -16,6 +16,7 @@ pub mod Settled
 pub mod Times
 pub mod Served
 pub mod Invariant
+pub mod Spans
 pub mod Engine
 pub mod CopyOuts
 pub mod Processing
@@ -33,6 +34,9 @@ pub mod Deferred
 pub mod Origins
 pub mod Turns
 pub mod Turning
+pub mod Lasting
+pub mod Lasts
+pub mod Figure
 pub mod Fates
 pub mod Marks
 pub mod Courses

@@ -69,6 +69,24 @@ module _ (P Q : ℕ → Type 0) (f : (u : ℕ) → P u → Q u) where
   times-map (Between next outgoing) h = tt
   times-map (Within i) h = (processor-map (i .processor) (h .0), copyout-map (i .copyout) (h .1), copyin-map (i .copyin) (h .2))
 
+-- ---- after step d
+
+module _ (present : ℕ) (tasks : present < 4294967296) (t : ℕ) (b : State) (set : ℕ) where
+  pub parted-d : Sub set present → Parted present tasks b (b .phase)
+      → let c : State = step-c b t (taken b set) (deferred b set) in
+      let y : State = step-d c (taken b set) (c .phase) in Parted present tasks y (y .phase)
+  parted-d g k =
+      let c : State = step-c b t (taken b set) (deferred b set) in
+      Places.d-moves present tasks c (taken b set) (Places.c-takes present tasks b t set g k .parted) .parted
+
+module _ (table : Table) (t : ℕ) (b : State) (set : ℕ) where
+  pub table-d : b .table ≡ table
+      → let c : State = step-c b t (taken b set) (deferred b set) in
+      let y : State = step-d c (taken b set) (c .phase) in y .table ≡ table
+  table-d x =
+      let c : State = step-c b t (taken b set) (deferred b set) in
+      ap (λ (y : Frame). y .table) (d-frame c (taken b set)) ∙ c-table b t (taken b set) (deferred b set) ∙ x
+
 module _ (table : Table) (tasks : table .present < 2 ^ 32) (t : ℕ) (P : ℕ → Type 0) where
   -- what starts at t ends at a time with P
   pub record Starts : Type 0 where
@@ -175,30 +193,15 @@ module _ (table : Table) (tasks : table .present < 2 ^ 32) (t : ℕ) (P : ℕ �
         let ff : State = at-f d t set .state in
         let k0 : Parted pr tasks d0 (d .phase) = record { few = k .few; marks = k .marks; pending = k .pending; ready = k .ready; waits = k .waits; known = k .known; parts = k .parts } in
         let kb : Parted pr tasks b (b .phase) = Places.to-b pr tasks d t k .parted in
-        let ky : Parted pr tasks y (y .phase) = to-y b set f kb in
+        let ky : Parted pr tasks y (y .phase) = parted-d (table .present) tasks t b set f kb in
         let ke : Parted pr tasks e (e .phase) = Places.to-e pr tasks d t set f kb .parted in
         let kf : Parted pr tasks ff (ff .phase) = Places.b-moves pr tasks z t (e .phase) refl ke .parted in
         let hb : Times P (b .phase) = b-times a (a-times d0 (d .phase) refl x k0 h) in
-        let he : Times P (e .phase) = e-times y (to-table b set (table-b d t ∙ x)) (ky .ready) (d-times c (taken-at d t set) (to-c b set hb)) in
+        let he : Times P (e .phase) = e-times y (table-d table t b set (table-b d t ∙ x)) (ky .ready) (d-times c (taken-at d t set) (to-c b set hb)) in
         g-times ff (held-at d t set) (ap (λ (y : Frame). y .table) (b-frame z t) ∙ table-e d t set ∙ x) kf (b-times z he)
       where
         to-c : (b : State) (set : ℕ) → Times P (b .phase) → Times P (step-c b t (taken b set) (deferred b set) .phase)
         to-c b set h = unfold step-c in c-times b (taken b set) (b .phase) h
-
-        to-y : (b : State) (set : ℕ) → Sub set (table .present) → Parted (table .present) tasks b (b .phase)
-            → let c : State = step-c b t (taken b set) (deferred b set) in
-            let y : State = step-d c (taken b set) (c .phase) in Parted (table .present) tasks y (y .phase)
-        to-y b set g k =
-            let taken : ℕ = taken b set in
-            let c : State = step-c b t taken (deferred b set) in
-            Places.d-moves (table .present) tasks c taken (Places.c-takes (table .present) tasks b t set g k .parted) .parted
-
-        to-table : (b : State) (set : ℕ) → b .table ≡ table
-            → let c : State = step-c b t (taken b set) (deferred b set) in
-            let y : State = step-d c (taken b set) (c .phase) in y .table ≡ table
-        to-table b set x =
-            let c : State = step-c b t (taken b set) (deferred b set) in
-            ap (λ (y : Frame). y .table) (d-frame c (taken b set)) ∙ c-table b t (taken b set) (deferred b set) ∙ x
 
 -- ---- an instant at which nothing ends and nothing is taken
 

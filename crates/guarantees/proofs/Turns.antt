@@ -207,6 +207,16 @@ module _ (n : ℕ) where
         resumed between later tick m w refl (e .0 .1 (same-task n) .0) z
         (subst (Turning w) y (subst (λ (b : Bool). Turning (record { now = now before; place = place n before; held = cond b true (waits-in n false before) }) after) (same-task n) (e .1)))
 
+    -- from the taking of a job on: it has been taken, and none waits
+    pub taken-at : (before after : List Event) (t : ℕ) (m : Bool) → h ≡ before ++ (Takes n t m ∷ after)
+        → (v : Due) × Turning (record { now = v; place = 1; held = false }) after
+    unfolding Turning
+    taken-at before after t m x = (
+      now before,
+      subst (λ (b : Bool). Turning (record { now = now before; place = cond b 1 (place n before); held = cond b false (waits-in n false before) }) after) (same-task n)
+          (at-event before (Takes n t m) after x .1),
+    )
+
     timed : (v : View) (e : Event) → May v e → says-tick e ≡ true → v .now ≡ Tick (details e .tick)
     timed v (Comes t) m s = absurd (false≢true s)
     timed v (Starts k t) m s = m

@@ -13,6 +13,7 @@ use Rattle.guarantees.specs.History.{Event, Starts, Stops, Completes, En
 use Rattle.guarantees.specs.Pending.{OneAtATime, InTime}
 use Rattle.guarantees.specs.Intervals.{Proceeds}
 use Rattle.guarantees.specs.Entries.{EntriesTell}
+use Rattle.guarantees.specs.Figure.{PlainFigure, Figure}
 use Rattle.guarantees.specs.Counting.{CountsRise}
 use Rattle.guarantees.specs.Choosing.{FirstCome}
 use Rattle.guarantees.specs.States.{PlainState}
@@ -114,6 +115,8 @@ pub record Holds (table : Table) (history : List Event) : Type 0 where
   -- "Where N jobs were taken, at most 3 × N intervals have begun"; "N is the number of releases taken in
   -- the list", at once or after waiting
   pub at-most-three : total is-begin history ≤ 3 * total is-take history
+  -- 7/13: the intervals of each job, how long an interval lasts, and by when each job completes
+  pub figure : Figure table history
 
 -- a job of task n that was taken, and what occurs from then on: it executes and completes
 pub record Completed (n : ℕ) (after : List Event) : Type 0 where
@@ -184,3 +187,5 @@ pub record OpenedWithClaim (bytes : List ℕ) (r : Opening) : Type 0 where
   pub number : refusal-number (r .refusal) ≡ refusal-number (opening bytes .refusal)
   pub place : refusal-place (r .refusal) ≡ refusal-place (opening bytes .refusal)
   pub claim : r .refusal ≡ NoRefusal → (calls : List Call) → Claim (state-of (r .state)) calls
+  -- 7/13: and its table's figure is plain
+  pub figure : r .refusal ≡ NoRefusal → PlainFigure (state-of (r .state) .table)

@@ -5,6 +5,7 @@ pub mod Pending
 pub mod Releases
 pub mod Intervals
 pub mod Entries
+pub mod Figure
 pub mod Claim
 pub mod Counting
 pub mod Choosing

@@ -1,5 +1,5 @@
 -- The claim accepts the plans' histories, since the theorem gives it of their calls; and each wrong history goes against a line of it.
-use Prim.Native.Nat.{_+_, ℕ, _≤_, _<_}
+use Prim.Native.Nat.{_+_, _*_, ℕ, _≤_, _<_}
 use mathlib.Core.Path.{_≡_, refl, sym, ap, _∙_, subst}
 use mathlib.Core.Bool.{Bool, true, false, cond, _&&_, _||_, true≢false, false≢true}
 use mathlib.Core.List.{List, [], _∷_, _++_}
@@ -25,9 +25,10 @@ use Rattle.guarantees.specs.History
 use Rattle.rules.specs.declared.Call.{Call}
 use Rattle.guarantees.specs.History.{Event, Takes, history, after-calls, EmptySets}
 use Rattle.guarantees.specs.Queries.{details, is-task, takes, completes, after, first, each, total, upto, situation, NoneOpen, waiting, original, taking, start, waited, intervals, completion}
+use Rattle.guarantees.specs.Figure.{greatest, longest-interval, not-lower-in, before-start}
 use Rattle.guarantees.specs.Claim.{Holds, Completed, TakenLater, AllCompleted, Claim, Demand3}
 use Rattle.sets.proofs.Laws.{by-test, same-task}
-use Rattle.histories.specs.Histories.{task, tasks, three, plans-table, Accepts, Refuses, PlansAccepted, WrongRefused, calls-a, history-a, calls-b, history-b, calls-c, history-c, calls-d, history-d, calls-e, history-e, calls-f, history-f, calls-f′, history-f′, calls-waiting, history-waiting, second-lower, second-finished, thrown-out-runs, third-idle, third-lower, copyout-late, four-intervals, copyout-not-at-once, completion-late, completion-missing, completion-unexecuted, begins-late, no-ticks, not-executed, loaded-late, promoted-early, execution-long, promoted-unmarked, starts-unasked, starts-twice, stops-unstarted, cut-short, one-waits, never-taken, two-wait, waited-unexecuted, before-13, before-17, job-1, Tells, OneEntry, WaitedEntry, taken-late, waits-for-nothing, taken-twice, completed-twice, runs-unreleased, executed-again, another-tick, instants-fall, nobody-promoted, promoted-late, promoted-beside-the-loaded, begins-twice, ends-twice, finishes-twice, gives-way-twice, Marks, calls-one, taken-another, up-to-5, ReleasesRefused, PlanEntries}
+use Rattle.histories.specs.Histories.{task, tasks, three, plans-table, Accepts, Refuses, PlansAccepted, WrongRefused, calls-a, history-a, calls-b, history-b, calls-c, history-c, calls-d, history-d, calls-e, history-e, calls-f, history-f, calls-f′, history-f′, calls-waiting, history-waiting, second-lower, second-finished, thrown-out-runs, third-idle, third-lower, copyout-late, four-intervals, copyout-not-at-once, completion-late, completion-missing, completion-unexecuted, begins-late, no-ticks, not-executed, loaded-late, promoted-early, execution-long, promoted-unmarked, starts-unasked, starts-twice, stops-unstarted, cut-short, one-waits, never-taken, two-wait, waited-unexecuted, before-13, before-17, job-1, Tells, OneEntry, WaitedEntry, taken-late, waits-for-nothing, taken-twice, completed-twice, runs-unreleased, executed-again, another-tick, instants-fall, nobody-promoted, promoted-late, promoted-beside-the-loaded, begins-twice, ends-twice, finishes-twice, gives-way-twice, FigureRefuses, FigureTells, unmarked-in-four, marked-in-three, marked-behind-idle, marked-idles, lasts-long, open-long, completes-behind-two, unmarked-late, marked-late, between-unstarted, between-unstopped, Marks, calls-one, taken-another, up-to-5, ReleasesRefused, PlanEntries, waits-between, ends-late, stays-open, calls-unmarked, history-unmarked, BoundsMet}
 use Rattle.guarantees.specs.Intervals.{ended}
 use Rattle.guarantees.specs.Entries.{lower-in, handed-in, marked-by}
 use Rattle.guarantees.specs.Queries.{until}
@@ -332,6 +333,30 @@ unfolding waited-unexecuted first
 refuses-waited-unexecuted h =
     let x : Completed 1 (drop 16 waited-unexecuted) = h .each (take 15 waited-unexecuted) (drop 16 waited-unexecuted) 1 6 true refl in not-never (x .started) (x .starts)
 
+-- M of the plans' tasks
+longest-is : longest-interval (plans-table .present) (plans-table .columns) ≡ 7
+unfolding longest-interval greatest Sets.member plans-table three
+longest-is = refl
+
+refuses-waits-between : Refuses waits-between
+unfolding waits-between first after each upto plans-table three
+refuses-waits-between h =
+    let x : 16 ≤ 0 + 2 * longest-interval (plans-table .present) (plans-table .columns) + 1 =
+    h .figure .each-job (take 1 waits-between) (drop 2 waits-between) 2 0 false refl .completes-within 16 refl in
+    omega (arith, x, longest-is)
+
+refuses-ends-late : Refuses ends-late
+unfolding ends-late after
+refuses-ends-late h =
+    let x : 13 ≤ 5 + longest-interval (plans-table .present) (plans-table .columns) = h .figure .each-end (take 15 ends-late) [] 5 13 refl refl in
+    omega (arith, x, longest-is)
+
+refuses-stays-open : Refuses stays-open
+unfolding stays-open after
+refuses-stays-open h =
+    let x : 13 ≤ 5 + longest-interval (plans-table .present) (plans-table .columns) = h .figure .each-instant (take 14 stays-open) [] 5 13 NoTask refl refl refl in
+    omega (arith, x, longest-is)
+
 pub wrong-refused : WrongRefused
 unfolding WrongRefused
 wrong-refused = (
@@ -374,10 +399,79 @@ wrong-refused = (
   refuses-ends-twice,
   refuses-finishes-twice,
   refuses-gives-way-twice,
+  refuses-waits-between,
+  refuses-ends-late,
+  refuses-stays-open,
   refuses-incomplete,
   refuses-never-taken,
   refuses-late-taking,
   refuses-waited-unexecuted,
+)
+
+-- ---- the figure
+
+refuses-unmarked-in-four : FigureRefuses unmarked-in-four
+unfolding unmarked-in-four after each upto until not-lower-in plans-table three
+refuses-unmarked-in-four h = let l : 4 ≤ 3 = h .each-job (take 1 unmarked-in-four) (drop 2 unmarked-in-four) 2 0 false refl .intervals-at-most in omega arith
+
+refuses-marked-in-three : FigureRefuses marked-in-three
+unfolding marked-in-three after each upto until not-lower-in plans-table three
+refuses-marked-in-three h = let l : 3 ≤ 2 = h .each-job (take 4 marked-in-three) (drop 5 marked-in-three) 1 1 true refl .marked-at-most refl in omega arith
+
+refuses-marked-behind-idle : FigureRefuses marked-behind-idle
+unfolding marked-behind-idle after each upto until not-lower-in plans-table three
+refuses-marked-behind-idle h = let l : 3 ≤ 2 = h .each-job (take 1 marked-behind-idle) (drop 2 marked-behind-idle) 1 0 true refl .marked-at-most refl in omega arith
+
+refuses-marked-idles : FigureRefuses marked-idles
+unfolding marked-idles after each upto plans-table three
+refuses-marked-idles h = false≢true (h .marked-second-on (take 1 marked-idles) (drop 2 marked-idles) 1 0 refl 1 (omega arith) (omega arith))
+
+refuses-lasts-long : FigureRefuses lasts-long
+unfolding lasts-long after longest-interval greatest Sets.member plans-table three
+refuses-lasts-long h = let l : 8 ≤ 7 = h .each-end (take 5 lasts-long) (drop 6 lasts-long) 0 8 refl refl in omega arith
+
+refuses-open-long : FigureRefuses open-long
+unfolding open-long after longest-interval greatest Sets.member plans-table three
+refuses-open-long h = let l : 8 ≤ 7 = h .each-instant (take 3 open-long) (drop 4 open-long) 0 8 NoTask refl refl refl in omega arith
+
+refuses-completes-behind-two : FigureRefuses completes-behind-two
+unfolding completes-behind-two after first each upto until not-lower-in longest-interval greatest Sets.member plans-table three
+refuses-completes-behind-two h =
+    let l : 16 ≤ 15 = h .each-job (take 1 completes-behind-two) (drop 2 completes-behind-two) 2 0 false refl .completes-within 16 refl in omega arith
+
+refuses-unmarked-late : FigureRefuses unmarked-late
+unfolding unmarked-late after first each upto until not-lower-in longest-interval greatest Sets.member plans-table three
+refuses-unmarked-late h = let l : 24 ≤ 23 = h .each-job (take 4 unmarked-late) (drop 5 unmarked-late) 2 1 false refl .completes-by 24 refl in omega arith
+
+refuses-marked-late : FigureRefuses marked-late
+unfolding marked-late after first each upto until not-lower-in longest-interval greatest Sets.member plans-table three
+refuses-marked-late h = let l : 16 ≤ 15 = h .each-job (take 1 marked-late) (drop 2 marked-late) 1 0 true refl .marked-completes-by refl 16 refl in omega arith
+
+refuses-between-unstarted : FigureRefuses between-unstarted
+unfolding between-unstarted after each total upto until not-lower-in before-start plans-table three
+refuses-between-unstarted h =
+    let l : 1 ≤ 0 = h .each-reading (take 2 between-unstarted) (drop 3 between-unstarted) 2 0 false refl .by-starts (omega arith) in omega arith
+
+refuses-between-unstopped : FigureRefuses between-unstopped
+unfolding between-unstopped after each total upto until not-lower-in before-start plans-table three
+refuses-between-unstopped h =
+    let l : 1 ≤ 0 = h .each-reading (take 2 between-unstopped) (drop 3 between-unstopped) 2 0 false refl .by-stops (omega arith) in omega arith
+
+pub figure-tells : FigureTells
+unfolding FigureTells
+figure-tells = (
+  accepts calls-a history-a (plans-made .0) .holds .figure,
+  refuses-unmarked-in-four,
+  refuses-marked-in-three,
+  refuses-marked-behind-idle,
+  refuses-marked-idles,
+  refuses-lasts-long,
+  refuses-open-long,
+  refuses-completes-behind-two,
+  refuses-unmarked-late,
+  refuses-marked-late,
+  refuses-between-unstarted,
+  refuses-between-unstopped,
 )
 
 -- ---- the entries
@@ -476,3 +570,13 @@ releases-refused = (
 pub plan-entries : PlanEntries
 unfolding PlanEntries history-b history-c ended each after plans-table three Sets.member Sets.below Sets.collect Sets.insert Order.better Order.highest-below Order.highest
 plan-entries = (refl, refl)
+
+-- ---- the bounds on a job's intervals are met
+
+unmarked-made : Makes calls-unmarked history-unmarked
+unfolding computed Calls.mark-refusal Calls.mark calls-unmarked history-unmarked
+unmarked-made = record { made = refl; at-rest = refl }
+
+pub bounds-met : BoundsMet
+unfolding BoundsMet history-unmarked history-b after each upto until not-lower-in plans-table three
+bounds-met = (accepts calls-unmarked history-unmarked unmarked-made, (refl, refl), (refl, refl))

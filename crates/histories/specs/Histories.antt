@@ -8,7 +8,7 @@ use Prim.Native.Nat.{ℕ}
 use Rattle.table.specs.declared.Table.{Table}
 use Rattle.entries.specs.declared.MaybeTask.{MaybeTask}
 use Rattle.entries.specs.declared.MaybeTask.the-variants.{NoTask, Task}
-use lib.ListN.{replicate, take}
+use lib.ListN.{length, replicate, take, drop}
 use Rattle.sets.specs.Sets.{member}
 use Rattle.rules.specs.Calls.{opening}
 use Rattle.rules.specs.declared.Call.{Call}
@@ -16,9 +16,12 @@ use Rattle.rules.specs.declared.Call.the-variants.{Instant, Mark}
 use Rattle.guarantees.specs.History.{Event, Comes, Starts, Stops, Finishes, Completes, Ends, Takes, Defers, GivesWay, Begins, history}
 use Rattle.entries.specs.declared.JobEntry.{JobEntry}
 use Rattle.entries.specs.declared.IntervalEntry.{IntervalEntry}
+use Rattle.guarantees.specs.Queries.{situation, NoneOpen, intervals, met}
+use Rattle.guarantees.specs.Figure.{overtaking}
 use Rattle.guarantees.specs.Releases.{Balance, Placed}
 use Rattle.guarantees.specs.Intervals.{no-course, ended}
 use Rattle.guarantees.specs.Entries.{handed-in, marked-by, TellsJob, completions}
+use Rattle.guarantees.specs.Figure.{Figure}
 use Rattle.guarantees.specs.Claim.{Holds, AllCompleted}
 
 -- ---- The plans' tasks
@@ -503,6 +506,34 @@ gives-way-twice =
     Comes 0 ∷ Takes 2 0 false ∷ Begins 0 NoTask NoTask ∷
     Comes 1 ∷ Takes 1 1 true ∷ GivesWay 2 ∷ GivesWay 2 ∷ []
 
+-- 7/13: M is 7 here, L + C of task 3. The processor waits from 2 to 11 while a job is loaded: this completes a tick after two intervals of
+-- 7 ticks and its copy-out
+unfoldable pub waits-between : List Event
+waits-between =
+    Comes 0 ∷ Takes 2 0 false ∷ Begins 0 NoTask NoTask ∷
+    Comes 2 ∷ Finishes 2 ∷ Ends 2 ∷
+    Comes 11 ∷ Begins 11 (Task 2) NoTask ∷ Starts 2 11 ∷
+    Comes 15 ∷ Stops 2 15 ∷ Ends 15 ∷ Begins 15 NoTask (Task 2) ∷
+    Comes 16 ∷ Completes 2 16 ∷ Ends 16 ∷ []
+
+-- plan C with a last interval that ends 8 ticks after its begin
+unfoldable pub ends-late : List Event
+ends-late =
+    Comes 0 ∷ Takes 1 0 true ∷ Begins 0 NoTask NoTask ∷
+    Comes 2 ∷ Finishes 1 ∷ Ends 2 ∷ Begins 2 (Task 1) NoTask ∷ Starts 1 2 ∷
+    Comes 5 ∷ Stops 1 5 ∷ Ends 5 ∷ Begins 5 NoTask (Task 1) ∷
+    Comes 6 ∷ Completes 1 6 ∷
+    Comes 13 ∷ Ends 13 ∷ []
+
+-- and with one that is still open then
+unfoldable pub stays-open : List Event
+stays-open =
+    Comes 0 ∷ Takes 1 0 true ∷ Begins 0 NoTask NoTask ∷
+    Comes 2 ∷ Finishes 1 ∷ Ends 2 ∷ Begins 2 (Task 1) NoTask ∷ Starts 1 2 ∷
+    Comes 5 ∷ Stops 1 5 ∷ Ends 5 ∷ Begins 5 NoTask (Task 1) ∷
+    Comes 6 ∷ Completes 1 6 ∷
+    Comes 13 ∷ []
+
 abbrev pub Refuses : List Event → Type 0
 Refuses h = Holds plans-table h → ⊥
 
@@ -547,10 +578,124 @@ WrongRefused =
     × Refuses ends-twice
     × Refuses finishes-twice
     × Refuses gives-way-twice
+    × Refuses waits-between
+    × Refuses ends-late
+    × Refuses stays-open
     × (AllCompleted third-idle → ⊥)
     × (AllCompleted never-taken → ⊥)
     × (AllCompleted taken-late → ⊥)
     × (AllCompleted waited-unexecuted → ⊥)
+
+-- ---- 7/13: the figure. M is 7 here: the L + C of task 3
+
+-- an unmarked job with four intervals, none of which executes one that is not lower: 3 is copied in before 2, and the third is idle
+unfoldable pub unmarked-in-four : List Event
+unmarked-in-four =
+    Comes 0 ∷ Takes 2 0 false ∷ Takes 3 0 false ∷ Begins 0 NoTask NoTask ∷
+    Comes 2 ∷ Finishes 3 ∷ Ends 2 ∷ Begins 2 (Task 3) NoTask ∷ Starts 3 2 ∷
+    Comes 7 ∷ Stops 3 7 ∷ Ends 7 ∷ Begins 7 NoTask (Task 3) ∷
+    Comes 9 ∷ Completes 3 9 ∷
+    Comes 11 ∷ Finishes 2 ∷ Ends 11 ∷ Begins 11 (Task 2) NoTask ∷ Starts 2 11 ∷ []
+
+-- a marked job with three intervals, of which the second executes a lower one: at 1 the copy-in of 3 is not cancelled
+unfoldable pub marked-in-three : List Event
+marked-in-three =
+    Comes 0 ∷ Takes 3 0 false ∷ Begins 0 NoTask NoTask ∷
+    Comes 1 ∷ Takes 1 1 true ∷
+    Comes 2 ∷ Finishes 3 ∷ Ends 2 ∷ Begins 2 (Task 3) NoTask ∷ Starts 3 2 ∷
+    Comes 4 ∷ Finishes 1 ∷
+    Comes 7 ∷ Stops 3 7 ∷ Ends 7 ∷ Begins 7 (Task 1) (Task 3) ∷ Starts 1 7 ∷ []
+
+-- and one with three intervals, of which the second is idle: plan C with an interval in which nobody is copied in
+unfoldable pub marked-behind-idle : List Event
+marked-behind-idle =
+    Comes 0 ∷ Takes 1 0 true ∷ Begins 0 NoTask NoTask ∷
+    Comes 2 ∷ Ends 2 ∷ Begins 2 NoTask NoTask ∷
+    Comes 4 ∷ Finishes 1 ∷ Ends 4 ∷ Begins 4 (Task 1) NoTask ∷ Starts 1 4 ∷ []
+
+-- this one's first two: they are no more than two, and yet in its second the processor idles
+unfoldable pub marked-idles : List Event
+marked-idles =
+    Comes 0 ∷ Takes 1 0 true ∷ Begins 0 NoTask NoTask ∷
+    Comes 2 ∷ Ends 2 ∷ Begins 2 NoTask NoTask ∷ []
+
+-- plan C with an interval that ends a tick later than M after its begin
+unfoldable pub lasts-long : List Event
+lasts-long =
+    Comes 0 ∷ Takes 1 0 true ∷ Begins 0 NoTask NoTask ∷
+    Comes 8 ∷ Finishes 1 ∷ Ends 8 ∷ Begins 8 (Task 1) NoTask ∷ Starts 1 8 ∷ []
+
+-- and one that is open so long: the instant finds it so, and it does not end
+unfoldable pub open-long : List Event
+open-long =
+    Comes 0 ∷ Takes 1 0 true ∷ Begins 0 NoTask NoTask ∷
+    Comes 8 ∷ []
+
+-- an unmarked job that executes in its second interval and completes 2 × M + U + 1 after its taking: no interval is open from 6 to 15
+unfoldable pub completes-behind-two : List Event
+completes-behind-two =
+    Comes 0 ∷ Takes 2 0 false ∷ Begins 0 NoTask NoTask ∷
+    Comes 2 ∷ Finishes 2 ∷ Ends 2 ∷ Begins 2 (Task 2) NoTask ∷ Starts 2 2 ∷
+    Comes 6 ∷ Stops 2 6 ∷ Ends 6 ∷
+    Comes 15 ∷ Begins 15 NoTask (Task 2) ∷
+    Comes 16 ∷ Completes 2 16 ∷ Ends 16 ∷ []
+
+-- one that executes in its third, and completes 3 × M + U + 1 after its taking: none is open from 11 to 23
+unfoldable pub unmarked-late : List Event
+unmarked-late =
+    Comes 0 ∷ Takes 3 0 false ∷ Begins 0 NoTask NoTask ∷
+    Comes 1 ∷ Takes 2 1 false ∷
+    Comes 2 ∷ Finishes 3 ∷ Ends 2 ∷ Begins 2 (Task 3) NoTask ∷ Starts 3 2 ∷
+    Comes 4 ∷ Finishes 2 ∷
+    Comes 7 ∷ Stops 3 7 ∷ Ends 7 ∷ Begins 7 (Task 2) (Task 3) ∷ Starts 2 7 ∷
+    Comes 9 ∷ Completes 3 9 ∷
+    Comes 11 ∷ Stops 2 11 ∷ Ends 11 ∷
+    Comes 23 ∷ Begins 23 NoTask (Task 2) ∷
+    Comes 24 ∷ Completes 2 24 ∷ Ends 24 ∷ []
+
+-- and a marked one that completes 2 × M + U + 1 after its taking: none is open from 5 to 15
+unfoldable pub marked-late : List Event
+marked-late =
+    Comes 0 ∷ Takes 1 0 true ∷ Begins 0 NoTask NoTask ∷
+    Comes 2 ∷ Finishes 1 ∷ Ends 2 ∷ Begins 2 (Task 1) NoTask ∷ Starts 1 2 ∷
+    Comes 5 ∷ Stops 1 5 ∷ Ends 5 ∷
+    Comes 15 ∷ Begins 15 NoTask (Task 1) ∷
+    Comes 16 ∷ Completes 1 16 ∷ Ends 16 ∷ []
+
+-- h of job 2 is 1, since 1 has an interval before its own: and yet no execution of 1 starts between, so that this reading of h is smaller
+unfoldable pub between-unstarted : List Event
+between-unstarted =
+    Comes 0 ∷ Takes 1 0 true ∷ Takes 2 0 false ∷ Begins 0 NoTask NoTask ∷
+    Comes 2 ∷ Finishes 1 ∷ Ends 2 ∷ Begins 2 (Task 1) NoTask ∷
+    Comes 4 ∷ Finishes 2 ∷
+    Comes 5 ∷ Stops 1 5 ∷ Ends 5 ∷ Begins 5 (Task 2) (Task 1) ∷ Starts 2 5 ∷ []
+
+-- and none ends between
+unfoldable pub between-unstopped : List Event
+between-unstopped =
+    Comes 0 ∷ Takes 1 0 true ∷ Takes 2 0 false ∷ Begins 0 NoTask NoTask ∷
+    Comes 2 ∷ Finishes 1 ∷ Ends 2 ∷ Begins 2 (Task 1) NoTask ∷ Starts 1 2 ∷
+    Comes 4 ∷ Finishes 2 ∷
+    Comes 5 ∷ Ends 5 ∷ Begins 5 (Task 2) (Task 1) ∷ Starts 2 5 ∷ []
+
+abbrev pub FigureRefuses : List Event → Type 0
+FigureRefuses h = Figure plans-table h → ⊥
+
+-- it holds of plan A, and of none of these
+unfoldable pub FigureTells : Type 0
+FigureTells =
+    Figure plans-table history-a
+    × FigureRefuses unmarked-in-four
+    × FigureRefuses marked-in-three
+    × FigureRefuses marked-behind-idle
+    × FigureRefuses marked-idles
+    × FigureRefuses lasts-long
+    × FigureRefuses open-long
+    × FigureRefuses completes-behind-two
+    × FigureRefuses unmarked-late
+    × FigureRefuses marked-late
+    × FigureRefuses between-unstarted
+    × FigureRefuses between-unstopped
 
 -- ---- Entries
 
@@ -645,6 +790,36 @@ interval begin end half task work copiedout chosen fate promoted = record {
   fate = fate;
   promoted = promoted;
 }
+
+-- ---- 7/13: the bounds on a job's intervals are met
+
+-- plan B, where task 1 is no longer marked: job 1 meets a lower one in its first two intervals
+unfoldable pub calls-unmarked : List Call
+calls-unmarked =
+    Mark 1 0 ∷ Instant 0 8 ∷ Instant 2 4 ∷ Instant 4 2 ∷ Instant 7 0 ∷ Instant 9 0 ∷
+    Instant 11 0 ∷ Instant 12 0 ∷ Instant 14 0 ∷ Instant 15 0 ∷ []
+
+unfoldable pub history-unmarked : List Event
+history-unmarked =
+    Comes 0 ∷ Takes 3 0 false ∷ Begins 0 NoTask NoTask ∷
+    Comes 2 ∷ Finishes 3 ∷ Ends 2 ∷ Takes 2 2 false ∷ Begins 2 (Task 3) NoTask ∷ Starts 3 2 ∷
+    Comes 4 ∷ Finishes 2 ∷ Takes 1 4 false ∷
+    Comes 7 ∷ Stops 3 7 ∷ Ends 7 ∷ Begins 7 (Task 2) (Task 3) ∷ Starts 2 7 ∷
+    Comes 9 ∷ Completes 3 9 ∷
+    Comes 11 ∷ Stops 2 11 ∷ Finishes 1 ∷ Ends 11 ∷ Begins 11 (Task 1) (Task 2) ∷ Starts 1 11 ∷
+    Comes 12 ∷ Completes 2 12 ∷
+    Comes 14 ∷ Stops 1 14 ∷ Ends 14 ∷ Begins 14 NoTask (Task 1) ∷
+    Comes 15 ∷ Completes 1 15 ∷ Ends 15 ∷ []
+
+-- the job of task 1 that is taken behind k events has so many intervals, where h others that are not lower go before it
+abbrev pub Has : List Event → ℕ → ℕ → ℕ → Type 0
+Has history k intervals-met h =
+    (length (met 1 (situation NoneOpen (take k history)) (intervals (drop k history))) ≡ intervals-met)
+    × (overtaking (plans-table .priority) 1 (situation NoneOpen (take k history)) (intervals (drop k history)) ≡ h)
+
+-- h + 3 of one that is not marked, and h + 2 of a marked one: nobody can ask for less
+unfoldable pub BoundsMet : Type 0
+BoundsMet = Accepts calls-unmarked history-unmarked × Has history-unmarked 12 3 0 × Has history-b 12 2 0
 
 -- what plan B's history has for its I lines, in document 01's order, and plan C's for its J line
 unfoldable pub PlanEntries : Type 0

@@ -2,6 +2,7 @@ pub mod Rows
 pub mod Plans
 pub mod Waiting
 pub mod Desks
+pub mod Sharp
 pub mod Refusals
 pub mod Runs
 pub mod Waveforms

@@ -1,5 +1,5 @@
--- Every plan, every row on releases that wait and on desks of equal standing, every refusal, every random run and every waveform comes
--- out of the definitions as it must.
+-- Every plan, every row on releases that wait, on desks of equal standing and on the figure of 7/13, every refusal, every random run and
+-- every waveform comes out of the definitions as it must.
 use mathlib.Core.Path.{_≡_, refl}
 use mathlib.Core.List.{_++_}
 use Rattle.words.specs.Words
@@ -27,6 +27,8 @@ use Rattle.plans.specs.Waiting.{waiting}
 use Rattle.plans.specs.Waiting
 use Rattle.plans.specs.Desks.{equals}
 use Rattle.plans.specs.Desks
+use Rattle.plans.specs.Sharp.{sharp}
+use Rattle.plans.specs.Sharp
 use Rattle.plans.specs.Refusals.{refusals}
 use Rattle.plans.specs.Refusals
 use Rattle.plans.specs.Runs.{runs}
@@ -34,8 +36,8 @@ use Rattle.plans.specs.Runs
 use Rattle.plans.specs.Waveforms.{waveforms}
 use Rattle.plans.specs.Waveforms
 
-pub table : all-found (plans ++ (waiting ++ (equals ++ (refusals ++ (runs ++ waveforms)))))
-    ≡ all-expected (plans ++ (waiting ++ (equals ++ (refusals ++ (runs ++ waveforms)))))
+pub table : all-found (plans ++ (waiting ++ (equals ++ (sharp ++ (refusals ++ (runs ++ waveforms))))))
+    ≡ all-expected (plans ++ (waiting ++ (equals ++ (sharp ++ (refusals ++ (runs ++ waveforms))))))
 unfolding Words.bytesOf Words.numberAt Words.room Words.written Sets.member Sets.below Sets.collect Sets.union Sets.intersection
     Sets.difference Sets.insert Sets.remove Sets.lowestIn Sets.lowest Entries.task-at Entries.release-at Entries.entry-at
     Entries.job-bytes Entries.choice-bytes Entries.interval-bytes Entries.skipped-bytes Head.outside Head.number-refused
@@ -59,7 +61,8 @@ unfolding Words.bytesOf Words.numberAt Words.room Words.written Sets.member Sets
     Refusals.unopened Refusals.refusals
     Desks.desks Desks.record-at-one-tick Desks.record-in-turn Desks.record-original-time Desks.record-cancels-nothing
     Desks.record-throws-out-nothing Desks.record-earlier-promoted Desks.record-lower-number-promoted Desks.record-passes-an-equal
-    Desks.equals
+    Desks.equals Sharp.three-alike Sharp.record-idle-second Sharp.record-higher-ahead Sharp.record-no-tick-left Sharp.record-one-tick-left
+    Sharp.record-longest-of-two Sharp.sharp
     Runs.runs Lines.digits Lines.decimal Dump.ascii Dump.line Dump.header Dump.wires Dump.wire Dump.all Dump.changed Dump.mark
     Dump.change Dump.changes Dump.dump Samples.samples Samples.samples-of WaveWriting.dumped Rows.drawn Rows.not-drawn Waveforms.lines
     Waveforms.header Waveforms.dump-until Waveforms.dump-A Waveforms.dump-B Waveforms.dump-G Waveforms.waveforms

@@ -3,8 +3,9 @@ use mathlib.Core.Path.{sym, ap, _∙_, subst}
 use borrow.Author.Needs.{needs}
 use Rattle.table.specs.Refusals.{refusal-number, refusal-place}
 use Rattle.guarantees.specs.Types.{State, Opening}
+use Rattle.guarantees.specs.Figure.{PlainFigure}
 use Rattle.guarantees.specs.Claim.{Claim}
-use Rattle.guarantees.proofs.Demand3.{demand-3}
+use Rattle.guarantees.proofs.Demand3.{demand-3, figure-opened}
 use Rattle.guarantees.specs.Claim
 use Rattle.guarantees.proofs.open.Statement.{statement}
 use Rattle.guarantees.proofs.open.Tie as tie
@@ -22,6 +23,7 @@ returns c =
       number = ap (λ (o : Opening). refusal-number (o .refusal)) e;
       place = ap (λ (o : Opening). refusal-place (o .refusal)) e;
       claim = λ f calls. subst (λ (d : State). Claim d calls) (ap (λ (o : Opening). o .state) (sym e)) (demand-3 s (ap (λ (o : Opening). o .refusal) (sym e) ∙ f) calls);
+      figure = λ f. subst (λ (d : State). PlainFigure (d .table)) (ap (λ (o : Opening). o .state) (sym e)) (figure-opened s (ap (λ (o : Opening). o .refusal) (sym e) ∙ f));
     }
 
 pub open-spec : {M : Type 1} → statement M
