@@ -25,8 +25,8 @@ header =
     "$enddefinitions $end" ∷
     [])
 
--- plans A and B: 445 bytes with the header; a line here is what stands under one time mark. They differ in the tick from which on task 2 is no
--- longer copied in
+-- plans A and B: 445 bytes with the header; a line here is what stands under one time mark. They differ in the tick from which on
+-- task 2 is no longer copied in
 unfoldable pub dump-until : String → List ℕ
 dump-until tick =
     header ++ lines (

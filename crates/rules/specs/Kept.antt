@@ -96,7 +96,8 @@ Step change priority columns k k' =
 abbrev pub StepInOrder : (State → State) → List ℕ → List ℕ → List ℕ → Kept → Kept → Type 0
 StepInOrder change priority release columns k k' =
     (blocked waits : List ℕ) → Whole k
-    → Becomes change k (beside priority columns (by-task release blocked waits)) k' (beside priority columns (by-task release blocked waits))
+    → Becomes change k (beside priority columns (by-task release blocked waits))
+    k' (beside priority columns (by-task release blocked waits))
 
 -- and where the step reads none of what stands beside
 abbrev pub StepAlone : (State → State) → Kept → Kept → Type 0

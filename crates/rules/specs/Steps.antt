@@ -87,7 +87,8 @@ PromotedAt priority release sets codes x =
     (times columns blocked waits : List ℕ)
     → let k : Kept = kept times sets codes in
     is-over (phase-in (registers-in k)) ≡ true
-    → as-task x ≡ promoted (read k (beside priority columns (by-task release blocked waits))) (interval-in (registers-in k)) (copyin-in (registers-in k))
+    → as-task x ≡ promoted (read k (beside priority columns (by-task release blocked waits)))
+    (interval-in (registers-in k)) (copyin-in (registers-in k))
 
 abbrev pub ProcessorTask : ℕ → ℕ → MaybeTask → Type 0
 ProcessorTask kind n x = (start until : ℕ) → x ≡ processor-task (as-processor kind n start until)

@@ -19,7 +19,7 @@ fn wide(x: u8) -> u32
     x as u32
 }
 
-// Whether task `n` of priority `p` goes before task `best` of priority `least`. The times are looked at only where the priorities are equal.
+// Whether task `n` of priority `p` goes before task `best` of priority `least`. Times are looked at only where the priorities are equal.
 fn goes_before(p: u32, n: u8, least: u32, best: u8, release: &[u64; 32]) -> bool
     ensures { λ x. ⌜ x ≡ cond (eqb p least) (ltb (getD (now (release .entry)) n 0) (getD (now (release .entry)) best 0)) (ltb p least) ⌝ }
 {
@@ -29,7 +29,7 @@ fn goes_before(p: u32, n: u8, least: u32, best: u8, release: &[u64; 32]) -> bool
     p < least
 }
 
-// The highest task of a set, NO_TASK if there is none. The loop goes from member to member, behind the lowest: most sets have one member or none.
+// The highest task of a set, NO_TASK if there is none. The loop begins behind the lowest member: most sets have one member or none.
 pub fn first(priority: &[u8; 32], release: &[u64; 32], set: u32) -> u8
     ensures { λ r. ⌜ as-task r ≡ order.highest (now (priority .entry)) (λ k. getD (now (release .entry)) k 0) set ⌝ }
 {

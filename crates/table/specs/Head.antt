@@ -1,6 +1,6 @@
 -- The head of an input: the part before its releases, which a file, opening and the reader of records have alike. Its entries are checked
--- one by one, 2, 1, then 4, 6, 7 of a task; 5 is kept free (6/13). It ends at the input's end or at the first release entry, be that whole or cut short: what
--- comes there is for whoever reads on.
+-- one by one, 2, 1, then 4, 6, 7 of a task; 5 is kept free (6/13). It ends at the input's end or at the first release entry,
+-- be that whole or cut short: what comes there is for whoever reads on.
 use mathlib.Core.Bool.{Bool, true, false, cond, _||_}
 use mathlib.Core.List.{List}
 use Prim.Native.Nat.{ℕ, zero, suc, _+_, _*_}
