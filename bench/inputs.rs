@@ -18,6 +18,12 @@ fn task(number: u8, priority: u8, mark: u8, lengths: [u32; 3]) -> Vec<u8> {
     entry
 }
 
+fn spacing(task: u8, ticks: u32) -> Vec<u8> {
+    let mut entry = vec![3, task];
+    entry.extend(ticks.to_le_bytes());
+    entry
+}
+
 /// An entry of a kind that has a task and a time.
 fn timed(kind: u8, task: u8, time: u64) -> Vec<u8> {
     let mut entry = vec![kind, task];
@@ -108,8 +114,44 @@ pub fn waiting(number: u8) -> Vec<u8> {
     input
 }
 
+/// A spacing on every task, and as many releases as there may be, each at the edge of its task's: of four one comes a tick sooner, and is skipped.
+pub fn spaced(number: u8) -> Vec<u8> {
+    let mut random = Random(4);
+    let mut input = tasks(number, 12, &mut random);
+    let mut all = std::collections::BTreeSet::new();
+    for n in 0..number {
+        let ticks = u64::from(number) * (8 + random.below(8));
+        input.extend(spacing(n, ticks as u32));
+        let mut last = random.below(ticks);
+        for _ in 0..4096 {
+            all.insert((last, n));
+            let next = last + ticks;
+            match random.below(4) {
+                0 => {
+                    all.insert((next - 1, n));
+                    last = next;
+                }
+                later => last = next + later - 1,
+            }
+        }
+    }
+    input.extend(all.into_iter().take(4096).flat_map(|(time, task)| release(task, time)));
+    input
+}
+
+/// The length of an input's head: of what stands before its releases.
+pub fn head(input: &[u8]) -> usize {
+    let mut at = 0;
+    while at < input.len() && input[at] != 2 {
+        at += if input[at] == 1 { 16 } else { 6 };
+    }
+    at
+}
+
 pub fn refused() -> Vec<(&'static str, Vec<u8>)> {
     let good = mixed(4, 64);
+    let one = || task(1, 1, 1, [1, 1, 1]);
+    let behind = |bytes: Vec<u8>| [one(), bytes].concat();
     let with = |bytes: Vec<u8>| [good.clone(), bytes].concat();
     vec![
         ("nothing", Vec::new()),
@@ -125,7 +167,17 @@ pub fn refused() -> Vec<(&'static str, Vec<u8>)> {
         ("a release out of order", with(release(0, 0))),
         ("a release too late", with(release(0, 1_000_000_001))),
         ("one release too many", { let mut i = mixed(4, 4096); i.extend(release(3, 999_999_999)); i }),
-        ("tasks alone", task(1, 1, 1, [1, 1, 1])),
+        ("tasks alone", one()),
+        ("a spacing cut short", behind(spacing(1, 5)[..4].to_vec())),
+        ("a spacing behind the releases", with(spacing(1, 5))),
+        ("a spacing cut short behind the releases", with(spacing(1, 5)[..5].to_vec())),
+        ("a task behind a spacing", behind([spacing(1, 5), one()].concat())),
+        ("a spacing of an unknown task", behind(spacing(2, 0))),
+        ("a spacing of no task", behind(spacing(255, 5))),
+        ("a spacing of 0", behind(spacing(1, 0))),
+        ("the longest spacing", behind(spacing(1, 1_000_000_000))),
+        ("too long a spacing", behind(spacing(1, 1_000_000_001))),
+        ("a second spacing", behind([spacing(1, 5), spacing(1, 5)].concat())),
     ]
 }
 
@@ -136,12 +188,12 @@ pub struct Stored {
     pub record: Vec<u8>,
 }
 
-/// The record of an input, by a function that writes it; the input has this many tasks.
-pub fn stored(input: &[u8], number: u8, write: impl Fn(&[u8], &mut [u8]) -> usize) -> Stored {
+/// The record of an input, by a function that writes it.
+pub fn stored(input: &[u8], write: impl Fn(&[u8], &mut [u8]) -> usize) -> Stored {
     let mut record = vec![0; 1 << 19];
     let length = write(input, &mut record);
     record.truncate(length);
-    Stored { tasks: input[..16 * usize::from(number)].to_vec(), record }
+    Stored { tasks: input[..head(input)].to_vec(), record }
 }
 
 /// Records that no list of releases yields, of a true one's tasks: made to cost much.
@@ -198,6 +250,7 @@ pub fn refused_records(truth: &Stored) -> Vec<(&'static str, Stored)> {
         ("a release among the tasks", tasks([&truth.tasks[..], &release(0, 0)].concat())),
         ("a task cut short", tasks(truth.tasks[..21].to_vec())),
         ("another table", tasks(truth.tasks[..16].to_vec())),
+        ("a spacing more", tasks([&truth.tasks[..], &spacing(0, 1_000_000_000)].concat())),
         ("an entry of another kind", with(&[2])),
         ("an entry cut short", with(&[17, 0, 0])),
         ("an entry too many", with(&skipped(0, 0))),

@@ -1,9 +1,10 @@
 //! An instant of a dispatcher that is kept, proved and plain, each in place, on the same calls.
 
 use crate::gateway::{Dispatcher, Shown, Told};
+use crate::inputs;
 use crate::plain;
 
-/// A dispatcher's task entries, and the calls that its releases and due times make: time and set.
+/// A dispatcher's opening entries, and the calls that its releases and due times make: time and set.
 pub struct Calls {
     pub entries: Vec<u8>,
     pub calls: Vec<(u64, u32)>,
@@ -20,8 +21,8 @@ fn as_plain(told: &Told) -> plain::Told {
 }
 
 /// The calls of an input, with both dispatchers held to each other at each of them and at one that is refused before it.
-pub fn calls(name: &str, input: &[u8], tasks: usize) -> Calls {
-    let (entries, rest) = input.split_at(16 * tasks);
+pub fn calls(name: &str, input: &[u8]) -> Calls {
+    let (entries, rest) = input.split_at(inputs::head(input));
     let mut proved = Dispatcher::open(entries).expect("the tasks are in order");
     let mut plain = plain::Dispatcher::open(entries);
     let (mut told, mut other) = (Told::default(), plain::Told::default());

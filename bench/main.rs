@@ -169,6 +169,7 @@ fn records() -> f64 {
         rows.push((format!("instants mostly without, {tasks} tasks"), inputs::sparse(tasks)));
         rows.push((format!("every second one waits, {tasks} tasks"), inputs::waiting(tasks)));
         rows.push((format!("equal priorities, {tasks} tasks"), inputs::equal(tasks)));
+        rows.push((format!("spacing on every task, {tasks} tasks"), inputs::spaced(tasks)));
     }
     rows.iter().map(|(name, input)| recording(name.clone(), input).measure().ratio).fold(0.0, f64::max)
 }
@@ -186,18 +187,19 @@ fn true_records() -> f64 {
             let name = format!("read, {releases} releases, {tasks} tasks");
             worst = worst.max(reading(name, &stored).measure().ratio);
         }
-        let equal = stored(&inputs::equal(tasks), tasks);
-        worst = worst.max(reading(format!("read, equal priorities, {tasks} tasks"), &equal).measure().ratio);
+        for (name, input) in [("equal priorities", inputs::equal(tasks)), ("spacing on every task", inputs::spaced(tasks))] {
+            worst = worst.max(reading(format!("read, {name}, {tasks} tasks"), &stored(&input)).measure().ratio);
+        }
     }
     worst
 }
 
 fn recorded(tasks: u8, releases: usize) -> Stored {
-    stored(&inputs::mixed(tasks, releases), tasks)
+    stored(&inputs::mixed(tasks, releases))
 }
 
-fn stored(input: &[u8], tasks: u8) -> Stored {
-    inputs::stored(input, tasks, |input, out| number_and_value(gateway::record(input, out)).1)
+fn stored(input: &[u8]) -> Stored {
+    inputs::stored(input, |input, out| number_and_value(gateway::record(input, out)).1)
 }
 
 /// The reader on records that are made to cost much: how many times the time of a true one of the same length the worst takes. Where none is as
@@ -242,9 +244,14 @@ fn kept_instants() -> f64 {
     heading("an instant by itself");
     let mut worst: f64 = 0.0;
     for tasks in [4, 32] {
-        let rows = [("with releases", inputs::dense(tasks)), ("mostly without", inputs::sparse(tasks)), ("equal priorities", inputs::equal(tasks))];
+        let rows = [
+            ("with releases", inputs::dense(tasks)),
+            ("mostly without", inputs::sparse(tasks)),
+            ("equal priorities", inputs::equal(tasks)),
+            ("spacing on every task", inputs::spaced(tasks)),
+        ];
         for (name, input) in rows {
-            worst = worst.max(measure_instants(&format!("kept, {name}, {tasks} tasks"), &input, tasks).ratio);
+            worst = worst.max(measure_instants(&format!("kept, {name}, {tasks} tasks"), &input).ratio);
         }
     }
     worst
@@ -257,7 +264,7 @@ fn views() -> f64 {
     let mut worst: f64 = 0.0;
     for tasks in [4, 32] {
         for (name, input) in [("with releases", inputs::dense(tasks)), ("mostly without", inputs::sparse(tasks))] {
-            let made = instants::calls(name, &input, usize::from(tasks));
+            let made = instants::calls(name, &input);
             let opened = gateway::Dispatcher::open(&made.entries).expect("it was opened before");
             let times = alternate(
                 &format!("viewed, {name}, {tasks} tasks"),
@@ -272,8 +279,8 @@ fn views() -> f64 {
     worst
 }
 
-fn measure_instants(name: &str, input: &[u8], tasks: u8) -> Times {
-    let made = instants::calls(name, input, usize::from(tasks));
+fn measure_instants(name: &str, input: &[u8]) -> Times {
+    let made = instants::calls(name, input);
     let opened = gateway::Dispatcher::open(&made.entries).expect("it was opened before");
     let plain_opened = plain::Dispatcher::open(&made.entries);
     alternate(

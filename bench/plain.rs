@@ -5,8 +5,11 @@ const NONE: u8 = 255;
 const LAST_TIME: u64 = 1_000_000_000;
 const MOST_RELEASES: usize = 4096;
 const LONGEST: u32 = 1_000_000;
+const LONGEST_SPACING: u32 = 1_000_000_000;
 
-// The lengths of entries: of a job, of an interval, and of a release, skipped or not.
+// The lengths of entries: of a task, of a spacing, of a job, of an interval, and of a release, skipped or not.
+const TASK: usize = 16;
+const SPACING: usize = 6;
 const JOB: usize = 27;
 const INTERVAL: usize = 24;
 const TIMED: usize = 10;
@@ -27,7 +30,11 @@ struct State {
     copy_in: [u32; 32],
     execution: [u32; 32],
     copy_out: [u32; 32],
+    spacing: [u32; 32],
     present: u32,
+    /// the tasks with a spacing, and of each the first tick at which a release passes
+    spaced: u32,
+    passes_from: [u64; 32],
     marked: u32,
     pending: u32,
     waiting: u32,
@@ -275,12 +282,32 @@ impl State {
         first
     }
 
-    /// The releases of the instant are taken, wait or are skipped, behind what is taken at a completion. The set taken, with that.
+    /// Of releases of tasks with a spacing, of which none waits, those that come too soon; the others are the last of their tasks from now on.
+    #[inline]
+    fn too_soon(&mut self, now: u64, released: u32) -> u32 {
+        let mut left = released;
+        let mut soon = 0;
+        while left != 0 {
+            let n = left.trailing_zeros() as usize;
+            if now < self.passes_from[n] {
+                soon |= 1 << n;
+            } else {
+                self.passes_from[n] = now + u64::from(self.spacing[n]);
+            }
+            left &= left - 1;
+        }
+        soon
+    }
+
+    /// The releases of the instant are taken, wait or are skipped, behind what is taken at a completion. The set taken, with that. One that finds
+    /// another waiting is skipped whenever it comes, so that its spacing need not be looked at.
     #[inline]
     fn take(&mut self, first: u32, now: u64, released: u32, w: &mut impl Events) -> u32 {
-        let new = released & !self.pending;
-        let behind = released & self.pending;
-        w.skipped(behind & self.waiting, now);
+        let soon = self.too_soon(now, released & self.spaced & !self.waiting);
+        let passed = released & !soon;
+        let new = passed & !self.pending;
+        let behind = passed & self.pending;
+        w.skipped(soon | behind & self.waiting, now);
         let mut left = behind & !self.waiting;
         self.waiting |= left;
         while left != 0 {
@@ -410,7 +437,10 @@ fn opened() -> State {
         copy_in: [0; 32],
         execution: [0; 32],
         copy_out: [0; 32],
+        spacing: [0; 32],
         present: 0,
+        spaced: 0,
+        passes_from: [0; 32],
         marked: 0,
         pending: 0,
         waiting: 0,
@@ -446,8 +476,11 @@ fn read_table(s: &[u8], state: &mut State) -> Result<usize, (u8, usize)> {
     while at < s.len() {
         match s[at] {
             1 => {
-                if s.len() - at < 16 {
+                if s.len() - at < TASK {
                     return Err((1, at));
+                }
+                if state.spaced != 0 {
+                    return Err((3, at));
                 }
                 let n = s[at + 1];
                 if n > 31 || state.present >> n & 1 == 1 {
@@ -469,7 +502,22 @@ fn read_table(s: &[u8], state: &mut State) -> Result<usize, (u8, usize)> {
                 state.copy_in[i] = lengths[0];
                 state.execution[i] = lengths[1];
                 state.copy_out[i] = lengths[2];
-                at += 16;
+                at += TASK;
+            }
+            3 => {
+                if s.len() - at < SPACING {
+                    return Err((1, at));
+                }
+                let (n, ticks) = (s[at + 1], word(s, at + 2));
+                if n > 31 || state.present >> n & 1 == 0 {
+                    return Err((8, at));
+                }
+                if ticks == 0 || ticks > LONGEST_SPACING || state.spaced >> n & 1 == 1 {
+                    return Err((19, at));
+                }
+                state.spaced |= 1 << n;
+                state.spacing[n as usize] = ticks;
+                at += SPACING;
             }
             2 => return Ok(at),
             _ => return Err((2, at)),
@@ -506,8 +554,9 @@ fn check_releases(s: &[u8], start: usize, present: u32) -> Result<(), (u8, usize
                 count += 1;
                 at += 10;
             }
-            1 if s.len() - at < 16 => return Err((1, at)),
-            1 => return Err((3, at)),
+            1 if s.len() - at < TASK => return Err((1, at)),
+            3 if s.len() - at < SPACING => return Err((1, at)),
+            1 | 3 => return Err((3, at)),
             _ => return Err((2, at)),
         }
     }

@@ -54,13 +54,14 @@ static uint8_t call(memory *m, int is_mark, uint64_t time, uint32_t set)
 /* Opened over any two memories, a dispatcher has the same bytes. */
 static void open_over_any(void)
 {
-    static const uint8_t entry[16] = {1, 5, 9, 1, 2, 0, 0, 0, 3, 0, 0, 0, 4, 0, 0, 0};
+    static const uint8_t entries[22] = {1, 5, 9, 1, 2, 0, 0, 0, 3, 0, 0, 0, 4, 0, 0, 0, 3, 5, 7, 0, 0, 0};
     static gateway_dispatcher one, other;
     size_t place;
     memset(&one, 0x5A, sizeof one);
     memset(&other, 0xA5, sizeof other);
-    hold(gateway_open(entry, sizeof entry, &one, &place) == GATEWAY_SERVED && gateway_open(entry, sizeof entry, &other, &place) == GATEWAY_SERVED,
-         "a task is refused");
+    hold(gateway_open(entries, sizeof entries, &one, &place) == GATEWAY_SERVED &&
+             gateway_open(entries, sizeof entries, &other, &place) == GATEWAY_SERVED,
+         "a task with a spacing is refused");
     hold(memcmp(&one, &other, sizeof one) == 0, "a byte of an opened dispatcher is not written");
 }
 

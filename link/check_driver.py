@@ -14,19 +14,20 @@ from collections import Counter
 ROOT = pathlib.Path(__file__).resolve().parents[1]
 sys.path.insert(0, str(ROOT))
 
-from sim.entries import release_entry, task_entry
-from sim.generate_tables import STRETCH, small_length, some_tasks
+from sim.entries import release_entry, spacing_entry, task_entry
+from sim.generate_tables import STRETCH, small_length, some_tasks, with_spacings
 
 GATEWAY = ROOT / "target/bin/gateway"
 
 
-def merged(rng):
-    """The task entries, and for each of some cores its releases (time, task)."""
+def merged(rng, spaced):
+    """The entries of a table, half of them with spacings where they may be, and for each of some cores its releases (time, task)."""
     tasks = some_tasks(rng, rng.randint(1, 6), small_length, rng.choice((1, STRETCH)))
     numbers = [task[1] for task in tasks]
     cores = rng.sample(range(64), rng.randint(1, 5))
     span = rng.choice((20, 100, 1000))
-    return b"".join(tasks), {core: sorted({(rng.randrange(span), rng.choice(numbers)) for _ in range(rng.randint(1, 60))}) for core in cores}
+    table = with_spacings(rng, tasks) if spaced else tasks
+    return b"".join(table), {core: sorted({(rng.randrange(span), rng.choice(numbers)) for _ in range(rng.randint(1, 60))}) for core in cores}
 
 
 def stream(cores):
@@ -67,7 +68,7 @@ def hold(driver, tasks, cores, expected):
 
 
 def random_stream(driver, seed):
-    tasks, cores = merged(random.Random(seed))
+    tasks, cores = merged(random.Random(seed), True)
     expected = {core: gateway_lines(tasks + b"".join(release_entry(*release) for release in releases)) for core, releases in cores.items()}
     hold(driver, tasks, cores, expected)
 
@@ -75,7 +76,7 @@ def random_stream(driver, seed):
 def long_stream(driver, seed):
     """Each core goes on behind tick 1,000,000,000: what comes after long idle time is as a run of its own, on a later clock."""
     rng = random.Random(seed)
-    tasks, first = merged(rng)
+    tasks, first = merged(rng, False)
     cores, expected = {}, {}
     for core, releases in first.items():
         cores[core], expected[core] = [], []
@@ -111,6 +112,30 @@ def marks(driver):
     printed = printed_by(driver, tasks, text)
     if printed != {7: expected}:
         raise SystemExit(f"{driver}: the marks were not handed over:\n{printed}\n{expected}")
+
+
+def spacing_over_counts(driver):
+    """A spacing goes on where a core counts anew: of a release that the dispatcher before had, which the new one does not know, the driver says whether the
+    next one comes too soon. The core counts anew at the release of task 2, between two releases of task 1."""
+    ticks, begin = 400_000_000, 600_000_000
+    tasks = task_entry(1, 1, 1, 2, 3, 1) + task_entry(2, 2, 0, 2, 4, 1) + spacing_entry(1, ticks)
+    first, edge = [(begin - 300_000_000, 1)], 100_000_000
+    again = [(0, 2), (edge, 1), (edge + ticks - 1, 1), (edge + ticks, 1)]
+    releases = first + [(begin + time, task) for time, task in sorted(again + [(edge - 1, 1)])]
+    told = gateway_lines(tasks + b"".join(release_entry(*release) for release in again))
+    told.insert(len(gateway_lines(tasks + release_entry(*again[0]))), f"S 1 {edge - 1}")
+    expected = gateway_lines(tasks + release_entry(*first[0])) + [later(line, begin) for line in told]
+    if len([line for line in expected if line.startswith("S")]) != 2:
+        raise SystemExit("two releases come a tick too soon")
+    hold(driver, tasks, {4: releases}, {4: expected})
+
+
+def two_at_a_tick(driver):
+    """Two releases of a task on one tick have a tick each, also where the core is idle and both come too soon."""
+    tasks = task_entry(1, 1, 1, 2, 3, 1) + spacing_entry(1, 30)
+    given = [(0, 1), (10, 1), (11, 1), (30, 1)]
+    expected = gateway_lines(tasks + b"".join(release_entry(*release) for release in given))
+    hold(driver, tasks, {2: [(0, 1), (10, 1), (10, 1), (30, 1)]}, {2: expected})
 
 
 def busy_counts(tasks, releases, last=1_000_000_000):
@@ -187,6 +212,22 @@ RUBBISH = [
 ]
 
 
+ALL = b"".join(task_entry(n, n, 0, 1, 1, 1) for n in range(32))
+SPACED = ALL + b"".join(spacing_entry(n, 1_000_000_000) for n in range(32))
+TABLES = [
+    (b"", "there is no entry (refusal 12)"),
+    (TASK + TASK, "a task number over 31 or given before (refusal 4) at byte 16"),
+    (TASK[:9], "an entry is cut short (refusal 1) at byte 0"),
+    (ALL + b"x" * 500, "an entry of a kind that does not belong there (refusal 2) at byte 512"),
+    (SPACED + b"x" * 500, "an entry of a kind that does not belong there (refusal 2) at byte 704"),
+    (SPACED + spacing_entry(0, 1), "a spacing outside 1 to 1,000,000,000, or a second one for a task (refusal 19) at byte 704"),
+    (TASK + spacing_entry(1, 0), "a spacing outside 1 to 1,000,000,000, or a second one for a task (refusal 19) at byte 16"),
+    (TASK + spacing_entry(2, 5), "a release or a spacing of a task that is not in the table (refusal 8) at byte 16"),
+    (TASK + spacing_entry(1, 5) + TASK, "a task or a spacing after a release, or a task after a spacing (refusal 3) at byte 22"),
+    (TASK + release_entry(0, 1), "an entry of a kind that does not belong there (refusal 2) at byte 16"),
+]
+
+
 def outcome(driver, words, text, **more):
     done = subprocess.run([driver, *words], input=text, stderr=subprocess.PIPE, check=False, **{"stdout": subprocess.DEVNULL, **more})
     return done.returncode, done.stderr.decode()
@@ -203,14 +244,9 @@ def rubbish(driver, folder):
     (folder / "tasks").write_bytes(TASK)
     for text, status, said in RUBBISH:
         refuses(driver, text, outcome(driver, [folder / "tasks"], text), status, said)
-    for entries, said in (
-        (b"", "the tasks: there is no entry (refusal 12)"),
-        (TASK + TASK, "the tasks: a task number over 31 or given before (refusal 4) at byte 16"),
-        (TASK[:9], "the tasks: an entry is cut short (refusal 1) at byte 0"),
-        (b"".join(task_entry(n, n, 0, 1, 1, 1) for n in range(32)) + b"x" * 500, "the tasks: an entry of a kind that does not belong there (refusal 2) at byte 512"),
-    ):
+    for entries, said in TABLES:
         (folder / "others").write_bytes(entries)
-        refuses(driver, entries, outcome(driver, [folder / "others"], b""), 1, said)
+        refuses(driver, entries, outcome(driver, [folder / "others"], b""), 1, f"the tasks: {said}")
     refuses(driver, "no file", outcome(driver, [], b""), 2, "usage: driver TASKS < RELEASES")
     refuses(driver, "two files", outcome(driver, [folder / "tasks"] * 2, b""), 2, "usage: driver TASKS < RELEASES")
     for path in (folder / "missing", folder):
@@ -219,7 +255,7 @@ def rubbish(driver, folder):
             raise SystemExit(f"{driver}: of the file {path} it said {said}")
     with open("/dev/full", "wb") as full:
         refuses(driver, "a full disk", outcome(driver, [folder / "tasks"], b"0 0 1", stdout=full), 2, "what occurs cannot be printed")
-    return len(RUBBISH) + 9
+    return len(RUBBISH) + len(TABLES) + 5
 
 
 def main():
@@ -231,11 +267,13 @@ def main():
                 long_stream(driver, seed)
         marks(driver)
         waits(driver)
+        spacing_over_counts(driver)
+        two_at_a_tick(driver)
         for seed in range(3):
             never_idle(driver, seed)
         with tempfile.TemporaryDirectory() as folder:
             passed += rubbish(driver, pathlib.Path(folder))
-        passed += count + -(-count // 4) + 5
+        passed += count + -(-count // 4) + 7
     print(f"{passed} passed")
 
 

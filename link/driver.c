@@ -2,8 +2,8 @@
  *
  *     driver TASKS < RELEASES
  *
- * TASKS is a file with the task entries of every core (./gateway input makes it of a plan with tasks alone). A line of RELEASES is
- * `CORE TIME TASK`, a release, or `CORE TIME mark TASK VALUE`, a mark call; the times do not fall. What occurs is printed as `gateway` prints it, with the
+ * TASKS is a file with the task entries of every core, and the spacings behind them (./gateway input makes it of a plan without releases). A line of RELEASES
+ * is `CORE TIME TASK`, a release, or `CORE TIME mark TASK VALUE`, a mark call; the times do not fall. What occurs is printed as `gateway` prints it, with the
  * core in front. It goes on for ever: late in its count a core goes on with a new dispatcher at an idle moment, and where none comes in time its releases are
  * held back until there is one. The status is 2 where what it reads is rubbish, and 1 where the dispatcher refuses it. */
 #include "gateway.h"
@@ -15,7 +15,7 @@
 #include <stdlib.h>
 #include <string.h>
 
-enum { CORES = 64, TASKS = 32, MOST_ENTRIES = (TASKS + 1) * 16, LINE = 128, MOST_WORDS = 6 };
+enum { CORES = 64, TASKS = 32, MOST_ENTRIES = GATEWAY_LONGEST_OPENING + 16, LINE = 128, MOST_WORDS = 6 };
 
 /* A core that is idle after half of the ticks that it can count counts anew. */
 static const uint64_t ENOUGH = GATEWAY_LAST_TICK / 2;
@@ -29,6 +29,8 @@ typedef struct {
     uint64_t due;             /* the next due time, in ticks of the driver's clock */
     uint64_t base;            /* the tick of the driver's clock that is tick 0 of the dispatcher */
     unsigned long held[TASKS]; /* releases of each task that are to be handed in */
+    bool has_last[TASKS];      /* a release of the task was handed in and not skipped */
+    uint64_t last[TASKS];      /* the last of them, in ticks of the driver's clock */
 } core_state;
 
 typedef struct {
@@ -99,7 +101,8 @@ static void print_answer(unsigned number, uint64_t base, uint64_t now, const gat
 
 /* ---- A core */
 
-/* With no due time nothing is pending and nothing waits, and a new dispatcher can take over, which is told the marks. */
+/* With no due time nothing is pending and nothing waits, and a new dispatcher can take over, which is told the marks. Of the last releases it knows
+ * nothing: see too_soon. */
 static void count_anew(core_state *core, uint64_t now)
 {
     gateway_view old, fresh;
@@ -127,6 +130,29 @@ static uint32_t hand_in(core_state *core)
     return set;
 }
 
+/* The releases of a set that come sooner than the spacing after one that a dispatcher before this one had; of its own it knows. */
+static uint32_t too_soon(const core_state *core, uint32_t set, uint64_t now)
+{
+    uint32_t soon = 0;
+    for (unsigned task = 0; task < TASKS; task++) {
+        bool was_before = core->has_last[task] && core->last[task] < core->base;
+        if (set >> task & 1 && was_before && now - core->last[task] < gateway_spacing(&opened, (uint8_t)task)) {
+            soon |= UINT32_C(1) << task;
+        }
+    }
+    return soon;
+}
+
+static void note_last(core_state *core, uint32_t set, uint64_t now)
+{
+    for (unsigned task = 0; task < TASKS; task++) {
+        if (set >> task & 1) {
+            core->has_last[task] = true;
+            core->last[task] = now;
+        }
+    }
+}
+
 static bool holds(const core_state *core)
 {
     for (unsigned task = 0; task < TASKS; task++) {
@@ -141,17 +167,21 @@ static bool holds(const core_state *core)
 static void instant(unsigned number, core_state *core, uint64_t now)
 {
     uint64_t tick = now - core->base;
+    uint32_t set = tick > GATEWAY_LAST_TICK ? 0 : hand_in(core), soon = too_soon(core, set, now);
     gateway_answer answer = {0};
-    uint8_t refused = gateway_instant(&core->dispatcher, tick, tick > GATEWAY_LAST_TICK ? 0 : hand_in(core), &answer);
+    uint8_t refused = gateway_instant(&core->dispatcher, tick, set & ~soon, &answer);
     if (refused != GATEWAY_SERVED) {
         fprintf(stderr, "driver: core %u, tick %" PRIu64 ": %s (refusal %u)\n", number, now, gateway_refusal_text(refused), refused);
         exit(1);
     }
+    answer.skipped |= soon;
+    note_last(core, set & ~answer.skipped, now);
     print_answer(number, core->base, now, &answer);
     core->is_due = answer.is_due;
     core->due = core->base + answer.due;
-    /* a second release of a task has a tick of its own */
-    if (core->is_due && tick < GATEWAY_LAST_TICK && holds(core) && now + 1 < core->due) {
+    /* a second release of a task has a tick of its own, also where the first was skipped and nothing is due */
+    if (tick < GATEWAY_LAST_TICK && holds(core) && (!core->is_due || now + 1 < core->due)) {
+        core->is_due = true;
         core->due = now + 1;
     }
 }

@@ -8,7 +8,7 @@
 #include <string.h>
 
 /* Of this header, the library, the pkg-config file and the Rust package: it stands here, and the others are held to it. */
-#define GATEWAY_VERSION "0.6.0"
+#define GATEWAY_VERSION "0.7.0"
 
 #ifdef __cplusplus
 extern "C" {
@@ -21,17 +21,20 @@ extern "C" {
 /* The last tick at which a release is taken: GATEWAY_PAST_LAST_TICK behind it. */
 #define GATEWAY_LAST_TICK UINT64_C(1000000000)
 
+/* The most bytes that open a dispatcher: of 32 tasks an entry of 16 bytes and a spacing of 6 each. */
+#define GATEWAY_LONGEST_OPENING 704
+
 /* What a call answers: served, or the refusal. */
 enum {
     GATEWAY_SERVED = 0,
     GATEWAY_CUT_SHORT = 1,
     GATEWAY_OTHER_KIND = 2,
-    GATEWAY_TASK_AFTER_RELEASE = 3,
+    GATEWAY_TASK_AFTER_RELEASE = 3, /* or a spacing after one, or a task after a spacing */
     GATEWAY_BAD_TASK = 4,
     GATEWAY_SAME_PRIORITY = 5, /* no longer answered: tasks may have one priority. The number is kept free */
     GATEWAY_BAD_MARK = 6,
     GATEWAY_BAD_LENGTH = 7,
-    GATEWAY_RELEASE_OF_NO_TASK = 8,
+    GATEWAY_RELEASE_OF_NO_TASK = 8, /* or a spacing */
     GATEWAY_RELEASE_NOT_AFTER = 9,
     GATEWAY_PAST_LAST_TICK = 10,
     GATEWAY_TOO_MANY_RELEASES = 11,
@@ -41,7 +44,8 @@ enum {
     GATEWAY_DUE_TIME_MISSED = 15,
     GATEWAY_UNKNOWN_TASK = 16,
     GATEWAY_TASK_BUSY = 17,
-    GATEWAY_NO_LIST = 18
+    GATEWAY_NO_LIST = 18,
+    GATEWAY_BAD_SPACING = 19
 };
 
 /* `work` of an interval and of a view. */
@@ -60,12 +64,12 @@ static inline const char *gateway_refusal_text(uint8_t number)
     case GATEWAY_SERVED: return "it is not refused";
     case GATEWAY_CUT_SHORT: return "an entry is cut short";
     case GATEWAY_OTHER_KIND: return "an entry of a kind that does not belong there";
-    case GATEWAY_TASK_AFTER_RELEASE: return "a task after a release";
+    case GATEWAY_TASK_AFTER_RELEASE: return "a task or a spacing after a release, or a task after a spacing";
     case GATEWAY_BAD_TASK: return "a task number over 31 or given before";
     case GATEWAY_SAME_PRIORITY: return "a priority given before, which is no longer refused";
     case GATEWAY_BAD_MARK: return "a mark over 1";
     case GATEWAY_BAD_LENGTH: return "a length outside 1 to 1,000,000";
-    case GATEWAY_RELEASE_OF_NO_TASK: return "a release of a task that is not in the table";
+    case GATEWAY_RELEASE_OF_NO_TASK: return "a release or a spacing of a task that is not in the table";
     case GATEWAY_RELEASE_NOT_AFTER: return "a release that is not after the one before";
     case GATEWAY_PAST_LAST_TICK: return "a release time over 1,000,000,000";
     case GATEWAY_TOO_MANY_RELEASES: return "a 4,097th release";
@@ -76,6 +80,7 @@ static inline const char *gateway_refusal_text(uint8_t number)
     case GATEWAY_UNKNOWN_TASK: return "a task that is not in the table";
     case GATEWAY_TASK_BUSY: return "a mark change while a job is pending or a release waits";
     case GATEWAY_NO_LIST: return "no list of releases of these tasks makes this record";
+    case GATEWAY_BAD_SPACING: return "a spacing outside 1 to 1,000,000,000, or a second one for a task";
     default: return "no refusal has this number";
     }
 }
@@ -95,8 +100,8 @@ static inline const char *gateway_refusal_text(uint8_t number)
 /* The record of an input: what happens as its releases are served, entry by entry. */
 uint8_t gateway_record(const uint8_t *input, size_t input_length, uint8_t *out, size_t out_length, size_t *told);
 
-/* The release entries that made a record, from the task entries and the record: the only list that yields these bytes, or the
- * answer 18 where none does. The task entries are checked first; the place of a refused one counts from the start of
+/* The release entries that made a record, from the task entries, with the spacings behind them, and the record: the only list that yields these
+ * bytes, or the answer 18 where none does. The entries in `tasks` are checked first; the place of a refused one counts from the start of
  * `tasks`, that of an entry of the record from the start of `record`. A list takes at most 40,960 bytes. */
 uint8_t gateway_read(const uint8_t *tasks, size_t tasks_length, const uint8_t *record, size_t record_length, uint8_t *out,
                      size_t out_length, size_t *told);
@@ -113,11 +118,11 @@ uint8_t gateway_waveform(const uint8_t *input, size_t input_length, uint8_t *out
  * *d and *answer as they were. The pointers are not null, and what they point to does not overlap. Calls on one dispatcher come one after
  * the other; calls on different ones may run at once. */
 
-/* 7 times, of each task its release and the release that waits, 6 sets, three lengths of each task, 9 codes, of each task its priority and the
- * blocked intervals of its job. There is no gap between them. */
+/* 7 times, of each task its last release and the release that waits, 8 sets, three lengths and the spacing of each task, 9 codes, of each task its
+ * priority and the blocked intervals of its job. There is no gap between them. */
 typedef struct {
     uint64_t times[7], release[32], waits[32];
-    uint32_t sets[6], columns[96];
+    uint32_t sets[8], columns[128];
     uint8_t codes[9], priority[32], blocked[32], unused[7];
 } gateway_dispatcher;
 
@@ -137,7 +142,7 @@ typedef struct {
 /* What an instant tells. Where `done`, `closed` or `is_due` is 0, `job`, `interval` or `due` is as it was. */
 typedef struct {
     uint64_t due;
-    uint32_t skipped; /* the set of tasks whose release was skipped now, since one of theirs waits: bit n stands for task n */
+    uint32_t skipped; /* the set of tasks whose release was skipped now, since it came too soon or one of theirs waits: bit n stands for task n */
     uint8_t done;     /* 1: job is filled in */
     uint8_t closed;   /* 0 none; interval is filled in: 1 it ended before the releases, 2 after them */
     uint8_t is_due;   /* 1: due is the next due time */
@@ -169,7 +174,8 @@ typedef struct {
 #else
 #define GATEWAY_ASSERT(fact, text) extern int gateway_assertion[(fact) ? 1 : -1]
 #endif
-GATEWAY_ASSERT(sizeof(gateway_dispatcher) == 1056, "a dispatcher has no gap");
+GATEWAY_ASSERT(sizeof(gateway_dispatcher) == 1192, "a dispatcher has no gap");
+GATEWAY_ASSERT(offsetof(gateway_dispatcher, sets) == 568 && offsetof(gateway_dispatcher, codes) == 1112, "a dispatcher's arrays stand one behind the other");
 GATEWAY_ASSERT(sizeof(gateway_answer) == 72, "an answer has no gap");
 /* A view is lent as 4 ticks, 3 sets and 6 bytes, each kind one behind the other: a copy would take as long as the call. */
 GATEWAY_ASSERT(offsetof(gateway_view, copy_out_until) == 24 && offsetof(gateway_view, pending) == 32, "a view's ticks have no gap");
@@ -178,19 +184,20 @@ GATEWAY_ASSERT(offsetof(gateway_view, half) == 49 && sizeof(gateway_view) == 56,
 
 /* What is exported lends each array of a dispatcher by itself. The functions below find them. The names carry the version of the layout, of what a
  * dispatcher keeps and what an answer tells: a program with the header of another layout is not linked. */
-uint8_t gateway_open_v3(const uint8_t *entries, size_t length, uint64_t *times, uint32_t *sets, uint8_t *codes, uint8_t *priority,
+uint8_t gateway_open_v4(const uint8_t *entries, size_t length, uint64_t *times, uint32_t *sets, uint8_t *codes, uint8_t *priority,
                         uint32_t *columns, uint64_t *release, uint8_t *blocked, uint64_t *waits, size_t *place);
-uint8_t gateway_instant_v3(uint64_t time, uint32_t set, uint64_t *times, uint32_t *sets, uint8_t *codes, uint64_t *told,
+uint8_t gateway_instant_v4(uint64_t time, uint32_t set, uint64_t *times, uint32_t *sets, uint8_t *codes, uint64_t *told,
                            const uint8_t *priority, const uint32_t *columns, uint64_t *release, uint8_t *blocked, uint64_t *waits);
-uint8_t gateway_mark_v3(uint32_t *sets, uint8_t task, uint8_t mark);
-uint64_t gateway_longest_interval_v3(const uint32_t *sets, const uint32_t *columns);
-uint64_t gateway_completes_after_v3(const uint32_t *sets, const uint32_t *columns, uint8_t task, uint32_t h);
-void gateway_now_v3(const uint64_t *times, const uint32_t *sets, const uint8_t *codes, uint64_t *ticks, uint32_t *tasks, uint8_t *units);
+uint8_t gateway_mark_v4(uint32_t *sets, uint8_t task, uint8_t mark);
+uint64_t gateway_longest_interval_v4(const uint32_t *sets, const uint32_t *columns);
+uint64_t gateway_completes_after_v4(const uint32_t *sets, const uint32_t *columns, uint8_t task, uint32_t h);
+void gateway_now_v4(const uint64_t *times, const uint32_t *sets, const uint8_t *codes, uint64_t *ticks, uint32_t *tasks, uint8_t *units);
 
-/* Opens a dispatcher from `length` bytes of task entries. *place is the place of the entry that is refused, and 0 where there is none. */
+/* Opens a dispatcher from `length` bytes: task entries, and behind them the spacings, where tasks have some. *place is the place of the entry that is
+ * refused, and 0 where there is none. */
 static inline uint8_t gateway_open(const uint8_t *entries, size_t length, gateway_dispatcher *d, size_t *place)
 {
-    uint8_t number = gateway_open_v3(entries, length, d->times, d->sets, d->codes, d->priority, d->columns, d->release, d->blocked, d->waits, place);
+    uint8_t number = gateway_open_v4(entries, length, d->times, d->sets, d->codes, d->priority, d->columns, d->release, d->blocked, d->waits, place);
     if (number == 0) {
         memset(d->unused, 0, sizeof d->unused); /* so that every byte of it is written, and two can be compared */
     }
@@ -198,16 +205,18 @@ static inline uint8_t gateway_open(const uint8_t *entries, size_t length, gatewa
 }
 
 /* An instant: the releases of the set at the time. It is to be called at every release and at every due time: 15 otherwise. Of a task that has a
- * pending job one release waits, and is taken at the instant at which that job is done, before the releases of that instant.
+ * pending job one release waits, and is taken at the instant at which that job is done, before the releases of that instant. Of a task with a spacing
+ * a release that comes sooner than that after the last one taken or set waiting is skipped before anything else is asked of it.
  *
  * Phases are counted from the time that is handed in and not from the call: a task's lengths must include how late the driver may be. Ticks are
  * counted from the opening, and releases behind GATEWAY_LAST_TICK are refused; an empty set is served at any time, so that one empty call far in the future
  * ends the count. A new dispatcher can take over only where nothing is due. So a driver chooses its tick long enough, and late in a count it holds
- * releases back until then, as link/driver.c does. */
+ * releases back until then, as link/driver.c does. A new one knows no last release: whether the first one of a task that has a spacing comes too soon
+ * after one that its predecessor served is for the driver to say (gateway_spacing). */
 static inline uint8_t gateway_instant(gateway_dispatcher *d, uint64_t time, uint32_t set, gateway_answer *answer)
 {
     uint64_t told[GATEWAY_ANSWER_WORDS];
-    uint8_t number = gateway_instant_v3(time, set, d->times, d->sets, d->codes, told, d->priority, d->columns, d->release, d->blocked, d->waits);
+    uint8_t number = gateway_instant_v4(time, set, d->times, d->sets, d->codes, told, d->priority, d->columns, d->release, d->blocked, d->waits);
     if (number != 0) {
         return number;
     }
@@ -231,10 +240,16 @@ static inline uint8_t gateway_instant(gateway_dispatcher *d, uint64_t time, uint
     return 0;
 }
 
+/* The spacing of a task, 0 where it has none or is not in the table. */
+static inline uint32_t gateway_spacing(const gateway_dispatcher *d, uint8_t task)
+{
+    return task < 32 ? d->columns[96 + task] : 0;
+}
+
 /* Changes a task's mark from now on, while it has no pending job and no release that waits: 1 latency-sensitive, 0 not. */
 static inline uint8_t gateway_mark(gateway_dispatcher *d, uint8_t task, uint8_t mark)
 {
-    return gateway_mark_v3(d->sets, task, mark);
+    return gateway_mark_v4(d->sets, task, mark);
 }
 
 /* What goes on now. A driver commands its hardware by the views before and after a call: `b` and `a`, and `t` the time of the call. In this order:
@@ -253,22 +268,22 @@ static inline uint8_t gateway_mark(gateway_dispatcher *d, uint8_t task, uint8_t 
  * this and checks it. */
 static inline void gateway_now(const gateway_dispatcher *d, gateway_view *view)
 {
-    gateway_now_v3(d->times, d->sets, d->codes, &view->begin, &view->pending, &view->is_open);
+    gateway_now_v4(d->times, d->sets, d->codes, &view->begin, &view->pending, &view->is_open);
 }
 
 /* A figure to plan on. No interval lasts longer than this many ticks: the larger of the table's greatest L + C and the sum of its greatest L and its
  * greatest U. */
 static inline uint64_t gateway_longest_interval(const gateway_dispatcher *d)
 {
-    return gateway_longest_interval_v3(d->sets, d->columns);
+    return gateway_longest_interval_v4(d->sets, d->columns);
 }
 
 /* And a job of the task is done at most this many ticks after it was taken, where h other jobs that are not lower in priority execute between its taking and
  * its own execution: h + 3 such intervals, h + 2 for a task that is latency-sensitive, as it is marked now, and its own U. A release that waits is taken at
- * the instant at which its task's job is done. */
+ * the instant at which its task's job is done. Of a number that is no task of the table the answer means nothing. */
 static inline uint64_t gateway_completes_after(const gateway_dispatcher *d, uint8_t task, uint32_t h)
 {
-    return gateway_completes_after_v3(d->sets, d->columns, task, h);
+    return gateway_completes_after_v4(d->sets, d->columns, task, h);
 }
 
 #ifdef __cplusplus

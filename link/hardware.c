@@ -44,7 +44,7 @@ typedef struct {
 
 static hardware core;
 static lengths length_of[TASKS];
-static unsigned long copies_in, broken_off, begun_again, thrown_out, promoted, jobs;
+static unsigned long copies_in, broken_off, begun_again, thrown_out, promoted, jobs, came_too_soon;
 
 static void must(bool good, const char *what)
 {
@@ -239,6 +239,32 @@ static void compare(const gateway_view *v, const gateway_answer *answer)
     }
 }
 
+/* ---- The releases, by the spacings */
+
+static uint32_t spacing_of[TASKS]; /* 0: none */
+static uint64_t last_of[TASKS];    /* the last release of a task that was not skipped */
+static uint32_t released;          /* the tasks that have one */
+
+/* A release is skipped if it comes sooner than the spacing after the last one, or if another one of its task goes on waiting; and only then. */
+static void compare_skipped(const gateway_view *before, const gateway_answer *answer, uint32_t set)
+{
+    uint32_t done = answer->done ? UINT32_C(1) << answer->job.task : 0;
+    uint32_t soon = 0;
+    for (unsigned task = 0; task < TASKS; task++) {
+        if ((set & released) >> task & 1 && core.now - last_of[task] < spacing_of[task]) {
+            soon |= UINT32_C(1) << task;
+            came_too_soon++;
+        }
+    }
+    must(answer->skipped == (soon | (set & before->waiting & ~done)), "other releases are skipped than those that come too soon or find one waiting");
+    for (unsigned task = 0; task < TASKS; task++) {
+        if ((set & ~answer->skipped) >> task & 1) {
+            last_of[task] = core.now;
+        }
+    }
+    released |= set & ~answer->skipped;
+}
+
 /* ---- Random rounds */
 
 static uint64_t state;
@@ -276,6 +302,28 @@ static uint32_t make_tasks(uint8_t *entries, unsigned count, uint32_t longest)
     return set;
 }
 
+/* Behind them spacings of some of the tasks; their length. */
+static size_t make_spacings(uint8_t *entries, unsigned count, uint32_t longest)
+{
+    uint8_t *e = entries;
+    memset(spacing_of, 0, sizeof spacing_of);
+    if (below(2) == 0) {
+        return 0;
+    }
+    for (unsigned task = 0; task < count; task++) {
+        if (below(3) > 0) {
+            uint32_t ticks = spacing_of[task] = 1 + below(8 * longest);
+            e[0] = 3;
+            e[1] = (uint8_t)task;
+            for (unsigned byte = 0; byte < 4; byte++) {
+                e[2 + byte] = (uint8_t)(ticks >> 8 * byte);
+            }
+            e += 6;
+        }
+    }
+    return (size_t)(e - entries);
+}
+
 /* One call and its commands; whether there is a due time, and when. */
 static bool call(gateway_dispatcher *d, uint64_t now, uint32_t set, uint32_t *owed, uint64_t *due)
 {
@@ -288,6 +336,7 @@ static bool call(gateway_dispatcher *d, uint64_t now, uint32_t set, uint32_t *ow
     gateway_now(d, &after);
     command_hardware(&before, &after, now);
     compare(&after, &answer);
+    compare_skipped(&before, &answer, set);
     for (uint32_t rest = set & ~answer.skipped; rest != 0; rest &= rest - 1) {
         ++*owed;
     }
@@ -299,17 +348,19 @@ static bool call(gateway_dispatcher *d, uint64_t now, uint32_t set, uint32_t *ow
 /* One round: releases at random ticks, with mark calls between them, until nothing is due. */
 static void play(void)
 {
-    static uint8_t entries[16 * TASKS];
+    static uint8_t entries[GATEWAY_LONGEST_OPENING];
     static gateway_dispatcher d;
     unsigned count = 1 + below(8) + (below(8) == 0 ? 24u : 0u);
     uint32_t longest = below(16) == 0 ? 1000000 : 2 + below(8);
     uint32_t all = make_tasks(entries, count, longest);
+    size_t tasks = (size_t)16 * count, length = tasks + make_spacings(entries + tasks, count, longest);
     uint32_t left = 20 + below(100), owed = 0, gap = 1 + below(3 * longest);
     uint64_t next = below(gap), due = 0;
     size_t place;
     bool is_due = false;
     memset(&core, 0, sizeof core);
-    must(gateway_open(entries, (size_t)16 * count, &d, &place) == GATEWAY_SERVED, "the tasks are refused");
+    released = 0;
+    must(gateway_open(entries, length, &d, &place) == GATEWAY_SERVED, "the tasks are refused");
     while (left > 0 || is_due) {
         bool releases = left > 0 && (!is_due || next <= due);
         uint64_t now = releases ? next : due;
@@ -349,7 +400,8 @@ int main(int argc, char **argv)
     for (long round = 0; round < rounds; round++) {
         play();
     }
-    printf("%ld rounds: %lu copy-ins, %lu broken off, %lu of them begun again at once, %lu thrown out, %lu by the processor, %lu jobs, no fault\n",
-           rounds, copies_in, broken_off, begun_again, thrown_out, promoted, jobs);
+    printf("%ld rounds: %lu copy-ins, %lu broken off, %lu of them begun again at once, %lu thrown out, %lu by the processor, %lu jobs, %lu releases too "
+           "soon, no fault\n",
+           rounds, copies_in, broken_off, begun_again, thrown_out, promoted, jobs, came_too_soon);
     return 0;
 }

@@ -44,6 +44,26 @@ try read_another_kind --read "$inputs/tasks" "$inputs/byte_behind"
 try read_a_release --read "$inputs/plan_a" "$inputs/record"
 try read_nothing --read "$inputs/tasks" "$inputs/empty"
 
+# a spacing of 5 ticks for task 3 behind the tasks, and a second release of 3 at 4, which comes too soon; and a spacing of 0
+{
+    cat "$inputs/tasks"
+    printf '\003\003\005\000\000\000'
+} >"$inputs/spaced_tasks"
+{
+    cat "$inputs/spaced_tasks"
+    tail -c +49 "$inputs/plan_a"
+    printf '\002\003\004\000\000\000\000\000\000\000'
+} >"$inputs/spaced"
+{
+    cat "$inputs/tasks"
+    printf '\003\003\000\000\000\000'
+} >"$inputs/bad_spacing"
+python3 -m sim record <"$inputs/spaced" >"$inputs/spaced_record"
+try spaced "$inputs/spaced"
+try read_spaced --read "$inputs/spaced_tasks" "$inputs/spaced_record"
+try read_no_list --read "$inputs/tasks" "$inputs/spaced_record"
+try bad_spacing "$inputs/bad_spacing"
+
 # the waveform: whole, where the slice is as long as it and a byte too short, and of what is refused
 try waveform_plan_a --waveform "$inputs/plan_a"
 try waveform_plan_a --waveform "$inputs/plan_a" 445
@@ -77,6 +97,10 @@ try plan_a "$inputs/plan_a" 18446744073709551617
 
 # memory that no call made
 target/link/any_bytes_c
+passed=$((passed + 1))
+
+# spacings: opening with some, refusals with their places, and the edge
+target/link/spacings_c
 passed=$((passed + 1))
 
 # the model of the hardware, commanded by views alone: no fault, and one with a command of any kind left out

@@ -39,6 +39,12 @@ for plan in plans/*.plan; do
         grep -q " $start to [0-9]* *execution$" "$made/told" || fail "$plan $task $time starts otherwise"
         passed=$((passed + 1))
     done <"$made/jobs"
+    grep '^S' "$made/lines" >"$made/skips" || true
+    while read -r _ task time; do
+        ./gateway why "$plan" "$task" "$time" >"$made/told"
+        grep -q "^The release of task $task at $time was skipped\.$" "$made/told" || fail "$plan $task $time is skipped, and told otherwise"
+        passed=$((passed + 1))
+    done <"$made/skips"
     passed=$((passed + 10))
 done
 ./gateway merge plans/a.plan >"$made/merged" && ./gateway run "$made/merged" | diff <(./gateway run) - || fail "plan A merged runs otherwise"

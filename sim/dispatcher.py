@@ -125,6 +125,7 @@ class Dispatcher:
     last: Optional[int] = None  # the last instant served
     pending: dict = field(default_factory=dict)  # task number -> job
     waiting: dict = field(default_factory=dict)  # task number -> time of the release that waits for the pending job to complete
+    passed: dict = field(default_factory=dict)  # task number -> time of its last release that was taken or set waiting, and not skipped
     ready: set = field(default_factory=set)
     arrivals: set = field(default_factory=set)  # jobs taken in the open interval, or in the one about to begin
     interval: Optional[Interval] = None
@@ -147,7 +148,7 @@ class Dispatcher:
 
     @classmethod
     def open(cls, data):
-        """Open from the task entries alone."""
+        """Open from task entries and spacings alone."""
         return cls(read_table(data))
 
     # Calls. All checks come before the first change, so that a refusal leaves no trace.
@@ -230,17 +231,23 @@ class Dispatcher:
     def _step_c(self, now, released, answer):
         """c. The completed job's waiting release is taken; then this instant's own are taken, wait or are skipped.
 
-        What is taken belongs to the open interval, else to the next.
+        One that comes sooner than its task's spacing is skipped before anything else is asked of it (8/13). What is taken belongs to the open
+        interval, else to the next.
         """
         taken = []
         completed = answer.job_done.task if answer.job_done is not None else None
         if completed in self.waiting:
             taken.append(self._take(completed, self.waiting.pop(completed)))
         for number in members(released):
-            if number not in self.pending:
+            if self._too_soon(number, now):
+                answer.skipped |= 1 << number
+                self._note(notes.TooSoon(now, number, self.passed[number], self.table[number].spacing))
+            elif number not in self.pending:
                 taken.append(self._take(number, now))
+                self.passed[number] = now
             elif number not in self.waiting:
                 self.waiting[number] = now
+                self.passed[number] = now
                 self._note(notes.Waits(now, number, self.pending[number]))
             else:
                 answer.skipped |= 1 << number
@@ -290,6 +297,11 @@ class Dispatcher:
         del self.pending[job.task.number]
         self._note(notes.Done(now, job))
         return JobDone(job.task.number, job.release, job.start, now, job.blocked)
+
+    def _too_soon(self, number, now):
+        """Whether a release comes sooner than its task's spacing after the last one that was taken or set waiting, both by original time."""
+        spacing, last = self.table[number].spacing, self.passed.get(number)
+        return spacing is not None and last is not None and now < last + spacing
 
     def _begin_execution(self, job, now):
         job.start = now

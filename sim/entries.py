@@ -5,6 +5,7 @@ This is the only place that knows the fields of each kind of entry.
 
 TASK = 1
 RELEASE = 2
+SPACING = 3
 JOB_DONE = 16
 INTERVAL = 17
 SKIPPED = 18
@@ -18,6 +19,7 @@ LENGTH_BYTES = 4
 FIELDS = {
     TASK: (1, 1, 1, 4, 4, 4),
     RELEASE: (1, 8),
+    SPACING: (1, 4),
     JOB_DONE: (1, 8, 8, 8, 1),
     INTERVAL: (8, 8, 1, 1, 1, 1, 1, 1, 1),
     SKIPPED: (1, 8),
@@ -82,6 +84,10 @@ def task_entry(number, priority, mark, copy_in, execution, copy_out):
 def release_entry(time, task):
     """A release; the arguments are in document 01's order for plans, (time, task)."""
     return encode(RELEASE, task, time)
+
+
+def spacing_entry(task, ticks):
+    return encode(SPACING, task, ticks)
 
 
 def two_parts(first, second):

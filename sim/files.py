@@ -1,8 +1,8 @@
-"""Files: task entries, then releases, run to the end into a record."""
+"""Files: task entries, spacings, then releases, run to the end into a record."""
 
 from sim.dispatcher import LAST_RELEASE_TIME, Dispatcher, members
-from sim.entries import INTERVAL, JOB_DONE, NO_TASK, RELEASE, SKIPPED, TASK, Refused, encode, entries
-from sim.table import add_task
+from sim.entries import INTERVAL, JOB_DONE, NO_TASK, RELEASE, SKIPPED, Refused, encode, entries
+from sim.table import HEAD_KINDS, add_to_table
 
 MOST_RELEASES = 4_096
 
@@ -12,13 +12,13 @@ def read_file(data):
     if not data:
         raise Refused(12)
     table, releases = {}, []
-    for place, kind, fields in entries(data, kinds=(TASK, RELEASE)):
+    for place, kind, fields in entries(data, kinds=(*HEAD_KINDS, RELEASE)):
         if kind == RELEASE:
             _add_release(table, releases, fields, place)
         elif releases:
             raise Refused(3, place)
         else:
-            add_task(table, fields, place)
+            add_to_table(table, kind, fields, place)
     return table, releases
 
 

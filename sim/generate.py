@@ -2,20 +2,20 @@
 
 Releases and calls are mostly found by following a dispatcher: at its due time, or just before. Tasks are released again while their job is
 pending, so that releases wait, and on the tick on which it completes; and beside one of their own priority, at once with it, behind it, or while it
-is copied in.
+is copied in; and one spacing after their last release, or a tick beside that.
 """
 
 from sim.dispatcher import COPY_IN_DONE, COPY_OUT, LAST_RELEASE_TIME, Dispatcher, members
-from sim.entries import FIELDS, RELEASE, TASK, Refused, decode, encode, entry_length, release_entry
+from sim.entries import FIELDS, RELEASE, SPACING, TASK, Refused, decode, encode, entry_length, release_entry, spacing_entry
 from sim.files import MOST_RELEASES
-from sim.generate_tables import longest_length, random_tasks, small_length, some_tasks
+from sim.generate_tables import longest_length, random_table, small_length, some_tasks, task_numbers
 from sim.sessions import INSTANT, MARK, call_entry, session_bytes
-from sim.table import LAST_TASK, LENGTH_LIMIT
+from sim.table import HEAD_KINDS, LAST_TASK, LENGTH_LIMIT, LONGEST_SPACING
 
 LAST_TICK = 2**64 - 1
 
-# No input that is refused holds its first refusal behind this many bytes.
-LONGEST_CHECKED = 41_488
+# No input that is refused holds its first refusal behind this many bytes: 32 tasks with their spacings, 4,096 releases and the longest entry.
+LONGEST_CHECKED = 32 * (16 + 6) + 4_096 * 10 + 16
 
 # How often an instant has a release to which a copy-in gives way, where there is one: by chance alone few do, fewest when it is done.
 RIVAL_CHANCE = 0.7
@@ -42,10 +42,14 @@ CALM_WAIT_CHANCE = 0.05
 SKIP_CHANCE = 0.05
 SKIP_AT_COMPLETION_CHANCE = 0.6
 
+# How often an instant is looked for where a task's spacing ends, a tick before or behind; and how often that task is then released.
+EDGE_TIME_CHANCE = 0.25
+EDGE_CHANCE = 0.7
+
 # Values at and beside the limits of the fields of each size.
 BOUNDARIES = {
     1: (0, 1, 2, LAST_TASK, LAST_TASK + 1, 254, 255),
-    4: (0, 1, LENGTH_LIMIT, LENGTH_LIMIT + 1, 2**32 - 1),
+    4: (0, 1, LENGTH_LIMIT, LENGTH_LIMIT + 1, LONGEST_SPACING, LONGEST_SPACING + 1, 2**32 - 1),
     8: (0, 1, 2**32, LAST_RELEASE_TIME, LAST_RELEASE_TIME + 1, 2**63, LAST_TICK),
 }
 
@@ -64,10 +68,23 @@ def _served_time(rng, dispatcher, gap):
     if due is None and dispatcher.last is None:
         return _first_time(rng)
     first = 0 if dispatcher.last is None else dispatcher.last + 1
+    edges = [time for time in _edges(dispatcher) if first <= time <= (LAST_RELEASE_TIME if due is None else due)]
+    if edges and rng.random() < EDGE_TIME_CHANCE:
+        return rng.choice(edges)
     if due is None:
         return first + rng.choice((0, 0, 1, rng.randint(0, gap)))
     sooner = max(first, due - 1)
     return rng.choice((sooner if _promotable(dispatcher) else due, due, rng.randint(first, due), sooner))
+
+
+def _edges(dispatcher):
+    """The times at which a task's spacing ends, and a tick before and behind: time -> its tasks."""
+    found = {}
+    for number, last in dispatcher.passed.items():
+        if dispatcher.table[number].spacing is not None:
+            for beside in (-1, 0, 1):
+                found.setdefault(last + dispatcher.table[number].spacing + beside, []).append(number)
+    return found
 
 
 def _known_set(rng, dispatcher, density):
@@ -78,9 +95,9 @@ def _known_set(rng, dispatcher, density):
     return released
 
 
-def _density(rng, tasks):
+def _density(rng, dispatcher):
     """How often a task is released at an instant by chance alone; seldom enough in most runs that some have no pending job."""
-    return rng.choice((0, 0, 0, 0.03, 0.1, 0.2, 0.5)) if len(tasks) < 7 else rng.choice((0, 0.01, 0.03, 0.1))
+    return rng.choice((0, 0, 0, 0.03, 0.1, 0.2, 0.5)) if len(dispatcher.table) < 7 else rng.choice((0, 0.01, 0.03, 0.1))
 
 
 def _free(dispatcher, fits):
@@ -146,6 +163,7 @@ def _wanted(dispatcher, time, calm):
         yield COMPLETION_CHANCE, completing
     yield CALM_WAIT_CHANCE if calm else WAIT_CHANCE, _pending_alone(dispatcher)
     yield SKIP_AT_COMPLETION_CHANCE if completing else SKIP_CHANCE, list(dispatcher.waiting)
+    yield EDGE_CHANCE, _edges(dispatcher).get(time, [])
 
 
 def served_instant(rng, dispatcher, gap, density):
@@ -164,11 +182,11 @@ def served_instant(rng, dispatcher, gap, density):
 
 # Files.
 
-def _followed_releases(rng, tasks, count):
-    """Releases at and around the ends of phases."""
-    dispatcher = Dispatcher.open(b"".join(tasks))
-    gap = 2 * longest_length(tasks)
-    density = _density(rng, tasks)
+def _followed_releases(rng, table, count):
+    """Releases at and around the ends of phases and of spacings."""
+    dispatcher = Dispatcher.open(b"".join(table))
+    gap = 2 * longest_length(table)
+    density = _density(rng, dispatcher)
     releases = []
     while len(releases) < count:
         time, released = served_instant(rng, dispatcher, gap, density)
@@ -179,18 +197,18 @@ def _followed_releases(rng, tasks, count):
     return releases[:count]
 
 
-def _sprinkled_releases(rng, tasks, count):
+def _sprinkled_releases(rng, table, count):
     """Releases anywhere in a window, some at its very end."""
-    numbers = [decode(task)[0] for task in tasks]
-    width = rng.choice((count, 3 * count, count * longest_length(tasks), LAST_RELEASE_TIME))
+    numbers = task_numbers(table)
+    width = rng.choice((count, 3 * count, count * longest_length(table), LAST_RELEASE_TIME))
     width = min(width, LAST_RELEASE_TIME)
     begin = rng.choice((0, 0, LAST_RELEASE_TIME - width))
     return sorted({(begin + rng.randint(0, width), rng.choice(numbers)) for _ in range(count)})
 
 
-def crowded_releases(rng, tasks, count):
+def crowded_releases(rng, table, count):
     """Exactly `count` releases, close together: for files at and past the limit."""
-    numbers = sorted(decode(task)[0] for task in tasks)
+    numbers = sorted(task_numbers(table))
     releases, time = [], rng.randint(0, 5)
     while len(releases) < count:
         some = sorted(rng.sample(numbers, rng.randint(1, len(numbers))))
@@ -199,25 +217,25 @@ def crowded_releases(rng, tasks, count):
     return releases[:count]
 
 
-def tasks_and_releases(rng):
-    """The task entries of a file that is served, and its releases (time, task)."""
-    tasks = random_tasks(rng)
+def table_and_releases(rng):
+    """The table's entries of a file that is served, and its releases (time, task)."""
+    table = random_table(rng)
     shape = rng.random()
     if shape < 0.04:
         releases = []
     elif shape < 0.05:
-        releases = crowded_releases(rng, tasks, rng.choice((MOST_RELEASES - 1, MOST_RELEASES)))
+        releases = crowded_releases(rng, table, rng.choice((MOST_RELEASES - 1, MOST_RELEASES)))
     elif shape < 0.75:
-        releases = _followed_releases(rng, tasks, rng.choice((3, 10, 30, 60, 120)))
+        releases = _followed_releases(rng, table, rng.choice((3, 10, 30, 60, 120)))
     else:
-        releases = _sprinkled_releases(rng, tasks, rng.choice((3, 10, 30, 60, 120)))
-    return tasks, releases
+        releases = _sprinkled_releases(rng, table, rng.choice((3, 10, 30, 60, 120)))
+    return table, releases
 
 
 def file_parts(rng):
     """The entries of a file that is served, as a list."""
-    tasks, releases = tasks_and_releases(rng)
-    return tasks + [release_entry(*release) for release in releases]
+    table, releases = table_and_releases(rng)
+    return table + [release_entry(*release) for release in releases]
 
 
 def random_file(rng):
@@ -248,7 +266,7 @@ def drop(rng, parts):
 
 def change_kind(rng, parts):
     at = rng.randrange(len(parts))
-    parts[at] = bytes([rng.choice((0, 1, 2, 3, 7, 16, 17, 18, 255))]) + parts[at][1:]
+    parts[at] = bytes([rng.choice((0, 1, 2, 3, 4, 7, 16, 17, 18, 255))]) + parts[at][1:]
 
 
 def is_whole(part):
@@ -308,8 +326,47 @@ def _stray_release(rng, parts):
     parts.insert(rng.randint(0, len(parts)), encode(RELEASE, task, time))
 
 
-ENTRY_DAMAGE = (swap, _swap_neighbours, duplicate, drop, change_kind, change_one_field, change_one_field,
-                change_many_fields, _same_priority, _bad_task_mark, _late_task, _stray_release)
+def _whole_table(parts):
+    """How many entries at the front are a table's."""
+    return next((at for at, part in enumerate(parts) if not is_whole(part) or part[0] not in HEAD_KINDS), len(parts))
+
+
+def _known_or_not(rng, parts):
+    """The number of a task that the entries speak of, mostly; or any."""
+    known = [decode(part)[0] for part in parts if is_whole(part) and part[0] == TASK]
+    return rng.choice((rng.choice(known or [0]), rng.choice(known or [0]), rng.choice((0, 31, 32, 255))))
+
+
+def _bad_spacing(rng, parts):
+    """Behind the table a spacing of 0 or too long, of no task, or a second one; or two of these at once."""
+    ticks = rng.choice((0, LONGEST_SPACING + 1, 2**32 - 1, 1, LONGEST_SPACING))
+    parts.insert(_whole_table(parts), spacing_entry(_known_or_not(rng, parts), ticks))
+
+
+def _spacing_twice(rng, parts):
+    """A second spacing of a task that has one, of as many ticks or others."""
+    spacings = [part for part in parts if is_whole(part) and part[0] == SPACING]
+    if spacings:
+        task, ticks = decode(rng.choice(spacings))
+        parts.insert(_whole_table(parts), spacing_entry(task, rng.choice((ticks, 1, 0))))
+    else:
+        _bad_spacing(rng, parts)
+
+
+def _stray_spacing(rng, parts):
+    """A spacing, good or not, anywhere: before its task, between tasks, or behind a release."""
+    ticks = rng.choice((1, 5, 5, 0, LONGEST_SPACING, LONGEST_SPACING + 1))
+    parts.insert(rng.randint(0, len(parts)), spacing_entry(_known_or_not(rng, parts), ticks))
+
+
+def _spacing_cut(rng, parts):
+    """A spacing of which only the front is there, at the end or before what follows."""
+    cut = spacing_entry(_known_or_not(rng, parts), rng.choice((0, 5)))[:rng.randint(1, 5)]
+    parts.insert(rng.choice((len(parts), _whole_table(parts))), cut)
+
+
+ENTRY_DAMAGE = (swap, _swap_neighbours, duplicate, drop, change_kind, change_one_field, change_one_field, change_many_fields, _same_priority,
+                _bad_task_mark, _late_task, _stray_release, _bad_spacing, _spacing_twice, _stray_spacing, _spacing_cut)
 
 
 def damage_entries(rng, parts):
@@ -352,9 +409,9 @@ def damage_bytes(rng, data):
 
 def _crowded_file(rng):
     """Too many releases, or nearly: the first refusal is the 4,097th release unless damage comes before it."""
-    tasks = random_tasks(rng)
+    table = random_table(rng)
     count = MOST_RELEASES + rng.choice((0, 1, 1, 1, 2, 200))
-    parts = tasks + [release_entry(*release) for release in crowded_releases(rng, tasks, count)]
+    parts = table + [release_entry(*release) for release in crowded_releases(rng, table, count)]
     if rng.random() < 0.5:
         damage_entries(rng, parts)
     return b"".join(parts)
@@ -362,7 +419,7 @@ def _crowded_file(rng):
 
 def _long_file(rng):
     """Longer than any file that is served, with its first refusal anywhere."""
-    tail = rng.choice((rng.randbytes(300), b"".join(random_tasks(rng)), release_entry(0, 0), b"\x01"))
+    tail = rng.choice((rng.randbytes(300), b"".join(random_table(rng)), release_entry(0, 0), b"\x01"))
     data = rng.choice((random_file, _crowded_file))(rng)
     repeats = LONGEST_CHECKED // len(tail) + 1
     data += tail * repeats
@@ -508,11 +565,11 @@ def _drain(dispatcher, calls):
         _follow(dispatcher, calls[-1])
 
 
-def random_calls(rng, tasks, count, drained=False):
-    """Calls found by following a dispatcher; most of them are served."""
-    dispatcher = Dispatcher.open(b"".join(tasks))
-    gap = 2 * longest_length(tasks)
-    density = _density(rng, tasks)
+def random_calls(rng, table, count, drained=False):
+    """Calls found by following a dispatcher that opens from a table's entries; most of them are served."""
+    dispatcher = Dispatcher.open(b"".join(table))
+    gap = 2 * longest_length(table)
+    density = _density(rng, dispatcher)
     refused = rng.choice((0, 0.1, 0.2))
     calls = []
     for _ in range(count):
@@ -524,28 +581,28 @@ def random_calls(rng, tasks, count, drained=False):
 
 
 def session_parts(rng):
-    """Task entries and calls of a session whose opening is served."""
-    tasks = random_tasks(rng)
-    return tasks, random_calls(rng, tasks, rng.choice((0, 5, 20, 60, 200)), drained=rng.random() < 0.5)
+    """A table's entries and the calls of a session whose opening is served."""
+    table = random_table(rng)
+    return table, random_calls(rng, table, rng.choice((0, 5, 20, 60, 200)), drained=rng.random() < 0.5)
 
 
 def random_session(rng):
     """A session whose opening is served, with refused calls among the served ones."""
-    tasks, calls = session_parts(rng)
-    return session_bytes(b"".join(tasks), calls)
+    table, calls = session_parts(rng)
+    return session_bytes(b"".join(table), calls)
 
 
 # Damaged sessions.
 
 def _opening_damaged(rng):
-    tasks, calls = session_parts(rng)
-    damage_entries(rng, tasks)
-    return session_bytes(b"".join(tasks), calls)
+    table, calls = session_parts(rng)
+    damage_entries(rng, table)
+    return session_bytes(b"".join(table), calls)
 
 
 def _opening_bytes_damaged(rng):
-    tasks, calls = session_parts(rng)
-    return session_bytes(damage_bytes(rng, b"".join(tasks)), calls)
+    table, calls = session_parts(rng)
+    return session_bytes(damage_bytes(rng, b"".join(table)), calls)
 
 
 def _opening_of_no_task(rng):
@@ -556,7 +613,7 @@ def _opening_of_no_task(rng):
 def wrong_length(rng, data):
     """An input of two parts whose length of the first says more, or less, than there is."""
     length = int.from_bytes(data[:4], "little")
-    wrong = rng.choice((length - 1, length - 16, length + 1, length + 16, len(data) - 4, len(data) - 3, 2**32 - 1))
+    wrong = rng.choice((length - 1, length - 6, length - 16, length + 1, length + 6, length + 16, len(data) - 4, len(data) - 3, 2**32 - 1))
     return max(0, wrong).to_bytes(4, "little") + data[4:]
 
 
@@ -565,9 +622,9 @@ def _length_wrong(rng):
 
 
 def _call_kind_unknown(rng):
-    tasks, calls = session_parts(rng)
+    table, calls = session_parts(rng)
     before = rng.randint(0, len(calls))
-    data = session_bytes(b"".join(tasks), calls[:before])
+    data = session_bytes(b"".join(table), calls[:before])
     kind = rng.choice((0, 1, 2, 16, 63, 66, 255))
     return data + bytes([kind]) + b"".join(call_entry(*call) for call in calls[before:])
 

@@ -1,11 +1,11 @@
-"""Random tables of tasks. The same generator state gives the same bytes.
+"""Random tables: tasks, and spacings of none, some or all of them. The same generator state gives the same bytes.
 
 Most have few tasks and lengths of 1 to 5, half of them longer executions, so that ends of phases and releases fall on the same ticks; in most of them
-many tasks share few priorities.
+many tasks share few priorities. Half of the tables have no spacing.
 """
 
-from sim.entries import decode, task_entry
-from sim.table import LAST_TASK, LENGTH_LIMIT
+from sim.entries import TASK, decode, spacing_entry, task_entry
+from sim.table import LAST_TASK, LENGTH_LIMIT, LONGEST_SPACING
 
 # How many priorities the tasks of a table share, where they share them; and how often all are different.
 LEVELS = (1, 2, 2, 2, 3, 3, 4, 5)
@@ -16,6 +16,13 @@ DESK_CHANCE = 0.25
 
 # How much longer than copies the executions of some tables are, so that copies are done before their interval ends.
 STRETCH = 4
+
+
+# How many of a table's tasks have a spacing: none, all, or each by this chance.
+SPACED_SHARES = (0, 0, 0, 0, 1, 0.7, 0.5, 0.25)
+
+# How often a spacing is any one at all, at the limit among them; else it is about as long as a job of its task takes.
+ANY_SPACING_CHANCE = 0.06
 
 
 def small_length(rng, top):
@@ -70,6 +77,42 @@ def random_tasks(rng):
     return some_tasks(rng, count, lengths, rng.choice((1, STRETCH)))
 
 
-def longest_length(tasks):
-    """The greatest L, C or U of some task entries."""
-    return max(max(decode(task)[3:]) for task in tasks)
+def _some_spacing(rng, task):
+    """The spacing of a task in ticks: from 1, which every release keeps, to some five times what its job takes alone; seldom any one at all."""
+    if rng.random() < ANY_SPACING_CHANCE:
+        return rng.choice((LONGEST_SPACING, LONGEST_SPACING, LONGEST_SPACING - 1, rng.randint(1, LONGEST_SPACING)))
+    alone = sum(decode(task)[3:])
+    return rng.choice((1, 2, rng.randint(1, alone), alone, rng.randint(alone, 2 * alone), rng.randint(alone, 3 * alone),
+                       rng.randint(2 * alone, 5 * alone)))
+
+
+def some_spacings(rng, tasks, share):
+    """Spacing entries of so large a share of some tasks, in any order."""
+    spaced = [task for task in tasks if rng.random() < share]
+    rng.shuffle(spaced)
+    return [spacing_entry(decode(task)[0], _some_spacing(rng, task)) for task in spaced]
+
+
+def with_spacings(rng, tasks):
+    """A table's entries from its tasks: half of the tables have no spacing."""
+    return tasks + some_spacings(rng, tasks, rng.choice(SPACED_SHARES))
+
+
+def random_table(rng):
+    """The entries of a table that is served."""
+    return with_spacings(rng, random_tasks(rng))
+
+
+def tasks_of(table):
+    """The task entries of a table."""
+    return [entry for entry in table if entry[0] == TASK]
+
+
+def task_numbers(table):
+    """The numbers of the tasks of a table, in its order."""
+    return [decode(task)[0] for task in tasks_of(table)]
+
+
+def longest_length(table):
+    """The greatest L, C or U of a table's tasks."""
+    return max(max(decode(task)[3:]) for task in tasks_of(table))

@@ -27,6 +27,14 @@ class Skipped(NamedTuple):
     since: int
 
 
+class TooSoon(NamedTuple):
+    """Step c: a release was skipped, since it came sooner than its task's spacing after the last one that was taken or set waiting."""
+    time: int
+    task: int
+    last: int
+    spacing: int
+
+
 class GaveWay(NamedTuple):
     """Step d: a copy-in was cancelled or thrown out by the highest of the releases that did."""
     time: int

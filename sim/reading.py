@@ -1,4 +1,4 @@
-"""Reading a stored record: from the task entries and a record, the releases that made it.
+"""Reading a stored record: from the task entries, the spacings and a record, the releases that made it.
 
 Each release of a run leaves one entry, as a job or as skipped, with its task and time; so only one list can
 have made a record, and whether it did is seen by running it.
@@ -22,19 +22,19 @@ def left_by(stored):
     return sorted(found)
 
 
-def yields(tasks, releases, stored):
-    """Whether a list of releases is admissible over the tasks, and its record is these bytes."""
+def yields(head, releases, stored):
+    """Whether a list of releases is admissible over a table's entries, and its record is these bytes."""
     try:
-        return record(tasks + b"".join(release_entry(*release) for release in releases)) == stored
+        return record(head + b"".join(release_entry(*release) for release in releases)) == stored
     except Refused:
         return False
 
 
-def read(tasks, stored, lent=None):
+def read(head, stored, lent=None):
     """The releases (time, task) that made a record. With the length of a lent slice: 13 if their entries do not fit."""
-    read_table(tasks)
+    read_table(head)
     releases = left_by(stored)
-    if not yields(tasks, releases, stored):
+    if not yields(head, releases, stored):
         raise Refused(18)
     needed = sum(len(release_entry(*release)) for release in releases)
     if lent is not None and lent < needed:
@@ -43,7 +43,7 @@ def read(tasks, stored, lent=None):
 
 
 def read_lines(data):
-    """What the reader program prints for an input: the task entries behind their length, then the record."""
+    """What the reader program prints for an input: the task entries and spacings behind their length, then the record."""
     parts = parts_of(data)
     if parts is None:
         return ["X"]  # the task entries are not there to be read

@@ -1,17 +1,18 @@
 """Small random cases with their outcomes, for a comparison by computation: runs are short on purpose.
 
-    python3 -m sim.rows                prints a row a line: the input's entries, then the record's or the refusal
+    python3 -m sim.rows                prints rows: the input's entries, then the record's or the refusal
     python3 -m sim.rows --check FILE   tells whether FILE is what would be printed
 """
 
 import random
 import sys
+import textwrap
 
 from sim.dispatcher import Dispatcher
-from sim.entries import FIELDS, INTERVAL, JOB_DONE, NO_TASK, RELEASE, SKIPPED, TASK, Refused, decode, entry_length, release_entry
+from sim.entries import FIELDS, INTERVAL, JOB_DONE, NO_TASK, RELEASE, SKIPPED, SPACING, TASK, Refused, decode, entry_length, release_entry
 from sim.files import instant_entries, record
 from sim.generate import damage_entries, make_call, random_calls
-from sim.generate_tables import small_length, some_tasks
+from sim.generate_tables import small_length, some_tasks, task_numbers, with_spacings
 from sim.lines import OPTIONAL_TASKS
 from sim.sessions import INSTANT, MARK
 
@@ -23,12 +24,16 @@ MOST_CALLS = 12
 DAMAGED_EVERY = 5
 
 
+def _small_table(rng):
+    return with_spacings(rng, some_tasks(rng, rng.randint(1, MOST_TASKS), small_length))
+
+
 def _small_file(rng):
-    tasks = some_tasks(rng, rng.randint(1, MOST_TASKS), small_length)
-    numbers = [decode(task)[0] for task in tasks]
+    table = _small_table(rng)
+    numbers = task_numbers(table)
     count = rng.randint(0, MOST_RELEASES)
     releases = sorted({(rng.randint(0, 2 * count), rng.choice(numbers)) for _ in range(count)})
-    return tasks + [release_entry(*release) for release in releases]
+    return table + [release_entry(*release) for release in releases]
 
 
 def outcome(data):
@@ -65,8 +70,8 @@ def call_lists(seed, count):
     found = []
     for index in range(count):
         rng = random.Random(f"call rows {seed} {index}")
-        tasks = some_tasks(rng, rng.randint(1, MOST_TASKS), small_length)
-        found.append((b"".join(tasks), random_calls(rng, tasks, rng.randint(1, MOST_CALLS))))
+        table = _small_table(rng)
+        found.append((b"".join(table), random_calls(rng, table, rng.randint(1, MOST_CALLS))))
     return found
 
 
@@ -77,21 +82,22 @@ HEADER = """\
 use mathlib.Core.List.{List, [], _∷_, _++_}
 use Rattle.rules.specs.declared.Call.the-variants.{Instant, Mark}
 use Rattle.plans.specs.Rows.{Row, recorded, refused, answered}
-use Rattle.plans.specs.Plans.{task, release, none, interval, job, skipped}
+use Rattle.plans.specs.Plans.{task, spacing, release, none, interval, job, skipped}
 
 unfoldable pub runs : List Row
 runs =
 """
 
-SEED = 30  # of the first few the one whose runs have most of what can occur, and tell most wrong orders among equals
+SEED = 572  # of some hundreds one whose runs have most of what can occur, and tell most wrong orders among equals and every wrong reading of a spacing
 FILES = 40
 CALL_LISTS = 40
+WIDTH = 140
 
 # What stands behind a record in the slice that a row lends, so that a row sees it left alone.
 BEHIND = 2
 
 # The name of the definition that gives an entry's bytes from its fields.
-NAMES = {TASK: "task", RELEASE: "release", JOB_DONE: "job", INTERVAL: "interval", SKIPPED: "skipped"}
+NAMES = {TASK: "task", SPACING: "spacing", RELEASE: "release", JOB_DONE: "job", INTERVAL: "interval", SKIPPED: "skipped"}
 
 
 def number_list(values):
@@ -149,10 +155,15 @@ def call_row(opening, calls):
     return f"answered {bytes_term(opening)} {number_list(map(call_term, calls))} {number_list(numbers)} {bytes_term(record_bytes)}"
 
 
+def row_lines(row):
+    """A row in lines that are no longer than a definition's may be."""
+    return textwrap.fill(f"{row} ∷", WIDTH, initial_indent=" " * 4, subsequent_indent=" " * 4, break_long_words=False, break_on_hyphens=False) + "\n"
+
+
 def antt():
     files = [file_row(data, result) for data, result in rows(SEED, FILES)]
     lists = [call_row(opening, calls) for opening, calls in call_lists(SEED, CALL_LISTS)]
-    return HEADER + "".join(f"    {row} ∷\n" for row in files + lists) + "    []\n"
+    return HEADER + "".join(map(row_lines, files + lists)) + "    []\n"
 
 
 def main():

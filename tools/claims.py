@@ -53,7 +53,7 @@ GIVEN = {
     "getD": (3, at), "replicate": (2, lambda n, value: listed([value] * n)), "take": (2, lambda n, l: listed(unlisted(l)[:n])),
     "drop": (2, lambda n, l: listed(unlisted(l)[n:])),
     "copyin-length": (2, at), "execution-length": (2, lambda c, n: at(c, TASKS + n)),
-    "copyout-length": (2, lambda c, n: at(c, 2 * TASKS + n))}
+    "copyout-length": (2, lambda c, n: at(c, 2 * TASKS + n)), "spacing": (2, lambda c, n: at(c, 3 * TASKS + n))}
 
 
 class Partial:

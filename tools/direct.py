@@ -8,12 +8,15 @@ says which, two numbers of 4 bytes and the bytes of a slice; it writes the answe
 import random
 from typing import Callable, NamedTuple
 
-from sim.entries import FIELDS, INTERVAL, JOB_DONE, NO_TASK, RELEASE, SKIPPED, TASK
-from sim.entries import decode, encode, entry_length, release_entry, task_entry
+from sim.entries import FIELDS, INTERVAL, JOB_DONE, NO_TASK, RELEASE, SKIPPED, SPACING, TASK
+from sim.entries import decode, encode, entry_length, release_entry, spacing_entry, task_entry
 from sim.lines import line
 
 FILL = 0xA5
 MOST_LENT = 512
+
+# The numbers of a table's columns.
+COLUMNS = 4 * 32
 
 # How many times a function of numbers and sets is called.
 EACH = 60
@@ -78,8 +81,8 @@ def refusal(kinds):
 
 
 def head_end(a, b, s):
-    """Where the head of an accepted file ends; of a refused one nothing is told."""
-    return number(16 if len(s) in (16, 26) else 0)
+    """Where the head of an accepted file, of a task, its spacing and a release, ends; of a refused one nothing is told."""
+    return number({16: 16, 22: 22, 32: 22}.get(len(s), 0))
 
 
 # What a processor at rest did, as rules/src/codes has it: it idled, or it executed.
@@ -95,8 +98,8 @@ def blockable(a, b, s):
 
 
 def numbers(s):
-    """The 96 numbers of a table's columns: the lengths of copy-ins, of executions and of copy-outs."""
-    return [int.from_bytes(s[at:at + 4], "little") for at in range(0, 4 * 96, 4)]
+    """The numbers of a table's columns: the lengths of copy-ins, of executions and of copy-outs, and the spacings."""
+    return [int.from_bytes(s[at:at + 4], "little") for at in range(0, 4 * COLUMNS, 4)]
 
 
 def longest(a, s):
@@ -108,8 +111,8 @@ def longest(a, s):
 
 def completes(a, b, s):
     """By when a job of the task behind the columns completes, marked or not, where b others go before it; held at 64 bits."""
-    task, marked = s[4 * 96:]
-    own = numbers(s)[64 + task] if task < 32 else 0
+    task, marked = s[4 * COLUMNS:]
+    own = dict(enumerate(numbers(s))).get(64 + task, 0)  # of a number that is no task's, what stands where its U would
     return number(min((b + (2 if marked else 3)) * longest(a, s) + own, 2**64 - 1))
 
 
@@ -150,8 +153,8 @@ def room_and_record(_):
 
 def input_and_place(_):
     """Places at and between the entries of an input, cut at each byte, and behind its end."""
-    data = task_entry(1, 1, 1, 2, 3, 1) + release_entry(5, 1) + bytes([3])
-    return [(0, at, data[:end]) for end in range(len(data) + 1) for at in (0, 1, 16, 26, len(data), 99)]
+    data = task_entry(1, 1, 1, 2, 3, 1) + spacing_entry(1, 5) + release_entry(5, 1) + bytes([4])
+    return [(0, at, data[:end]) for end in range(len(data) + 1) for at in (0, 1, 16, 22, 32, len(data), 99)]
 
 
 def record_and_place(_):
@@ -162,7 +165,7 @@ def record_and_place(_):
 
 def file_or_not(_):
     """A file, cut at each byte."""
-    data = task_entry(1, 1, 1, 2, 3, 1) + release_entry(5, 1)
+    data = task_entry(1, 1, 1, 2, 3, 1) + spacing_entry(1, 5) + release_entry(5, 1)
     return [(0, 0, data[:end]) for end in range(len(data) + 1)]
 
 
@@ -181,7 +184,7 @@ def table_and_number(rng):
     made = []
     for _ in range(EACH):
         few = rng.choice(([1, 2, 3], [1_000_000], [0, 1, 2**32 - 1], None))
-        columns = [rng.choice(few) if few else some_length(rng) for _ in range(96)]
+        columns = [rng.choice(few) if few else some_length(rng) for _ in range(COLUMNS)]
         task = rng.choice((0, 31, 32, 255, rng.randrange(32)))
         s = b"".join(value.to_bytes(4, "little") for value in columns) + bytes((task, rng.randrange(2)))
         made.append((some_set(rng), rng.choice((0, 1, 2, 2**31, 2**32 - 1, rng.getrandbits(32))), s))
@@ -203,13 +206,13 @@ CALLS = (
     Call("say(words::put_u8(&mut lent[..room], (b % 256) as u8) as u64)", put(1, lambda b: b % 256), room_and_number),
     Call("say(words::put_u32(&mut lent[..room], b) as u64)", put(4, lambda b: b), room_and_number),
     Call("say(words::put_u64(&mut lent[..room], 4294967297 * b as u64) as u64)", put(8, lambda b: 4294967297 * b), room_and_number),
-    Call("say_entry(entries::entry_at(s, at))", refusal((TASK, RELEASE)), input_and_place),
+    Call("say_entry(entries::entry_at(s, at))", refusal((TASK, SPACING, RELEASE)), input_and_place),
     Call("say_filled(record_lines::fill(s, at, &mut lent[..room]))", filled, room_and_record),
     Call("say_record_entry(entries::record_entry_at(s, at))", refusal((JOB_DONE, INTERVAL, SKIPPED)), record_and_place),
     Call("say(run::check_file(s).end as u64)", head_end, file_or_not),
     Call("say(blockable(s, a) as u64)", blockable, set_and_interval),
     Call("say(guarantees::longest_interval(&columns_of(s), a))", lambda a, b, s: number(longest(a, s)), table_and_number),
-    Call("say(guarantees::completes_after(&columns_of(s), a, s[384], s[385] == 1, b))", completes, table_and_number),
+    Call("say(guarantees::completes_after(&columns_of(s), a, s[512], s[513] == 1, b))", completes, table_and_number),
 )
 
 NEEDS = ("entries", "guarantees", "record_lines", "rules", "run", "sets", "words", "io", "libc")
@@ -231,10 +234,10 @@ fn blockable(s: &[u8], present: u32) -> u32 {
     rules::blockable(s[0], s[1], present, &ranks)
 }
 
-fn columns_of(s: &[u8]) -> [u32; 96] {
-    let mut columns = [0u32; 96];
+fn columns_of(s: &[u8]) -> [u32; 128] {
+    let mut columns = [0u32; 128];
     let mut k = 0;
-    while k < 96 {
+    while k < 128 {
         columns[k] = read(s, 4 * k);
         k += 1;
     }
@@ -275,6 +278,7 @@ fn say_entry(entry: Entry) {
     match entry {
         Entry::Malformed(number) => say(number as u64),
         Entry::TaskEntry(_) => say(0),
+        Entry::SpacingEntry(_) => say(0),
         Entry::ReleaseEntry(_) => say(0),
     }
 }

@@ -13,7 +13,7 @@ from xml.etree import ElementTree
 
 from tools import legend, responses, shapes, waits
 from tools.shapes import add, group, longest_fitting, width_of, words
-from tools.timeline import CANCELLED, ENGINE, PROCESSOR, SKIPPED, TAKEN, THROWN_OUT, WAITS
+from tools.timeline import CANCELLED, ENGINE, PROCESSOR, SKIPPED, TAKEN, THROWN_OUT, TOO_SOON, WAITS
 
 # Widths in pixels.
 LEFT, RIGHT = 84, 30
@@ -31,7 +31,7 @@ BAR_TOP = 17   # below a row's top, where its half is written
 STACKED = 14   # each number of several releases on one tick
 MOST_STACKED = 8
 
-ORDER = (TAKEN, WAITS, SKIPPED)
+ORDER = (TAKEN, WAITS, SKIPPED, TOO_SOON)
 
 SHORT_NAMES = {"copy-in": "in", "execution": "run", "copy-out": "out"}
 
@@ -239,7 +239,8 @@ def stack(numbers):
 
 def draw_release(parent, layout, release, text, y):
     x = layout.x(release.time)
-    kind, more = {TAKEN: ("release", ""), WAITS: ("waiting", ", waits"), SKIPPED: ("skipped", ", skipped")}[release.state]
+    kind, more = {TAKEN: ("release", ""), WAITS: ("waiting", ", waits"), SKIPPED: ("skipped", ", skipped: one waits"),
+                  TOO_SOON: ("skipped", ", skipped: sooner than its spacing")}[release.state]
     mark = group(parent, f"release of task {release.task} at {release.time}{more}", kind=kind, task=release.task, time=release.time)
     shapes.release_arrow(mark, x, layout.waits - 2, release.state)
     if text:
@@ -315,10 +316,11 @@ def count(number, one, several=None):
 def summary(run, layout):
     states = Counter(release.state for release in run.releases)
     waited = f"{states[WAITS]} waiting, " if states[WAITS] else ""
+    soon = f", {states[TOO_SOON]} of them too soon" if states[TOO_SOON] else ""
     fates = Counter(bar.fate for bar in run.bars)
     return ", ".join((
         f"ticks {layout.start} to {layout.end}", count(len(run.table), "task"),
-        f"{count(len(run.releases), 'release')} ({waited}{states[SKIPPED]} skipped)", count(len(run.bands), "interval"),
+        f"{count(len(run.releases), 'release')} ({waited}{states[SKIPPED] + states[TOO_SOON]} skipped{soon})", count(len(run.bands), "interval"),
         count(fates[CANCELLED], "copy-in cancelled", "copy-ins cancelled"), *([f"{fates[THROWN_OUT]} thrown out"] if fates[THROWN_OUT] else []),
         count(len(run.promotions), "job promoted", "jobs promoted"),
         count(len(run.completions), "job done", "jobs done")))

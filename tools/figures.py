@@ -9,7 +9,7 @@ from sim.dispatcher import COPY_IN_CANCELLED
 # The columns of a summary, in their order, with the words of the table's head.
 COLUMNS = {
     "task": "task", "priority": "prio", "mark": "mark", "releases": "releases", "done": "done", "waited": "waited", "skipped": "skipped",
-    "worst_response": "worst", "worst_release": "released", "median_response": "median", "median_release": "released",
+    "too_soon": "too soon",    "worst_response": "worst", "worst_release": "released", "median_response": "median", "median_release": "released",
     "worst_blocked": "blocked", "blocked_release": "released", "blocked_by": "by", "cancelled": "cancelled", "thrown_out": "thrown out",
     "promoted": "promoted",
 }
@@ -45,7 +45,8 @@ def of_task(run, task, lives):
     fates = [note.fate for life in done for _, note in life.gave_way]
     return {
         "task": task.number, "priority": task.priority, "mark": task.mark, "releases": len(lives), "done": len(done),
-        "waited": sum(life.waits is not None for life in done), "skipped": len(lives) - len(done), **responses(done), **blocking(run, done),
+        "waited": sum(life.waits is not None for life in done), "skipped": len(lives) - len(done),
+        "too_soon": sum(life.too_soon for life in lives), **responses(done), **blocking(run, done),
         "cancelled": fates.count(COPY_IN_CANCELLED), "thrown_out": len(fates) - fates.count(COPY_IN_CANCELLED),
         "promoted": sum(life.promoted is not None for life in done)}
 

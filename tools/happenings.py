@@ -80,11 +80,11 @@ class Point(dict):
     """The state of a run behind some of its calls, as far as statements look into it."""
 
     def __init__(self, run, at, dispatcher):
-        self.run, self.at = run, at
+        self.run, self.at, self.passed = run, at, dict(dispatcher.passed)
         blocked = [dispatcher.pending[n].blocked if n in dispatcher.pending else 0 for n in range(32)]
         super().__init__(
             table=run.table, jobs={"pending": sum(1 << n for n in dispatcher.pending), "blocked": blocked},
-            waiting={"tasks": sum(1 << n for n in dispatcher.waiting)},
+            waiting={"tasks": sum(1 << n for n in dispatcher.waiting), "before": sum(1 << n for n in dispatcher.passed)},
             marked=sum(1 << n for n, task in dispatcher.table.items() if task.mark))
 
     def empty_sets(self):
@@ -100,8 +100,10 @@ class Run:
         dispatcher = Watched.open(opening)
         tasks = dispatcher.table
         columns = [getattr(tasks[n], name) if n in tasks else 0 for name in ("copy_in", "execution", "copy_out") for n in range(32)]
+        columns += [tasks[n].spacing or 0 if n in tasks else 0 for n in range(32)]
         priority = [tasks[n].priority if n in tasks else 0 for n in range(32)]
-        self.table = {"present": sum(1 << n for n in tasks), "columns": columns, "priority": priority}
+        spaced = sum(1 << n for n, task in tasks.items() if task.spacing)
+        self.table = {"present": sum(1 << n for n in tasks), "spaced": spaced, "columns": columns, "priority": priority}
         self.tasks = sorted(tasks)
         self.calls, self.answers, self.events = [], [], []
         self.points = [Point(self, 0, dispatcher)]
@@ -174,4 +176,5 @@ OF_RUNS = {
     "by-call": (2, lambda d, call: history(d, listed([call]))),
     "refusal": (3, lambda d, t, tasks: refusal(at(d, listed([("Instant", t, tasks)])))),
     "mark-refusal": (3, lambda d, n, mark: refusal(at(d, listed([("Mark", n, mark)])))),
-    "instant": (3, lambda d, t, tasks: {"answer": d.run.answers[d.at]})}
+    "instant": (3, lambda d, t, tasks: {"answer": d.run.answers[d.at]}),
+    "last-release": (2, lambda d, n: ("Tick", d.passed[n]) if n in d.passed else ("Never",))}

@@ -2,7 +2,7 @@
 
 from tools import shapes
 from tools.shapes import add, words
-from tools.timeline import CANCELLED, DONE, SKIPPED, TAKEN, THROWN_OUT, WAITS
+from tools.timeline import CANCELLED, DONE, SKIPPED, TAKEN, THROWN_OUT, TOO_SOON, WAITS
 
 SWATCH = 36
 GREY = ("#b9b9b9", "#ececec", "#444444")
@@ -71,6 +71,9 @@ PROMOTED = ((lambda parent, x, y: shapes.promotion_mark(parent, x + 13, y), "job
 
 RELEASED = ((release_sample(TAKEN), "release of task n"),)
 
+# A release that came sooner than its task's spacing: shown where one did.
+SOON = ((release_sample(TOO_SOON), "release skipped, too soon"),)
+
 MARKS = (
     (release_sample(SKIPPED), "release skipped"),
     (lambda parent, x, y: shapes.completion_mark(parent, x + 13, y), "job done"),
@@ -81,7 +84,8 @@ MARKS = (
 
 def task_text(task):
     mark = ", latency-sensitive" if task.mark else ""
-    return f"task {task.number}: priority {task.priority}{mark}, L {task.copy_in}, C {task.execution}, U {task.copy_out}"
+    spacing = "" if task.spacing is None else f", spacing {task.spacing}"
+    return f"task {task.number}: priority {task.priority}{mark}, L {task.copy_in}, C {task.execution}, U {task.copy_out}{spacing}"
 
 
 def items(run, colours):
@@ -89,7 +93,9 @@ def items(run, colours):
     fates = {bar.fate for bar in run.bars}
     gave_way = tuple(item for fate, item in GAVE_WAY if fate in fates)
     tasks = tuple((task_sample(colours[number]), task_text(run.table[number])) for number in sorted(run.table))
-    return PHASES + gave_way + PROMOTED + RELEASED + (WAITING if run.waits else ()) + (READY if run.readies else ()) + MARKS, tasks
+    soon = any(release.state == TOO_SOON for release in run.releases)
+    seen = (WAITING if run.waits else ()) + (READY if run.readies else ()) + (SOON if soon else ())
+    return PHASES + gave_way + PROMOTED + RELEASED + seen + MARKS, tasks
 
 
 def draw(parent, left, top, width, groups, row=24):

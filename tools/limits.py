@@ -1,15 +1,15 @@
 """Inputs at the limits of document 01, beside the random ones: a cut at each byte, each field at and beside its limits, exactly as many
-releases as there may be and one more, times at the end of what a number holds, a release on each tick around a copy-in, releases that wait, and
-tasks of one priority."""
+releases as there may be and one more, times at the end of what a number holds, a release on each tick around a copy-in, releases that wait,
+tasks of one priority, and releases around the end of a spacing."""
 
-from sim.dispatcher import LAST_RELEASE_TIME, Dispatcher
+from sim import other_orders, other_spacings
+from sim.dispatcher import LAST_RELEASE_TIME, Dispatcher, members
 from sim.earlier import NothingWaits
-from sim.entries import JOB_DONE, SKIPPED, decode, encode, release_entry, task_entry, two_parts
-from sim.files import MOST_RELEASES
+from sim.entries import JOB_DONE, SKIPPED, decode, encode, release_entry, spacing_entry, task_entry, two_parts
+from sim.files import MOST_RELEASES, released_sets, run
 from sim.generate_records import LONGEST_KEPT, record_entries
-from sim.other_orders import ALL
 from sim.sessions import INSTANT, MARK, call_entry, session_bytes
-from sim.table import LAST_TASK, LENGTH_LIMIT
+from sim.table import LAST_TASK, LENGTH_LIMIT, LONGEST_SPACING, read_table
 
 LAST_TICK = 2**64 - 1
 
@@ -120,11 +120,84 @@ def equal_files():
     return found + [whole_table(priority) for priority in (0, 255)]
 
 
+# Spacings (task, ticks), and releases over them: around the end of a spacing; behind one that was skipped, for its spacing and since one waited; behind
+# one that waited, whose original time counts; at a taking, and in idle time; of a task without one; a marked one that would cancel a copy; and from the
+# first tick that there is to the last.
+SPACED = (
+    (((1, 6),), ((0, 1), (5, 1), (6, 1))),
+    (((1, 7),), ((0, 1), (6, 1))),
+    (((1, 6),), ((0, 1), (3, 1), (7, 1))),
+    (((1, 2),), ((0, 1), (2, 1), (5, 1), (6, 1))),
+    (((1, 5),), ((0, 1), (5, 1), (10, 1))),
+    (((1, 5),), ((0, 1), (5, 1), (6, 1), (9, 1), (11, 1))),
+    (((1, 20),), ((0, 1), (10, 1), (19, 1), (20, 1))),
+    (((3, 4), (1, 9)), ((0, 2), (1, 2), (2, 2), (3, 1), (3, 3), (6, 3), (7, 3), (11, 1), (12, 1))),
+    (((1, 10),), ((0, 1), (7, 2), (8, 1))),
+    (((2, 10), (1, 1)), ((3, 1), (3, 2), (4, 1), (5, 1), (12, 2), (13, 2))),
+    (((1, LONGEST_SPACING),), ((0, 1), (LAST_RELEASE_TIME - 1, 1), (LAST_RELEASE_TIME, 1))),
+    (((1, LONGEST_SPACING - 1),), ((0, 1), (LAST_RELEASE_TIME - 2, 1), (LAST_RELEASE_TIME - 1, 1), (LAST_RELEASE_TIME, 1))),
+    (((1, LONGEST_SPACING),), ((LAST_RELEASE_TIME, 1),)),
+)
+
+
+def spaced_head(spacings, tasks=TASKS):
+    """The entries of a table with these spacings."""
+    return [*tasks, *(spacing_entry(*each) for each in spacings)]
+
+
+def around_a_spacing():
+    """A second release on some ticks of a job's time, and a third at the end of a spacing after the first and the second, and a tick beside that."""
+    found = {}
+    for ticks in (1, 2, 5, 6, 7, 13):
+        for second in (1, 4, 5, 6, 7):
+            for third in {edge + beside for edge in (ticks, second + ticks) for beside in (-1, 0, 1)}:
+                if third > second:
+                    found[((1, ticks),), ((0, 1), (second, 1), (third, 1))] = None
+    return list(found)
+
+
+def full_head():
+    """As many tasks as there may be, and a spacing of each."""
+    tasks = [task_entry(number, number // 4, number % 2, 1, 2, 1) for number in range(LAST_TASK + 1)]
+    return spaced_head([(number, 200 + number) for number in range(LAST_TASK + 1)], tasks)
+
+
+def full_releases():
+    """Each task of a full table: taken, a tick too soon, one spacing later, and a tick behind that, which is too soon again."""
+    return sorted((time, number) for number in range(LAST_TASK + 1) for time in (0, 199 + number, 200 + number, 201 + number))
+
+
+def crowded_full(count):
+    """So many releases over a full table: the longest files that there are."""
+    pairs = ((at // (LAST_TASK + 1), at % (LAST_TASK + 1)) for at in range(count))
+    return b"".join(full_head()) + b"".join(release_entry(*pair) for pair in pairs)
+
+
+def bad_spacings():
+    """Spacings behind the tasks with one field at or beside its limits, with two, twice, cut short, or before a task."""
+    yield from (spacing_entry(task, 5) for task in (0, 1, 4, LAST_TASK, LAST_TASK + 1, 255))
+    yield from (spacing_entry(1, ticks) for ticks in (0, 1, LONGEST_SPACING, LONGEST_SPACING + 1, 2**32 - 1))
+    yield from (spacing_entry(9, ticks) for ticks in (0, LONGEST_SPACING + 1))
+    first = spacing_entry(1, 5)
+    yield from (first + spacing_entry(task, ticks) for task, ticks in ((1, 5), (1, 6), (1, 0), (2, 5), (9, 0), (2, 0)))
+    yield from (first + first[:end] for end in range(1, len(first)))
+    yield from (first + other for other in (task_entry(4, 9, 0, 1, 1, 1), task_entry(32, 9, 2, 0, 0, 0), TASKS[0], TASKS[0][:-1], bytes([4])))
+
+
+def spaced_files():
+    found = [b"".join(spaced_head(spacings)) + b"".join(release_entry(*pair) for pair in pairs) for spacings, pairs in (*SPACED, *around_a_spacing())]
+    found += [spacing_entry(1, 5) + TABLE, b"".join(full_head()) + b"".join(release_entry(*pair) for pair in full_releases())]
+    found += [TABLE + other + release for other in bad_spacings() for release in (b"", RELEASES[0])]
+    found += [TABLE + RELEASES[0] + other for other in (*bad_spacings(), spacing_entry(1, 5)[:3])]
+    found += [b"".join(full_head()) + other for other in (spacing_entry(0, 5), task_entry(0, 0, 0, 1, 1, 1), bytes([4]))]
+    return found + [crowded_full(count) for count in (MOST_RELEASES, MOST_RELEASES + 1)]
+
+
 def files():
-    found = cuts(TABLE + b"".join(RELEASES)) + around_a_copy() + waiting_files() + equal_files()
+    found = cuts(TABLE + b"".join(RELEASES)) + around_a_copy() + waiting_files() + equal_files() + spaced_files()
     found += [TABLE + other + RELEASES[0] for other in other_tasks()]
     found += [TABLE + other for other in other_releases()]
-    found += [TABLE + RELEASES[0] + TASKS[0], TASKS[0] + bytes([3]) + RELEASES[0]]
+    found += [TABLE + RELEASES[0] + TASKS[0], *(TASKS[0] + bytes([kind]) + RELEASES[0] for kind in (3, 4))]
     return found + [crowded(count) for count in (MOST_RELEASES - 1, MOST_RELEASES, MOST_RELEASES + 1)]
 
 
@@ -154,13 +227,35 @@ def equal_sessions():
     return [session_bytes(b"".join(tasks), [(MARK, 2, mark), *calls]) for tasks in DESKS for mark in (0, 1)]
 
 
+def spaced_session(head, pairs):
+    """The run of some releases by calls: behind each instant that has any, the same again, which is refused, and the mark that a task has already."""
+    table, sets, calls = read_table(b"".join(head)), dict(released_sets(pairs)), []
+    for time, _ in run(table, pairs):
+        calls.append((INSTANT, time, sets.get(time, 0)))
+        if time in sets:
+            task = members(sets[time])[0]
+            calls += [calls[-1], (MARK, task, table[task].mark)]
+    return session_bytes(b"".join(head), calls)
+
+
+def spaced_sessions():
+    found = [spaced_session(spaced_head(spacings), pairs) for spacings, pairs in SPACED]
+    return [*found, spaced_session(full_head(), full_releases())]
+
+
 def sessions():
-    """Cuts of the opening bytes, which may end in a release, and of the calls; openings of other tasks; times at the limits; what waits; equals."""
+    """Cuts of the opening bytes, which may end in a release, and of the calls; openings of other tasks; times at the limits; what waits; equals;
+    spacings."""
     calls = b"".join(call_entry(*call) for call in CALLS)
     found = [session_bytes(opening, CALLS) for opening in cuts(TABLE + RELEASES[0])]
     found += [session_bytes(TABLE, ()) + part for part in cuts(calls)]
     found += [session_bytes(TABLE + other, CALLS) for other in other_tasks()]
-    found += waiting_sessions() + equal_sessions()
+    found += waiting_sessions() + equal_sessions() + spaced_sessions()
+    spaced = b"".join(spaced_head(((1, 6), (3, 4)))) + RELEASES[0]
+    found += [session_bytes(opening, CALLS) for opening in cuts(spaced)[len(TABLE):]]
+    found += [session_bytes(TABLE + other, CALLS) for other in bad_spacings()]
+    more = (b"", bytes([3]), bytes([4]), spacing_entry(0, 5), task_entry(0, 0, 0, 1, 1, 1), spacing_entry(0, 5) * 50)
+    found += [session_bytes(b"".join(full_head()) + other, CALLS) for other in more]
     late = (LAST_RELEASE_TIME, LAST_RELEASE_TIME + 1, LAST_TICK - 1, LAST_TICK)
     return found + [session_bytes(TABLE, ((INSTANT, time, released), (INSTANT, LAST_TICK, 0)))
                     for time in late for released in (0, 2, 14, 1)]
@@ -194,8 +289,23 @@ def equal_records():
     """Records over tasks of one priority, by the rule and by each wrong order, behind their task entries."""
     for tasks in DESKS:
         for pairs in EQUALS:
-            for kind in (Dispatcher, *ALL):
+            for kind in (Dispatcher, *other_orders.ALL):
                 yield two_parts(b"".join(tasks), b"".join(record_entries(tasks, pairs, kind)))
+
+
+def spaced_records():
+    """Records over spacings, by the rule and by each wrong reading, behind their table; and beside a spacing of a tick more or less, and none."""
+    for spacings, pairs in SPACED:
+        head = spaced_head(spacings)
+        stored = b"".join(record_entries(head, pairs))
+        for kind in other_spacings.ALL:
+            yield two_parts(b"".join(head), b"".join(record_entries(head, pairs, kind)))
+        (task, ticks), *rest = spacings
+        for other in ([(task, ticks), *rest], [(task, ticks + 1), *rest], [(task, ticks - 1), *rest], rest):
+            yield two_parts(b"".join(spaced_head(other)), stored)
+    full = b"".join(record_entries(full_head(), full_releases()))
+    for head in (full_head(), [*full_head(), spacing_entry(0, 5)], full_head()[:-1], full_head()[:-1] + [bytes([3])]):
+        yield two_parts(b"".join(head), full)
 
 
 def skipped_alone():
@@ -219,10 +329,10 @@ def stored_records():
     """Task entries cut, refused, or more than there may be; records cut, changed, of as many releases as there may be and of one more, too long."""
     entries = record_entries(TASKS, PAIRS)
     record = b"".join(entries)
-    found = list(dict.fromkeys(equal_records())) + cuts(two_parts(TABLE, record[:24])) + [two_parts(opening, record) for opening in cuts(TABLE + RELEASES[0])]
-    found += [two_parts(TABLE + other, record) for other in other_tasks()]
+    found = list(dict.fromkeys((*equal_records(), *spaced_records()))) + cuts(two_parts(TABLE, record[:24])) + [two_parts(opening, record) for opening in cuts(TABLE + RELEASES[0])]
+    found += [two_parts(TABLE + other, record) for other in (*other_tasks(), *bad_spacings())]
     found += [two_parts(TABLE * count, record) for count in (10, 11, 12, 20_000)]
-    found += [two_parts(TABLE * 20_000, b"")[:length] for length in (4 + 33 * 16, 900_000)]
+    found += [two_parts(TABLE * 20_000, b"")[:length] for length in (4 + 33 * 16, 4 + 32 * 22 + 16, 900_000)]
     records = [*cuts(record), *changed_records(entries), *waiting_records(), *skipped_alone(), *long_records()]
     records += [b"".join(record_entries(TASKS, [(time, 1) for time in range(count)])) for count in (MOST_RELEASES, MOST_RELEASES + 1)]
     return found + [two_parts(TABLE, each) for each in records]

@@ -5,7 +5,7 @@ start, completion and blocked intervals, which are found here in a way of their 
 """
 
 from dataclasses import dataclass, field
-from typing import Any, NamedTuple, Optional
+from typing import Any, NamedTuple, Optional, Union
 
 from sim import notes
 from sim.dispatcher import COPY_IN_CANCELLED, COPY_IN_THROWN_OUT, Dispatcher, is_higher
@@ -63,7 +63,7 @@ class Life:
     task: Any
     release: int
     job: Any = None  # None: skipped
-    skipped: Optional[notes.Skipped] = None
+    skipped: Union[notes.Skipped, notes.TooSoon, None] = None  # and why
     waits: Optional[notes.Waits] = None
     taken: Optional[int] = None
     place: int = 0  # of its taking among the notes
@@ -76,6 +76,11 @@ class Life:
     out: Optional[Spell] = None
     promoted: Optional[Spell] = None  # the interval at whose end it was
     now: tuple = ()  # the phase under way, and since when
+
+    @property
+    def too_soon(self):
+        """Whether it was skipped for its task's spacing, and not since one waited."""
+        return isinstance(self.skipped, notes.TooSoon)
 
     @property
     def start(self):
@@ -150,6 +155,8 @@ class Follower:
 
     def skipped(self, note, _):
         self.life(note.time, note.task).skipped = note
+
+    toosoon = skipped
 
     def began(self, note, _):
         self.open = Spell(note.interval, note.time)

@@ -1,6 +1,7 @@
 """Plan files: the one place that reads them. A plan file has a line for each entry, in the order of the input:
 
     task NUMBER PRIORITY MARK L C U
+    spacing TASK TICKS
     release TIME TASK
 
 Blank lines and what stands behind a # do not count. Every mistake is found in one reading, in the order in which the gateway looks for them:
@@ -11,9 +12,9 @@ from dataclasses import dataclass, field
 from typing import NamedTuple, Optional
 
 from sim.dispatcher import LAST_RELEASE_TIME
-from sim.entries import FIELDS, RELEASE, TASK, encode
+from sim.entries import FIELDS, RELEASE, SPACING, TASK, encode
 from sim.files import MOST_RELEASES
-from sim.table import LAST_TASK, LENGTH_LIMIT, Task
+from sim.table import HEAD_KINDS, LAST_TASK, LENGTH_LIMIT, LONGEST_SPACING, Task
 from tools.files import lines_of
 from tools.output import Rejected, named, shown
 
@@ -22,7 +23,8 @@ LONGEST_LINE = 4_096
 MOST_MISTAKES = 1_000  # then the reading stops: a file of some other kind is not read to its end
 
 # Each line's first word, its entry's kind, and the names of its fields, as the line has them.
-SHAPES = {"task": (TASK, ("number", "priority", "mark", "L", "C", "U")), "release": (RELEASE, ("time", "task"))}
+SHAPES = {"task": (TASK, ("number", "priority", "mark", "L", "C", "U")), "spacing": (SPACING, ("task", "ticks")),
+          "release": (RELEASE, ("time", "task"))}
 
 # The fields of an entry whose line has them in another order, as the entry has them.
 BODY_ORDER = {RELEASE: ("task", "time")}
@@ -64,7 +66,7 @@ def number_in(word, name, width):
 def entry(line, words):
     """The entry of one line's words."""
     if words[0] not in SHAPES:
-        raise NoEntry(f"'{shown(words[0])}' is neither 'task' nor 'release'")
+        raise NoEntry(f"'{shown(words[0])}' is none of 'task', 'spacing' and 'release'")
     kind, names = SHAPES[words[0]]
     if len(words) != len(names) + 1:
         raise NoEntry(f"'{words[0]}' takes {len(names)} numbers ({' '.join(names)}), and here are {len(words) - 1}")
@@ -94,19 +96,25 @@ class Plan:
         return self.of_kind(TASK)
 
     @property
+    def head(self):
+        """The tasks and spacings: what a dispatcher opens from, and a record is read with."""
+        return [each for each in self.entries if each.kind in HEAD_KINDS]
+
+    @property
     def table(self):
         """The tasks by number, as the simulator has them."""
-        return {each.values["number"]: Task(*each.values.values()) for each in self.tasks}
+        spacings = dict(each.values.values() for each in self.of_kind(SPACING))
+        return {each.values["number"]: Task(*each.values.values(), spacings.get(each.values["number"])) for each in self.tasks}
 
     @property
     def releases(self):
         """The releases (time, task)."""
         return [tuple(each.values.values()) for each in self.of_kind(RELEASE)]
 
-    def line_at(self, place):
-        """The number of the line whose entry begins at a place of the input, or None."""
+    def line_at(self, place, entries=None):
+        """The number of the line whose entry begins at a place of the input, or of some entries alone; or None."""
         at = 0
-        for each in self.entries:
+        for each in self.entries if entries is None else entries:
             if at == place:
                 return each.line
             at += len(each.data)
@@ -124,22 +132,29 @@ class Plan:
 # What is wrong with an entry, as (number, text), in the order of the gateway's checks.
 
 class Checks:
-    """The entries so far, as far as the next ones are held against them. Where the tasks alone are wanted, releases are passed over."""
+    """The entries so far, as far as the next ones are held against them. Where the head alone is wanted, releases are passed over."""
 
-    def __init__(self, tasks_alone):
-        self.tasks_alone = tasks_alone
-        self.numbers = {}  # with the line of each
+    def __init__(self, head_alone):
+        self.head_alone = head_alone
+        self.numbers, self.spacings = {}, {}  # of each task with the line
         self.first_release, self.last, self.count = None, None, 0
 
     def of(self, each):
         if each.kind == TASK:
             return self.of_task(each)
-        return () if self.tasks_alone else self.of_release(each)
+        if each.kind == SPACING:
+            return self.of_spacing(each)
+        return () if self.head_alone else self.of_release(each)
+
+    def after_a_release(self, name):
+        if self.first_release is not None:
+            yield 3, f"a {name} after a release: the first release is in line {self.first_release}"
 
     def of_task(self, each):
         number, _, mark, *lengths = each.values.values()
-        if self.first_release is not None:
-            yield 3, f"a task after a release: the first release is in line {self.first_release}"
+        yield from self.after_a_release("task")
+        if self.first_release is None and self.spacings:
+            yield 3, f"a task after a spacing: the first spacing is in line {min(self.spacings.values())}"
         if number > LAST_TASK:
             yield 4, f"task number {number} is over {LAST_TASK}"
         elif number in self.numbers:
@@ -150,6 +165,17 @@ class Checks:
             if not 1 <= length <= LENGTH_LIMIT:
                 yield 7, f"{name} is {length}, outside 1 to {LENGTH_LIMIT}"
         self.numbers.setdefault(number, each.line)
+
+    def of_spacing(self, each):
+        task, spacing = each.values.values()
+        yield from self.after_a_release("spacing")
+        if task not in self.numbers:
+            yield 8, f"a spacing of task {task}, which is not in the table"
+        if not 1 <= spacing <= LONGEST_SPACING:
+            yield 19, f"the spacing of task {task} is {spacing}, outside 1 to {LONGEST_SPACING}"
+        if task in self.spacings:
+            yield 19, f"a second spacing of task {task}: the first is in line {self.spacings[task]}"
+        self.spacings.setdefault(task, each.line)
 
     def of_release(self, each):
         time, task = each.values.values()
@@ -167,9 +193,9 @@ class Checks:
             self.first_release = each.line
 
 
-def read_plan(path, tasks_alone=False):
-    """A plan file, - for standard input, with every mistake in it, or in its tasks alone."""
-    plan, checks = Plan(path), Checks(tasks_alone)
+def read_plan(path, head_alone=False):
+    """A plan file, - for standard input, with every mistake in it, or in its tasks and spacings alone."""
+    plan, checks = Plan(path), Checks(head_alone)
     for number, line in enumerate(lines_of(path, LONGEST_LINE), 1):
         if len(line) > LONGEST_LINE + 1 and "#" not in line:
             plan.mistakes.append(Mistake(number, None, f"it has more than {LONGEST_LINE} letters; nothing behind it is read"))
@@ -179,8 +205,8 @@ def read_plan(path, tasks_alone=False):
             break
     if len(plan.mistakes) >= MOST_MISTAKES:
         plan.mistakes.append(Mistake(None, None, f"so many mistakes that nothing behind line {number} is read"))
-    if not plan.mistakes and not (plan.tasks if tasks_alone else plan.entries):
-        plan.mistakes.append(Mistake(None, 12, f"the plan has no {'task' if tasks_alone else 'entry'}"))
+    if not plan.mistakes and not (plan.head if head_alone else plan.entries):
+        plan.mistakes.append(Mistake(None, 12, f"the plan has no {'task' if head_alone else 'entry'}"))
     return plan
 
 

@@ -8,16 +8,17 @@ from tools.output import named
 REFUSALS = {
     1: "an entry that is cut short",
     2: "an entry of another kind than a job's, an interval's or a skipped release's",
-    3: "a task after a release",
+    3: "a task or a spacing after a release, or a task after a spacing",
     4: "a task number over 31 or given before",
     6: "a mark over 1",
     7: "L, C or U outside 1 to 1000000",
-    8: "a release of a task that is not in the table",
+    8: "a release or a spacing of a task that is not in the table",
     9: "a release that is not after the one before",
     10: "a release time over 1000000000",
     11: "a 4097th release",
     12: "the plan has no entry",
     18: "no list of releases of these tasks makes this record",
+    19: "a spacing outside 1 to 1000000000, or a second one for a task",
 }
 
 

@@ -9,7 +9,7 @@ from collections import defaultdict
 
 from tools import shapes
 from tools.shapes import add, group, width_of, words
-from tools.timeline import SKIPPED
+from tools.timeline import SKIPPED, TOO_SOON
 
 DENSE = 14      # pixels: below this, on average, an interval shows too little
 CELL, ROW = 58, 18
@@ -31,7 +31,7 @@ def cells(run, start, end):
     for job in run.completions:
         jobs[job.task, column(job.release)].append(job)
     for release in run.releases:
-        if release.state == SKIPPED:
+        if release.state in (SKIPPED, TOO_SOON):
             skipped[release.task, column(release.time)] += 1
     return jobs, skipped
 

@@ -2,7 +2,7 @@
 
 from xml.etree import ElementTree
 
-from tools.timeline import CANCELLED, DONE, SKIPPED, TAKEN, THROWN_OUT
+from tools.timeline import CANCELLED, DONE, SKIPPED, TAKEN, THROWN_OUT, TOO_SOON
 
 BAR_HEIGHT = 30
 LEAST = 1  # pixels: nothing that takes time is narrower
@@ -123,11 +123,12 @@ def thrown_out(parent, end, x, y):
 
 
 def release_arrow(parent, x, y, state):
-    """An arrow of 14 px down to y, its head hollow if the release waits. A skipped one has a dashed line and a stop at its tail: all show on
-    one tick."""
-    if state == SKIPPED:
+    """An arrow of 14 px down to y, its head hollow if the release waits. A skipped one has a dashed line and a stop at its tail, two where it came
+    too soon: all show on one tick."""
+    if state in (SKIPPED, TOO_SOON):
         add(parent, "path", class_="dashed", d=f"M{places(x)} {places(y - 14)}v14")
-        add(parent, "path", class_="stop", d=f"M{places(x - 4)} {places(y - 14)}h8")
+        for below in (0, 4) if state == TOO_SOON else (0,):
+            add(parent, "path", class_="stop", d=f"M{places(x - 4)} {places(y - 14 + below)}h8")
     else:
         add(parent, "path", class_="line", d=f"M{places(x)} {places(y - 14)}v14")
         head = {"fill": "#1a1a1a"} if state == TAKEN else {"fill": "#ffffff", "stroke": "#1a1a1a"}
@@ -152,8 +153,9 @@ def wait(parent, x, y, width, height, colours, taken):
 
 def release_number(parent, x, y, text, state):
     """A released task's number; struck out if the release was skipped."""
-    words(parent, x, y, text, "middle skipped" if state == SKIPPED else "middle strong")
-    if state == SKIPPED:
+    skipped = state in (SKIPPED, TOO_SOON)
+    words(parent, x, y, text, "middle skipped" if skipped else "middle strong")
+    if skipped:
         half = width_of(text) / 2 + 1
         add(parent, "path", class_="strike", d=f"M{places(x - half)} {places(y - 1)}l{places(2 * half)} -6")
 

@@ -9,9 +9,9 @@ import random
 import sys
 import threading
 
-from sim.entries import task_entry
+from sim.entries import spacing_entry, task_entry
 from sim.generate import random_calls
-from sim.generate_tables import random_tasks
+from sim.generate_tables import random_table, tasks_of
 from sim.sessions import INSTANT
 from tools.claims import Claims, listed, unlisted
 from tools.happenings import OF_RUNS, Opened, Run
@@ -20,13 +20,14 @@ CLAIM = tuple(f"specs/{name}.antt" for name in ("Queries", "Pending", "Releases"
 HISTORIES = "specs/Histories.antt"
 
 # The fields that are computed: what is left out speaks of the steps within an instant, or only that the empty sets come to an end.
-OF_CLAIM = {"of-the-list", "entries", "with-empty-sets", "nothing-pending", "complete-every-job", "nothing-waits", "waiting-taken"}
+OF_CLAIM = {"of-the-list", "entries", "with-empty-sets", "nothing-pending", "complete-every-job", "nothing-waits", "waiting-taken", "last-releases"}
 OF_STATES = {"behind", "counts"}
 
 OF_HISTORIES = (
-    "PlansAccepted", "WrongRefused", "FigureTells", "OneEntry", "WaitedEntry", "ReleasesRefused", "Marks", "PlanEntries", "BoundsMet")
+    "PlansAccepted", "WrongRefused", "FigureTells", "OneEntry", "WaitedEntry", "ReleasesRefused", "Marks", "PlanEntries", "BoundsMet",
+    "SpacingsAccepted", "SpacingsRefused", "LastReleases")
 
-RUNS = 18
+RUNS = 22
 CALLS = 9
 MOST_TASKS = 3
 
@@ -43,11 +44,13 @@ def drained(run):
 
 
 def chosen_runs():
-    """Runs that random ones seldom make, with document 01's tasks. In three of them tasks share a priority; the last is of one task alone."""
-    def run(mark, *instants, priorities=(1, 2, 3), second=0, whole=True):
+    """Runs that random ones seldom make, with document 01's tasks. In three of them tasks share a priority, in three task 1 has a spacing; the last is
+    of one task alone."""
+    def run(mark, *instants, priorities=(1, 2, 3), second=0, spacing=None, whole=True):
         one, two, three = priorities
-        tasks = task_entry(1, one, mark, 2, 3, 1) + task_entry(2, two, second, 2, 4, 1) + task_entry(3, three, 0, 2, 5, 2)
-        made = Run(tasks, [("Instant", time, sum(1 << n for n in released)) for time, released in instants])
+        head = task_entry(1, one, mark, 2, 3, 1) + task_entry(2, two, second, 2, 4, 1) + task_entry(3, three, 0, 2, 5, 2)
+        head += b"" if spacing is None else spacing_entry(1, spacing)
+        made = Run(head, [("Instant", time, sum(1 << n for n in released)) for time, released in instants])
         return drained(made) if whole else made
 
     return [
@@ -60,6 +63,9 @@ def chosen_runs():
         run(1, (0, [3]), (2, []), (3, [2]), (4, [1]), priorities=(1, 1, 2), second=1),  # of two marked equals the earlier one is promoted
         run(0, (0, [1, 2, 3]), priorities=(1, 1, 1)),  # equals go by number, and the last one meets one in its second and third interval
         run(0, (0, [2]), (1, [2]), (2, []), (3, [1]), priorities=(1, 1, 2)),  # one that waited goes before an equal that was taken earlier
+        run(1, (0, [1]), (2, []), (5, [1]), (6, [1]), spacing=6),  # one is too soon, and one exactly one spacing after the first
+        run(1, (0, [1]), (2, []), (5, [1]), (6, [1]), (8, []), (10, [1]), spacing=5),  # one is too soon after one that waited, whose original time counts
+        run(0, (0, [1]), (2, []), (5, []), (6, []), (10, [1]), (20, [1, 2]), spacing=20),  # one is too soon with nothing pending
         drained(Run(task_entry(1, 1, 0, 2, 2, 2), [("Instant", 0, 2), ("Instant", 1, 2)]))]  # one that waited completes late
 
 
@@ -69,9 +75,9 @@ def runs():
     found, seed = chosen_runs(), 0
     while len(found) < RUNS:
         rng, seed = random.Random(f"statements {seed}"), seed + 1
-        tasks = random_tasks(rng)
-        if 1 < len(tasks) <= MOST_TASKS:
-            run = Run(b"".join(tasks), [call_of(call) for call in random_calls(rng, tasks, CALLS)])
+        table = random_table(rng)
+        if 1 < len(tasks_of(table)) <= MOST_TASKS:
+            run = Run(b"".join(table), [call_of(call) for call in random_calls(rng, table, CALLS)])
             found.append(drained(run) if len(found) % 2 else run)
     return found
 

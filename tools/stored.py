@@ -1,6 +1,6 @@
 """A stored record and the tasks that it was made with: which releases made it, by the proved reader, or what is wrong with it."""
 
-from sim.entries import FIELDS, RELEASE, TASK, entry_length, two_parts
+from sim.entries import RELEASE, two_parts
 from tools import damage
 from tools.files import pieces_of
 from tools.output import Rejected, Trouble, named, tell
@@ -8,8 +8,8 @@ from tools.plan import read_plan
 from tools.programs import printed
 from tools.refusals import in_words, line_of
 
-# By which numbers a task of the plan is refused, and not the record. Its entry is whole, so that 1 and 2 are the record's.
-OF_A_TASK = (4, 6, 7)
+# By which numbers a task or a spacing of the plan is refused, and not the record. Its entry is whole, so that 1 and 2 are the record's.
+OF_THE_HEAD = (3, 4, 6, 7, 8, 19)
 
 MOST = 1 << 24  # bytes of a record that are looked at; no list makes nearly so many
 
@@ -25,9 +25,9 @@ def read_record(path):
     return b"".join(found)[:MOST], size <= MOST
 
 
-def tasks_of(path):
-    """A plan of which the tasks alone count."""
-    plan = read_plan(path, tasks_alone=True)
+def head_of(path):
+    """A plan of which the tasks and spacings alone count."""
+    plan = read_plan(path, head_alone=True)
     passed = plan.of_kind(RELEASE)
     if passed:
         tell(f"{named(path)}: its releases, {len(passed)} from line {passed[0].line} on, are passed over: those of the record count\n")
@@ -41,8 +41,8 @@ def refusal(plan, path, stored, whole, refused):
     number, place = refused.number, refused.place
     if number == 12:
         return f"{named(plan.path)}: the plan has no task (refusal 12)"
-    if number in OF_A_TASK:
-        return f"{named(plan.path)}: line {plan.tasks[place // entry_length(FIELDS[TASK])].line}: {in_words(number)}"
+    if number in OF_THE_HEAD:
+        return f"{named(plan.path)}: line {plan.line_at(place, plan.head)}: {in_words(number)}"
     if not whole and number in (1, 18):  # what is cut short is cut here
         return f"{named(path)}: it has more than {MOST} bytes, and no list of releases makes so many (refusal 18)"
     if number == 18:
@@ -59,10 +59,10 @@ def listed(line):
 
 
 def stored_releases(plan_path, record_path):
-    """The plan's tasks, the releases (time, task) that made the record, and its bytes."""
-    plan = tasks_of(plan_path)
+    """The plan, of which the head counts, the releases (time, task) that made the record, and its bytes."""
+    plan = head_of(plan_path)
     stored, whole = read_record(record_path)
-    lines = printed("reader", two_parts(b"".join(each.data for each in plan.tasks), stored)).decode().splitlines()
+    lines = printed("reader", two_parts(b"".join(each.data for each in plan.head), stored)).decode().splitlines()
     refused = line_of(lines[0]) if lines else None
     if refused is not None:
         raise Rejected(refusal(plan, record_path, stored, whole, refused))

@@ -19,8 +19,8 @@ LAST_TICK = 2**64 - 1
 DONE, CANCELLED, THROWN_OUT = "done", "cancelled", "thrown out"
 FATES = {COPY_IN_DONE: DONE, COPY_IN_CANCELLED: CANCELLED, COPY_IN_THROWN_OUT: THROWN_OUT}
 
-# What became of a release at its own instant.
-TAKEN, WAITS, SKIPPED = "taken", "waits", "skipped"
+# What became of a release at its own instant: skipped since one of its task waits, or since it came sooner than its task's spacing.
+TAKEN, WAITS, SKIPPED, TOO_SOON = "taken", "waits", "skipped", "too soon"
 
 
 class BadLines(Exception):
@@ -229,13 +229,32 @@ def completion_of(line, release, taking):
     return job.completion
 
 
-def check_skips(parsed, waits):
-    """A release is skipped only while one of its task waits: the last that came before it."""
+def too_soon(table, releases, times):
+    """The releases that came sooner than their task's spacing after the last one that was not skipped."""
+    last, found = {}, set()
+    for time, task in releases:
+        spacing = table[task].spacing
+        if spacing is not None and task in last and time < last[task] + spacing:
+            found.add((time, task))
+        if (time, task) in times:
+            last[task] = time
+    return found
+
+
+def check_passed(parsed, soon):
+    """No job is that of a release that came too soon."""
+    for number, fields in parsed:
+        if isinstance(fields, JobDone) and (fields.release, fields.task) in soon:
+            raise BadLines(f"line {number}: the release of task {fields.task} at {fields.release} came sooner than its spacing, and is not skipped")
+
+
+def check_skips(parsed, waits, soon):
+    """A release is skipped only if it came too soon, or while one of its task waits: the last that came before it."""
     by_task = {}
     for wait in waits:
         by_task.setdefault(wait.task, []).append((wait.begin, wait.end))
     for number, fields in parsed:
-        if isinstance(fields, Skip):
+        if isinstance(fields, Skip) and (fields.time, fields.task) not in soon:
             own = by_task.get(fields.task, [])
             at = bisect_left(own, (fields.time, 0))
             if at and fields.time < own[at - 1][1]:
@@ -305,10 +324,12 @@ def timeline(table, releases, lines):
     parsed = parse_lines(lines, table, set(releases))
     times = takings(releases, parsed)
     waits = [Wait(task, time, taking) for (time, task), taking in times.items() if taking > time]
-    check_skips(parsed, waits)
+    soon = too_soon(table, releases, times)
+    check_passed(parsed, soon)
+    check_skips(parsed, waits, soon)
     taken = sorted((taking, task) for (_, task), taking in times.items())
-    states = {(wait.begin, wait.task): WAITS for wait in waits}
-    shown = [Release(task, time, states.get((time, task), TAKEN if (time, task) in times else SKIPPED)) for time, task in releases]
+    states = dict.fromkeys(soon, TOO_SOON) | dict.fromkeys(times, TAKEN) | {(wait.begin, wait.task): WAITS for wait in waits}
+    shown = [Release(task, time, states.get((time, task), SKIPPED)) for time, task in releases]
     run = Timeline(table, [], [], shown, waits, [], [], [fields for _, fields in parsed if isinstance(fields, JobDone)])
     for number, fields in parsed:
         if isinstance(fields, IntervalClosed):

@@ -69,7 +69,8 @@ def title(life):
     task = life.task
     mark = "latency-sensitive" if task.mark else "not latency-sensitive"
     lengths = f"copy-in L {task.copy_in}, execution C {task.execution}, copy-out U {task.copy_out}"
-    about = f"task {task.number}: priority {task.priority}, {mark}; {lengths}"
+    spacing = "" if task.spacing is None else f"; spacing {task.spacing}"
+    about = f"task {task.number}: priority {task.priority}, {mark}; {lengths}{spacing}"
     if life.skipped:
         return f"The release of task {task.number} at {life.release} was skipped.\n{about}\n"
     return f"The release of task {task.number} at {life.release} was done at {life.completion}: response {ticks(life.response)}.\n{about}\n"
@@ -77,7 +78,19 @@ def title(life):
 
 # The release itself.
 
+def tell_too_soon(run, life, story):
+    """Why a release was skipped that came sooner than its task's spacing."""
+    number, last, spacing = life.task.number, life.skipped.last, life.skipped.spacing
+    other = run.lives[last, number]
+    story.head(f"The spacing of task {number} is {ticks(spacing)}, and this release came {ticks(life.release - last)} after the one at {last} (step c):")
+    counted = f"it waited until {other.taken}, and its original time counts" if other.waits else "taken at once"
+    story.add(last, f"the last release of task {number} that was not skipped: {counted}")
+    story.add(life.release, f"this release: {ticks(last + spacing - life.release)} too soon, and skipped. It has no job and changes nothing else")
+    story.add(last + spacing, "from here on a release is not too soon")
+
+
 def tell_skipped(run, life, story):
+    """Why a release was skipped that found one waiting."""
     since = life.skipped.since
     other = run.lives[since, life.task.number]
     behind = other.waits.behind
@@ -256,7 +269,7 @@ def told(run, life):
     """All of it."""
     story = Story()
     if life.skipped:
-        tell_skipped(run, life, story)
+        (tell_too_soon if life.too_soon else tell_skipped)(run, life, story)
         return title(life) + story.text()
     story.head("the release")
     tell_release(life, story)

@@ -6,43 +6,43 @@ use std::fmt;
 mod raw {
     #[link(name = "gateway", kind = "static")]
     unsafe extern "C" {
-        pub fn gateway_open_v3(
+        pub fn gateway_open_v4(
             entries: *const u8,
             length: usize,
             times: &mut [u64; 7],
-            sets: &mut [u32; 6],
+            sets: &mut [u32; 8],
             codes: &mut [u8; 9],
             priority: &mut [u8; 32],
-            columns: &mut [u32; 96],
+            columns: &mut [u32; 128],
             release: &mut [u64; 32],
             blocked: &mut [u8; 32],
             waits: &mut [u64; 32],
             place: &mut usize,
         ) -> u8;
 
-        pub fn gateway_instant_v3(
+        pub fn gateway_instant_v4(
             time: u64,
             set: u32,
             times: &mut [u64; 7],
-            sets: &mut [u32; 6],
+            sets: &mut [u32; 8],
             codes: &mut [u8; 9],
             told: &mut super::Told,
             priority: &[u8; 32],
-            columns: &[u32; 96],
+            columns: &[u32; 128],
             release: &mut [u64; 32],
             blocked: &mut [u8; 32],
             waits: &mut [u64; 32],
         ) -> u8;
 
-        pub fn gateway_mark_v3(sets: &mut [u32; 6], task: u8, mark: u8) -> u8;
+        pub fn gateway_mark_v4(sets: &mut [u32; 8], task: u8, mark: u8) -> u8;
 
-        pub fn gateway_longest_interval_v3(sets: &[u32; 6], columns: &[u32; 96]) -> u64;
+        pub fn gateway_longest_interval_v4(sets: &[u32; 8], columns: &[u32; 128]) -> u64;
 
-        pub fn gateway_completes_after_v3(sets: &[u32; 6], columns: &[u32; 96], task: u8, h: u32) -> u64;
+        pub fn gateway_completes_after_v4(sets: &[u32; 8], columns: &[u32; 128], task: u8, h: u32) -> u64;
 
-        pub fn gateway_now_v3(
+        pub fn gateway_now_v4(
             times: &[u64; 7],
-            sets: &[u32; 6],
+            sets: &[u32; 8],
             codes: &[u8; 9],
             ticks: &mut [u64; 4],
             tasks: &mut [u32; 3],
@@ -125,7 +125,7 @@ pub struct Answer {
     pub done: Option<Job>,
     /// The interval that ended.
     pub closed: Option<Interval>,
-    /// The tasks whose release was skipped now, since one of theirs waits.
+    /// The tasks whose release was skipped now, since it came too soon or one of theirs waits.
     pub skipped: Set,
     /// The next due time. With none nothing is pending and nothing waits.
     pub due: Option<u64>,
@@ -188,24 +188,25 @@ pub struct Dispatcher {
     times: [u64; 7],
     release: [u64; 32],
     waits: [u64; 32],
-    sets: [u32; 6],
-    columns: [u32; 96],
+    sets: [u32; 8],
+    columns: [u32; 128],
     codes: [u8; 9],
     priority: [u8; 32],
     blocked: [u8; 32],
     unused: [u8; 7],
 }
 
-const _: () = assert!(std::mem::size_of::<Dispatcher>() == 1056);
+const _: () = assert!(std::mem::size_of::<Dispatcher>() == 1192);
+const _: () = assert!(std::mem::offset_of!(Dispatcher, sets) == 568 && std::mem::offset_of!(Dispatcher, codes) == 1112);
 
 impl Dispatcher {
-    /// Opens a dispatcher from task entries: 16 bytes each, as an input has them.
+    /// Opens a dispatcher from task entries, 16 bytes each, and behind them the spacings, 6 bytes each, as an input has them.
     pub fn open(entries: &[u8]) -> Result<Dispatcher, Refusal> {
         let mut d = Dispatcher {
             times: [0; 7],
-            sets: [0; 6],
+            sets: [0; 8],
             codes: [0; 9],
-            columns: [0; 96],
+            columns: [0; 128],
             priority: [0; 32],
             blocked: [0; 32],
             release: [0; 32],
@@ -215,7 +216,7 @@ impl Dispatcher {
         let mut place = 0;
         // The slice and the arrays are live, and Rust lets no two of them overlap: the function asks no more.
         let number = unsafe {
-            raw::gateway_open_v3(
+            raw::gateway_open_v4(
                 entries.as_ptr(),
                 entries.len(),
                 &mut d.times,
@@ -236,7 +237,8 @@ impl Dispatcher {
     }
 
     /// Hands in the releases of a set at a time. It is to be called at every release and at every due time. Of a task that has a pending job one release
-    /// waits, and is taken at the instant at which that job is done, before the releases of that instant.
+    /// waits, and is taken at the instant at which that job is done, before the releases of that instant. Of a task with a spacing a release that comes
+    /// sooner than that after the last one taken or set waiting is skipped before anything else is asked of it.
     #[inline]
     pub fn instant(&mut self, time: u64, set: Set) -> Result<Answer, Refusal> {
         let mut told = Told::default();
@@ -251,7 +253,7 @@ impl Dispatcher {
     pub fn instant_into(&mut self, time: u64, set: Set, told: &mut Told) -> u8 {
         // The arrays are live, and Rust lets no two of them overlap: the function asks no more.
         unsafe {
-            raw::gateway_instant_v3(
+            raw::gateway_instant_v4(
                 time,
                 set,
                 &mut self.times,
@@ -270,7 +272,7 @@ impl Dispatcher {
     /// Changes a task's mark from now on, while it has no pending job and no release that waits.
     pub fn mark(&mut self, task: u8, latency_sensitive: bool) -> Result<(), Refusal> {
         // As above.
-        match unsafe { raw::gateway_mark_v3(&mut self.sets, task, latency_sensitive.into()) } {
+        match unsafe { raw::gateway_mark_v4(&mut self.sets, task, latency_sensitive.into()) } {
             0 => Ok(()),
             number => Err(Refusal::alone(number)),
         }
@@ -288,21 +290,27 @@ impl Dispatcher {
     #[inline]
     pub fn now_into(&self, shown: &mut Shown) {
         // As above.
-        unsafe { raw::gateway_now_v3(&self.times, &self.sets, &self.codes, &mut shown.ticks, &mut shown.tasks, &mut shown.units) }
+        unsafe { raw::gateway_now_v4(&self.times, &self.sets, &self.codes, &mut shown.ticks, &mut shown.tasks, &mut shown.units) }
     }
 
     /// A figure to plan on: no interval lasts longer than this many ticks. It is the larger of the table's greatest L + C and the sum of its greatest L
     /// and its greatest U.
     pub fn longest_interval(&self) -> u64 {
         // As above.
-        unsafe { raw::gateway_longest_interval_v3(&self.sets, &self.columns) }
+        unsafe { raw::gateway_longest_interval_v4(&self.sets, &self.columns) }
     }
 
     /// By how many ticks after its taking a job of the task is done at the latest, where `h` other jobs that are not lower in priority execute between its
-    /// taking and its own execution; by the mark that the task has now.
+    /// taking and its own execution; by the mark that the task has now. Of a number that is no task of the table the answer means nothing.
     pub fn completes_after(&self, task: u8, h: u32) -> u64 {
         // As above.
-        unsafe { raw::gateway_completes_after_v3(&self.sets, &self.columns, task, h) }
+        unsafe { raw::gateway_completes_after_v4(&self.sets, &self.columns, task, h) }
+    }
+
+    /// The spacing of a task, where it has one. A dispatcher that takes over from another knows no last release: whether the first one of a task comes too
+    /// soon after one that the other served is for the driver to say.
+    pub fn spacing(&self, task: u8) -> Option<u32> {
+        self.columns[96..].get(usize::from(task)).copied().filter(|&ticks| ticks != 0)
     }
 
     /// The tasks that are latency-sensitive now.

@@ -2,8 +2,8 @@
 //!
 //!     driver TASKS < RELEASES
 //!
-//! TASKS is a file with the task entries of every core (./gateway input makes it of a plan with tasks alone). A line of RELEASES is
-//! `CORE TIME TASK`, a release, or `CORE TIME mark TASK VALUE`, a mark call; the times do not fall. What occurs is printed as `gateway` prints it, with the
+//! TASKS is a file with the task entries of every core, and the spacings behind them (./gateway input makes it of a plan without releases). A line of RELEASES
+//! is `CORE TIME TASK`, a release, or `CORE TIME mark TASK VALUE`, a mark call; the times do not fall. What occurs is printed as `gateway` prints it, with the
 //! core in front. It goes on for ever: late in its count a core goes on with a new dispatcher at an idle moment, and where none comes in time its releases are
 //! held back until there is one. The status is 2 where what it reads is rubbish, and 1 where the dispatcher refuses it.
 
@@ -75,10 +75,13 @@ struct Core {
     held: [u64; TASKS],
     /// One of them came now.
     has_release: bool,
+    /// Of each task the last release that was handed in and not skipped, in ticks of the driver's clock.
+    last: [Option<u64>; TASKS],
 }
 
 impl Core {
-    /// With no due time nothing is pending and nothing waits, and a new dispatcher can take over, which is told the marks.
+    /// With no due time nothing is pending and nothing waits, and a new dispatcher can take over, which is told the marks. Of the last releases it knows
+    /// nothing: see `too_soon`.
     fn count_anew(&mut self, opened: &Dispatcher, now: u64) -> Result<(), Refusal> {
         let (marked, mut fresh) = (self.dispatcher.marked(), opened.clone());
         let changed = marked ^ fresh.marked();
@@ -103,14 +106,28 @@ impl Core {
         set
     }
 
+    /// The releases of a set that come sooner than the spacing after one that a dispatcher before this one had; of its own it knows.
+    fn too_soon(&self, set: u32, now: u64) -> u32 {
+        let comes_sooner = |task: usize| {
+            let before = self.last[task].filter(|&last| last < self.base);
+            before.zip(self.dispatcher.spacing(task as u8)).is_some_and(|(last, spacing)| now - last < u64::from(spacing))
+        };
+        (0..TASKS).filter(|&task| set >> task & 1 == 1 && comes_sooner(task)).fold(0, |soon, task| soon | 1 << task)
+    }
+
     /// One call. Where the count is over nothing is handed in, and what is due goes on.
     fn instant(&mut self, now: u64) -> Result<Answer, Refusal> {
         let tick = now - self.base;
         let set = if tick > LAST_TICK { 0 } else { self.hand_in() };
-        let answer = self.dispatcher.instant(tick, set)?;
-        // a second release of a task has a tick of its own
-        let soon = tick < LAST_TICK && self.holds();
-        self.due = answer.due.map(|due| if soon { (now + 1).min(self.base + due) } else { self.base + due });
+        let soon = self.too_soon(set, now);
+        let mut answer = self.dispatcher.instant(tick, set & !soon)?;
+        answer.skipped |= soon;
+        for task in (0..TASKS).filter(|task| (set & !answer.skipped) >> task & 1 == 1) {
+            self.last[task] = Some(now);
+        }
+        // a second release of a task has a tick of its own, also where the first was skipped and nothing is due
+        let second = (tick < LAST_TICK && self.holds()).then_some(now + 1);
+        self.due = answer.due.map(|due| self.base + due).into_iter().chain(second).min();
         Ok(answer)
     }
 
@@ -216,7 +233,7 @@ struct Driver {
 
 impl Driver {
     fn take(&mut self, event: Event) {
-        let fresh = || Core { dispatcher: self.opened.clone(), base: 0, due: None, held: [0; TASKS], has_release: false };
+        let fresh = || Core { dispatcher: self.opened.clone(), base: 0, due: None, held: [0; TASKS], has_release: false, last: [None; TASKS] };
         let core = self.cores.entry(event.core).or_insert_with(fresh);
         let held = &mut core.held[usize::from(event.task)];
         let Some(value) = event.mark else {

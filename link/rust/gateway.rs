@@ -13,6 +13,9 @@ pub use refusal::Refusal;
 /// The last tick at which a release is taken: behind it, it is refused by [`Refusal::PAST_LAST_TICK`].
 pub const LAST_TICK: u64 = 1_000_000_000;
 
+/// The most bytes that open a dispatcher: of 32 tasks an entry of 16 bytes and a spacing of 6 each.
+pub const LONGEST_OPENING: usize = 32 * (16 + 6);
+
 mod raw {
     #[link(name = "gateway", kind = "static")]
     unsafe extern "C" {
@@ -74,7 +77,7 @@ pub fn record(input: &[u8], out: &mut [u8]) -> Outcome {
     Outcome::of(number, told)
 }
 
-/// Writes the release entries that made `record`, over the task entries `tasks`, into the front of `out`. On a refusal, and where `out` is too
+/// Writes the release entries that made `record`, over the task entries `tasks` and the spacings behind them, into the front of `out`. On a refusal, and where `out` is too
 /// short, `out` is as it was. The place of a refused entry counts from the start of `tasks`, or of `record` where the tasks are in order.
 pub fn read(tasks: &[u8], record: &[u8], out: &mut [u8]) -> Outcome {
     let mut told = 0;

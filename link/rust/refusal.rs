@@ -32,12 +32,12 @@ macro_rules! numbers {
 numbers! {
     CUT_SHORT = 1: "an entry is cut short",
     OTHER_KIND = 2: "an entry of a kind that does not belong there",
-    TASK_AFTER_RELEASE = 3: "a task after a release",
+    TASK_AFTER_RELEASE = 3: "a task or a spacing after a release, or a task after a spacing",
     BAD_TASK = 4: "a task number over 31 or given before",
     SAME_PRIORITY = 5: "a priority given before, which is no longer refused",
     BAD_MARK = 6: "a mark over 1",
     BAD_LENGTH = 7: "a length outside 1 to 1,000,000",
-    RELEASE_OF_NO_TASK = 8: "a release of a task that is not in the table",
+    RELEASE_OF_NO_TASK = 8: "a release or a spacing of a task that is not in the table",
     RELEASE_NOT_AFTER = 9: "a release that is not after the one before",
     PAST_LAST_TICK = 10: "a release time over 1,000,000,000",
     TOO_MANY_RELEASES = 11: "a 4,097th release",
@@ -48,6 +48,7 @@ numbers! {
     UNKNOWN_TASK = 16: "a task that is not in the table",
     TASK_BUSY = 17: "a mark change while a job is pending or a release waits",
     NO_LIST = 18: "no list of releases of these tasks makes this record",
+    BAD_SPACING = 19: "a spacing outside 1 to 1,000,000,000, or a second one for a task",
 }
 
 impl Refusal {

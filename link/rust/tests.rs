@@ -13,6 +13,11 @@ fn tasks(entries: &[[u32; 6]]) -> Vec<u8> {
     bytes
 }
 
+/// Spacings, each of a task.
+fn spacings(entries: &[(u8, u32)]) -> Vec<u8> {
+    entries.iter().flat_map(|&(task, ticks)| [3, task].into_iter().chain(ticks.to_le_bytes())).collect()
+}
+
 /// The tasks of document 01's plans.
 fn plan() -> Vec<u8> {
     tasks(&[[1, 1, 1, 2, 3, 1], [2, 2, 0, 2, 4, 1], [3, 3, 0, 2, 5, 2]])
@@ -101,6 +106,67 @@ fn one_release_of_a_task_waits() {
     let released: Vec<_> = [8, 11, 12, 14, 17, 18].into_iter().filter_map(|time| d.instant(time, 0).unwrap().done).map(|job| job.release).collect();
     assert_eq!((released, d.pending()), (vec![2, 6], 0));
     d.mark(1, false).unwrap();
+}
+
+#[test]
+fn a_spacing_at_its_edge() {
+    let mut d = Dispatcher::open(&[plan(), spacings(&[(1, 20)])].concat()).unwrap();
+    assert_eq!((d.spacing(1), d.spacing(2), d.spacing(32)), (Some(20), None, None));
+    let calls = [(0, 2), (2, 0), (5, 0), (6, 0), (19, 2), (20, 2), (21, 2)];
+    let skipped: Vec<_> = calls.map(|(time, set)| d.instant(time, set).unwrap().skipped).into();
+    // a tick sooner it is skipped, and does not count as the last; exactly one spacing later it is taken
+    assert_eq!(skipped, [0, 0, 0, 0, 2, 0, 2]);
+    assert_eq!((d.pending(), d.now().waiting), (2, 0));
+}
+
+#[test]
+fn a_spacing_behind_one_that_waits() {
+    let mut d = Dispatcher::open(&[plan(), spacings(&[(1, 5)])].concat()).unwrap();
+    let calls = [(0, 2), (2, 0), (4, 2), (5, 2), (6, 2), (8, 0), (10, 2)];
+    let skipped: Vec<_> = calls.map(|(time, set)| d.instant(time, set).unwrap().skipped).into();
+    // that of 5 waits and is taken at 6; the next one is measured from 5
+    assert_eq!(skipped, [0, 0, 2, 0, 2, 0, 0]);
+    assert_eq!(d.now().waiting, 2);
+}
+
+#[test]
+fn spacings_that_are_refused() {
+    let refused = |entries: Vec<u8>| Dispatcher::open(&[plan(), entries].concat()).unwrap_err();
+    let (one, at) = (spacings(&[(1, 20)]), |number, place| Refusal { number, place: Some(place) });
+    assert_eq!(refused(one[..5].to_vec()), at(Refusal::CUT_SHORT, 48));
+    assert_eq!(refused([one.clone(), tasks(&[[1, 1, 1, 2, 3, 1]])].concat()), at(Refusal::TASK_AFTER_RELEASE, 54));
+    assert_eq!(refused(spacings(&[(1, 20), (9, 0)])), at(Refusal::RELEASE_OF_NO_TASK, 54));
+    for bad in [spacings(&[(2, 20), (1, 0)]), spacings(&[(2, 20), (1, 1_000_000_001)]), spacings(&[(2, 20), (2, 20)])] {
+        assert_eq!(refused(bad), at(Refusal::BAD_SPACING, 54));
+    }
+    assert_eq!(refused(spacings(&[(1, 0)])).to_string(), "a spacing outside 1 to 1,000,000,000, or a second one for a task (refusal 19) at byte 48");
+    // in a file one after a release is 3
+    let behind = [plan(), releases(), one].concat();
+    assert_eq!(gateway::record(&behind, &mut [0; 1 << 10]), Outcome::Refused(at(Refusal::TASK_AFTER_RELEASE, 78)));
+}
+
+#[test]
+fn the_longest_opening() {
+    let all = tasks(&std::array::from_fn::<_, 32, _>(|n| [n as u32, 1, 0, 1, 1, 1]));
+    let entries = [all, spacings(&std::array::from_fn::<_, 32, _>(|n| (n as u8, 1_000_000_000)))].concat();
+    assert_eq!(entries.len(), gateway::LONGEST_OPENING);
+    let d = Dispatcher::open(&entries).unwrap();
+    assert!((0..32).all(|task| d.spacing(task) == Some(1_000_000_000)));
+}
+
+#[test]
+fn a_record_with_spacings_is_read_back() {
+    let (head, mut record, mut list) = ([plan(), spacings(&[(3, 5)])].concat(), vec![0; 1 << 10], vec![0; 64]);
+    let again = [releases(), vec![2, 3, 4, 0, 0, 0, 0, 0, 0, 0]].concat();
+    let Outcome::Written(length) = gateway::record(&[&head[..], &again].concat(), &mut record) else {
+        panic!("a spacing is refused");
+    };
+    // the second release of 3 comes four ticks after the first
+    assert_eq!(record[..length].windows(10).filter(|entry| *entry == [18, 3, 4, 0, 0, 0, 0, 0, 0, 0]).count(), 1);
+    assert_eq!(gateway::read(&head, &record[..length], &mut list), Outcome::Written(40));
+    assert_eq!(list[..40], again);
+    // without the spacing it waits, so that this is the record of no list
+    assert_eq!(gateway::read(&plan(), &record[..length], &mut list), Outcome::Refused(Refusal { number: 18, place: None }));
 }
 
 /// The release entries of plan A.

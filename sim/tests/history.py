@@ -4,7 +4,7 @@ Nothing here looks into a dispatcher. A history is made of the calls that were s
 and must end with nothing due.
 """
 
-from dataclasses import dataclass
+from dataclasses import dataclass, replace
 from typing import Optional
 
 from sim.dispatcher import IntervalClosed, JobDone, members
@@ -35,8 +35,7 @@ class History:
         self.waiting = {}    # task number -> the time of its release that waits
 
     def mark(self, number, mark):
-        task = self.table[number]
-        self.table[number] = Task(task.number, task.priority, mark, task.copy_in, task.execution, task.copy_out)
+        self.table[number] = replace(self.table[number], mark=mark)
 
     def instant(self, time, released, answer):
         """Add a served instant, in the order of the instant list."""
@@ -125,7 +124,8 @@ def _check_waiting(test, history):
 
 
 def _check_skips(test, history):
-    """A release is skipped if and only if one of its task waits: it came strictly between that one's release and its taking.
+    """A release is skipped if and only if it comes sooner than its task's spacing after the last one that was not, or one of its task waits: then it
+    came strictly between that one's release and its taking.
 
     Of two jobs of a task the second is taken at the first one's completion or later, and only what came before it has waited.
     """
@@ -133,12 +133,21 @@ def _check_skips(test, history):
     for job in history.jobs:
         own.setdefault(job.task.number, []).append(job)
     for number, time in history.skips:
-        test.assertTrue(any(job.release < time < job.taking for job in own[number]))
-    for jobs in own.values():
+        test.assertTrue(is_too_soon(history, number, time) or any(job.release < time < job.taking for job in own[number]))
+    for number, jobs in own.items():
         for before, job in zip(jobs, jobs[1:]):
             test.assertLess(before.release, job.release)
+            test.assertFalse(is_too_soon(history, number, job.release))
             test.assertLessEqual(before.taking, job.release)
             test.assertEqual(job.taking, max(job.release, before.done.completion))
+
+
+def is_too_soon(history, number, time):
+    """Whether a release comes sooner than its task's spacing after the last one before it that became a job, both by original time (8/13)."""
+    spacing = history.table[number].spacing
+    if spacing is None:
+        return False
+    return any(time - spacing < job.release < time for job in history.jobs if job.task.number == number)
 
 
 def _executing_intervals(test, history):

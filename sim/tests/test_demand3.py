@@ -6,7 +6,7 @@ import unittest
 from sim.dispatcher import Dispatcher, members
 from sim.earlier import NothingWaits
 from sim.generate import random_calls, random_file
-from sim.generate_tables import random_tasks
+from sim.generate_tables import random_table
 from sim.sessions import INSTANT
 from sim.tests.histories import file_history, list_history
 from sim.tests.history import check, check_order
@@ -26,10 +26,10 @@ class RandomRuns(unittest.TestCase):
     def test_call_lists(self):
         for seed in range(LISTS):
             rng = random.Random(f"demand 3 list {seed}")
-            tasks = random_tasks(rng)
-            calls = random_calls(rng, tasks, rng.choice((10, 60, 200)), drained=True)
+            table = random_table(rng)
+            calls = random_calls(rng, table, rng.choice((10, 60, 200)), drained=True)
             with self.subTest(seed=seed):
-                check(self, list_history(b"".join(tasks), calls))
+                check(self, list_history(b"".join(table), calls))
 
 
 class MarkedJobs(unittest.TestCase):

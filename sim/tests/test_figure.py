@@ -11,14 +11,14 @@ from typing import NamedTuple
 
 from sim.entries import task_entry
 from sim.generate import random_calls, random_file
-from sim.generate_tables import desk_tasks, random_tasks
+from sim.generate_tables import desk_tasks, random_table
 from sim.lines import file_lines
 from sim.tests.figure import BETWEEN, FIRST_TOO, READINGS, RUNS, SINCE_RELEASE, STARTS, check, longest_interval, measured
 from sim.tests.histories import file_history, list_history
 from sim.tests.plans import finished_copies_stay, plan, plan_file
 
 FILES = 500
-LISTS = 500
+LISTS = 800
 
 
 class RandomRuns(unittest.TestCase):
@@ -60,8 +60,8 @@ class RandomRuns(unittest.TestCase):
         def histories():
             for seed in range(LISTS):
                 rng = random.Random(f"figure list {seed}")
-                tasks = desk_tasks(rng) if seed % 3 == 0 else random_tasks(rng)
-                yield list_history(b"".join(tasks), random_calls(rng, tasks, rng.choice((10, 60, 200)), drained=True))
+                table = desk_tasks(rng) if seed % 3 == 0 else random_table(rng)
+                yield list_history(b"".join(table), random_calls(rng, table, rng.choice((10, 60, 200)), drained=True))
         self.check_dense(self.tally(histories()))
 
 

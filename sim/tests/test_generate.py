@@ -5,17 +5,20 @@ import functools
 import random
 import unittest
 
+from sim import other_orders, other_spacings
 from sim.dispatcher import Dispatcher
 from sim.entries import Refused, parts_of
 from sim.files import instant_entries, read_file, run
 from sim.generate import LONGEST_CHECKED, damaged_file, damaged_session, random_file, random_session
-from sim.generate_records import (LONGEST_KEPT, damaged_stored, longer_than_kept, made_by_another_order, made_by_the_earlier_rule, random_stored)
+from sim.generate_records import (LONGEST_KEPT, damaged_stored, longer_than_kept, made_by_another_order, made_by_another_spacing,
+                                  made_by_the_earlier_rule, random_stored)
 from sim.lines import file_lines, record_lines
-from sim.other_orders import ALL, PromotedByNumber
 from sim.reading import read_lines
 from sim.rows import answer_of
 from sim.sessions import MARK, calls_lines, session_lines
+from sim.table import LONGEST_SPACING
 from sim.tests.histories import file_history, list_history, session_calls
+from sim.tests.history import is_too_soon
 
 SEEDS = 400
 
@@ -58,7 +61,7 @@ def waiting_events(history):
     completions = {(job.task.number, job.done.completion) for job in history.jobs if job.done is not None}
     found = {
         "one waits": history.set_waiting,
-        "one is skipped since one waits": history.skips,
+        "one is skipped since one waits": [skip for skip in history.skips if not is_too_soon(history, *skip)],
         "one waits that came at the taking of another": takings & set(history.set_waiting),
         "one is taken at a completion behind which none waited":
             [job for job in history.jobs if job.release == job.taking and (job.task.number, job.taking) in completions],
@@ -107,27 +110,39 @@ class Waiting(unittest.TestCase):
         self.assertGreater(refused.count(False), SEEDS / 20)
 
 
+SOME = SEEDS // 2  # enough where each is run by every wrong dispatcher
+
+
+def files_told(kinds):
+    """By the kind of wrong dispatcher, how many of some files run otherwise by it."""
+    inputs = [read_file(data) for data in made(random_file)[:SOME]]
+    right = [list(run(*each)) for each in inputs]
+    return {kind: sum(list(run(*each, kind)) != answers for each, answers in zip(inputs, right)) for kind in kinds}
+
+
+def sessions_told(kinds):
+    """By the kind of wrong dispatcher, how many of some sessions it answers otherwise."""
+    inputs = made(random_session)[:SOME]
+    parts = [parts_of(data) for data in inputs]
+    right = [session_lines(data)[1:] for data in inputs]
+    return {kind: sum(calls_lines(kind.open(opening), calls) != lines for (opening, calls), lines in zip(parts, right)) for kind in kinds}
+
+
 class Equals(unittest.TestCase):
     """6/13: tasks share priorities in most inputs, and each wrong order among them shows in so many that it is found."""
 
-    RARE = {PromotedByNumber}
-    SOME = SEEDS // 2  # enough, since each is run by every order
+    RARE = {other_orders.PromotedByNumber}
 
-    def check(self, differs):
-        for kind in ALL:
+    def check(self, told):
+        for kind, count in told.items():
             with self.subTest(kind=kind.__name__):
-                self.assertGreater(sum(differs(kind)), self.SOME / 100 if kind in self.RARE else self.SOME / 10)
+                self.assertGreater(count, SOME / 100 if kind in self.RARE else SOME / 10)
 
     def test_files(self):
-        inputs = [read_file(data) for data in made(random_file)[:self.SOME]]
-        right = [list(run(*each)) for each in inputs]
-        self.check(lambda kind: (list(run(*each, kind)) != answers for each, answers in zip(inputs, right)))
+        self.check(files_told(other_orders.ALL))
 
     def test_sessions(self):
-        inputs = made(random_session)[:self.SOME]
-        parts = [parts_of(data) for data in inputs]
-        right = [session_lines(data)[1:] for data in inputs]
-        self.check(lambda kind: (calls_lines(kind.open(opening), calls) != lines for (opening, calls), lines in zip(parts, right)))
+        self.check(sessions_told(other_orders.ALL))
 
     def test_tables(self):
         tables = [list(read_file(data)[0].values()) for data in made(random_file)]
@@ -143,6 +158,56 @@ class Equals(unittest.TestCase):
         self.assertGreater(refused.count(False), SEEDS / 20)
 
 
+class Spacings(unittest.TestCase):
+    """8/13: half of the inputs have spacings, their releases come at the edge of them, and each wrong reading shows in so many that it is found."""
+
+    def check(self, told):
+        for kind, count in told.items():
+            with self.subTest(kind=kind.__name__):
+                self.assertGreater(count, SOME / 10)
+
+    def test_files(self):
+        self.check(files_told(other_spacings.ALL))
+
+    def test_sessions(self):
+        self.check(sessions_told(other_spacings.ALL))
+
+    def test_tables(self):
+        tables = [list(read_file(data)[0].values()) for data in made(random_file)]
+        spaced = [sum(task.spacing is not None for task in tasks) for tasks in tables]
+        self.assertGreater(spaced.count(0), SEEDS / 3, "many have none")
+        self.assertGreater(sum(count == len(tasks) > 1 for tasks, count in zip(tables, spaced)), SEEDS / 20, "some have one on every task")
+        self.assertGreater(sum(0 < count < len(tasks) for tasks, count in zip(tables, spaced)), SEEDS / 10, "some have one on a few")
+        self.assertIn(32, spaced)
+        self.assertTrue({1, 2, LONGEST_SPACING} <= {task.spacing for tasks in tables for task in tasks})
+
+    def check_edges(self, histories):
+        """Of the releases of spaced tasks many come at the edge: a tick sooner, exactly one spacing later, and a tick behind."""
+        seen = collections.Counter()
+        for history in histories:
+            last = {}
+            passed = {(job.task.number, job.release) for job in history.jobs}
+            for time, number in sorted((time, number) for number, time in passed | set(history.skips)):
+                spacing = history.table[number].spacing
+                if spacing is not None and number in last:
+                    seen[time - last[number] - spacing] += 1
+                if (number, time) in passed:
+                    last[number] = time
+        for beside in (-1, 0, 1):
+            self.assertGreater(seen[beside], SEEDS / 2)
+
+    def test_edges_of_files(self):
+        self.check_edges(map(file_history, made(random_file)))
+
+    def test_edges_of_sessions(self):
+        self.check_edges(list_history(*session_calls(data)) for data in made(random_session))
+
+    def test_records_of_another_reading(self):
+        refused = [read_lines(data) == ["R 18 0"] for data in made(made_by_another_spacing)]
+        self.assertGreater(sum(refused), SEEDS / 8)
+        self.assertGreater(refused.count(False), SEEDS / 20)
+
+
 class FileCoverage(unittest.TestCase):
     def test_random_files_are_served(self):
         for data in made(random_file):
@@ -154,7 +219,7 @@ class FileCoverage(unittest.TestCase):
             lines = file_lines(data)
             if lines and lines[0].startswith("R"):
                 seen[refusal(lines[0])] += 1
-        self.assertEqual(sorted(seen), [1, 2, 3, 4, 6, 7, 8, 9, 10, 11, 12])
+        self.assertEqual(sorted(seen), [1, 2, 3, 4, 6, 7, 8, 9, 10, 11, 12, 19])
 
     def test_every_event(self):
         closings, fates, works, blocked, promotions, skip_first = set(), set(), set(), set(), 0, 0
@@ -223,7 +288,7 @@ class SessionCoverage(unittest.TestCase):
                 openings.add(refusal(lines[0]))
             if lines[-1] == "X":
                 stops.add(lines[0])
-        self.assertEqual(openings, {1, 2, 4, 6, 7, 12})
+        self.assertEqual(openings, {1, 2, 3, 4, 6, 7, 8, 12, 19})
         self.assertEqual(stops, {"O", "X"})
 
     def test_far_ahead_in_idle_time(self):
@@ -252,7 +317,7 @@ class StoredCoverage(unittest.TestCase):
         for data in made(damaged_stored):
             lines = read_lines(data)
             seen[lines[0][:lines[0].rindex(" ")] if lines and lines[0][0] == "R" else lines[0][0] if lines else ""] += 1
-        self.assertEqual(set(seen), {"", "L", "X"} | {f"R {number}" for number in (1, 2, 4, 6, 7, 12, 18)})
+        self.assertEqual(set(seen), {"", "L", "X"} | {f"R {number}" for number in (1, 2, 3, 4, 6, 7, 8, 12, 18, 19)})
         self.assertGreater(seen["R 18"], SEEDS / 2, "most of them only a run can refuse")
         self.assertGreater(seen["L"], SEEDS / 20, "some are the record of another list")
 

@@ -52,9 +52,9 @@ class RoundTrip(unittest.TestCase):
     def test_random_files(self):
         for seed in range(200):
             data = random_file(random.Random(f"round trip {seed}"))
-            tasks_end = 16 * len(read_file(data)[0])
+            releases = read_file(data)[1]
             with self.subTest(seed=seed):
-                self.assertEqual(read(data[:tasks_end], record(data)), read_file(data)[1])
+                self.assertEqual(read(data[:len(data) - 10 * len(releases)], record(data)), releases)
 
     def test_lines_are_in_the_order_of_the_releases(self):
         """Task 1 is done before task 2, which was released before it."""

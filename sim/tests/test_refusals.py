@@ -41,7 +41,7 @@ class FileRefusals(unittest.TestCase):
 
     def test_2_kind(self):
         self.refused(bytes([7]), 2, 0)
-        for kind in (0, 3, 16, 17, 18, 255):
+        for kind in (0, 4, 16, 17, 18, 255):
             self.refused(TASKS + bytes([kind]), 2, 48)
 
     def test_3_task_after_release(self):

@@ -3,9 +3,10 @@
 import unittest
 
 from sim.dispatcher import Answer, Dispatcher
-from sim.entries import INTERVAL, NO_TASK, SKIPPED, Refused, encode, release_entry, task_entry
-from sim.files import job_entry, read_file, record
-from sim.rows import MOST_RELEASES, MOST_TASKS, answer_of, bytes_term, call_lists, file_row, rows
+from sim.entries import INTERVAL, NO_TASK, SKIPPED, Refused, encode, release_entry, spacing_entry, task_entry
+from sim.files import job_entry, read_file, record, run
+from sim.other_spacings import ALL
+from sim.rows import FILES, MOST_RELEASES, MOST_TASKS, SEED, answer_of, bytes_term, call_lists, file_row, rows
 
 
 class Rows(unittest.TestCase):
@@ -36,11 +37,20 @@ class Rows(unittest.TestCase):
             kinds |= {type(answer_of(dispatcher, call)) for call in calls}
         self.assertEqual(kinds, {Answer, type(None), Refused})
 
+    def test_some_tables_have_spacings_and_some_runs_show_them(self):
+        files = [read_file(data) for data, result in rows(SEED, FILES) if result[0] == "record"]
+        spaced = [table for table, _ in files if any(task.spacing is not None for task in table.values())]
+        self.assertGreater(len(spaced), 10)
+        self.assertLess(len(spaced), len(files) - 10)
+        for wrong in ALL:
+            self.assertTrue(any(list(run(*each, wrong)) != list(run(*each)) for each in files), wrong.__name__)
+
     def test_a_file_that_runs_is_written_with_its_record_and_the_bytes_behind_it(self):
         self.assertEqual(file_row(b"\1\2", ("record", b"\3")), "recorded (1 ∷ 2 ∷ []) (3 ∷ []) 1 3")
 
     def test_whole_entries_are_written_by_their_fields(self):
         self.assertEqual(bytes_term(task_entry(1, 2, 0, 3, 4, 256) + release_entry(300, 1)), "(task 1 2 0 3 4 256 ++ release 300 1)")
+        self.assertEqual(bytes_term(spacing_entry(1, 300)), "(spacing 1 300)")
         interval = encode(INTERVAL, 2, 7, 1, 3, 1, NO_TASK, 2, 2, 1)
         written = job_entry((3, 0, 2, 9, 0)) + interval + encode(SKIPPED, 1, 5)
         self.assertEqual(bytes_term(written), "(job 3 0 2 9 0 ++ interval 2 7 1 3 1 none 2 2 1 ++ skipped 1 5)")

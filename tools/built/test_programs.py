@@ -38,7 +38,7 @@ def run(program, **streams):
 
 
 def long_run(most=4000):
-    """An input whose lines and record are longer than what a program keeps."""
+    """An input whose lines and record are longer than what a program keeps. Its tasks have no spacing, so that where they end is known."""
     rng = random.Random(1)
     tasks = some_tasks(rng, 8, small_length)
     releases = sorted({(rng.randrange(40_000), rng.choice(tasks)[1]) for _ in range(most + most // 16)})[:most]

@@ -39,14 +39,19 @@ class Told(unittest.TestCase):
     def test_why_summary_and_figure(self):
         rng = random.Random(21)
         for _ in range(PLANS):
-            jobs = [tuple(map(int, line.split()[1:])) for line in self.random_plan(rng) if line.startswith("J")]
+            lines = self.random_plan(rng)
+            jobs, skips = ([tuple(map(int, line.split()[1:])) for line in lines if line.startswith(letter)] for letter in "JS")
             for task, release, start, completion, blocked in rng.sample(jobs, min(3, len(jobs))):
                 text = gateway("why", self.plan, str(task), str(release)).decode()
                 sums = text.split("\nresponse ")[1].splitlines()[0]
                 self.assertEqual(sum(map(int, re.findall(r"(?:= |\+ )(\d+) ", sums))), completion - release)
                 self.assertRegex(text, rf"(?m)^  {start} to \d+ +execution$")
                 self.assertEqual(text.count("this job is blocked in it"), blocked)
+            for task, release in rng.sample(skips, min(2, len(skips))):
+                text = gateway("why", self.plan, str(task), str(release)).decode()
+                self.assertRegex(text, r"Only one release of a task can wait|tick.* too soon, and skipped")
             rows = json.loads(gateway("summary", "--json", self.plan))
+            self.assertEqual(sum(row["skipped"] for row in rows), len(skips))
             self.assertEqual(sum(row["done"] for row in rows), len(jobs))
             self.assertEqual(max((row["worst_response"] for row in rows if row["done"]), default=0), max((job[3] - job[1] for job in jobs), default=0))
             self.check_figure(jobs)

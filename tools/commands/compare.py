@@ -15,7 +15,8 @@ from tools.plan import entry, sound_plan
 from tools.runs import run_of
 
 # What is compared of each task, and of each job.
-OF_TASKS = {"mark": "mark", "done": "done", "waited": "waited", "skipped": "skipped", "worst_response": "worst", "median_response": "median",
+OF_TASKS = {"mark": "mark", "done": "done", "waited": "waited", "skipped": "skipped", "too_soon": "too soon",
+            "worst_response": "worst", "median_response": "median",
             "worst_blocked": "blocked", "cancelled": "cancelled", "thrown_out": "thrown out", "promoted": "promoted"}
 OF_JOBS = ("start", "completion", "response", "blocked")
 
@@ -61,7 +62,7 @@ def told_of(run, life):
     if life is None:
         return None
     if life.job is None:
-        return {"skipped": True}
+        return {"skipped": True, "too_soon": life.too_soon}
     return dict(zip(OF_JOBS, (life.start, life.completion, life.response, len(run.blocked(life)))))
 
 
@@ -89,6 +90,13 @@ def change(pair):
     return str(before) if before == after else f"{before} > {after}"
 
 
+def fate(told):
+    """What became of a release."""
+    if "skipped" not in told:
+        return f"done at {told['completion']}"
+    return "skipped, since it came too soon" if told["too_soon"] else "skipped, since one waited"
+
+
 def job_text(row):
     """One job that moved."""
     before, after = row["before"], row["after"]
@@ -96,8 +104,7 @@ def job_text(row):
     if before is None or after is None:
         return f"{name}: only in the {'second' if before is None else 'first'} run"
     if "skipped" in before or "skipped" in after:
-        one, other = ("skipped" if "skipped" in each else f"done at {each['completion']}" for each in (before, after))
-        return f"{name}: {one}, then {other}"
+        return f"{name}: {fate(before)}, then {fate(after)}"
     by = after["response"] - before["response"]
     parts = [f"response {change((before['response'], after['response']))} ({by:+})", f"start {change((before['start'], after['start']))}",
              f"done {change((before['completion'], after['completion']))}", f"blocked {change((before['blocked'], after['blocked']))}"]

@@ -1,7 +1,7 @@
 """write a plan's input, as bytes: what the programs and the library read
 
 Whether the entries make an admissible input is for whoever reads them to say; only a line that is no entry is refused here. Of a plan with
-tasks alone it is what a dispatcher opens from.
+tasks and spacings alone it is what a dispatcher opens from.
 """
 
 from tools import arguments as common

@@ -1,6 +1,7 @@
 """tell what a run comes to, task by task
 
-For each task, the highest priority first: its releases, those done, those that waited first and those skipped; the worst and the median response with
+For each task, the highest priority first: its releases, those done, those that waited first, those skipped, and how many of these came
+sooner than the task's spacing; the worst and the median response with
 the release of a job that had it; the most intervals in which one of its jobs was blocked, its release, and by whom; how often a copy-in of
 it was cancelled or thrown out, and how often a job was promoted. Times are in ticks.
 """

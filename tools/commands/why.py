@@ -2,7 +2,7 @@
 
 The job of the release of TASK at TIME, interval by interval, with the rule that decided each (docs/RULES.md has the rules): when it was released and
 taken, what the processor ran and what the engine chose meanwhile, and where the ticks of its response went. A skipped release: which one
-waited. What is told is held against the proved program's lines, or against the record.
+waited, or after which one it came sooner than its task's spacing. What is told is held against the proved program's lines, or against the record.
 """
 
 from bisect import bisect_left

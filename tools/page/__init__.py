@@ -18,7 +18,7 @@ def data_of(run):
     """What the page draws: the tasks by priority, the intervals, and each release with its phases and what why says of it."""
     number = {kind: at for at, kind in enumerate(KINDS)}
     colours = task_colours(run.table)
-    tasks = [{"number": task.number, "priority": task.priority, "mark": task.mark, "lengths": [task.copy_in, task.execution, task.copy_out],
+    tasks = [{"number": task.number, "priority": task.priority, "mark": task.mark, "lengths": [task.copy_in, task.execution, task.copy_out], "spacing": task.spacing,
               "colours": colours[task.number]} for task in sorted(run.table.values(), key=lambda task: (task.priority, task.number))]
     lives = [[task, time, SKIPPED if life.skipped else life.completion,
               [[number[phase.kind], phase.begin, phase.end] for phase in life.phases], told(run, life)] for (time, task), life in run.lives.items()]

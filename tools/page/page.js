@@ -217,7 +217,7 @@ function drawNames(size) {
         pen.strokeRect(6.5, top + size * 0.25 + 0.5, 11, Math.min(14, size * 0.5) - 1);
         pen.fillStyle = "#1a1a1a";
         pen.font = "bold 12px sans-serif";
-        pen.fillText(`task ${task.number}${task.mark ? " ◆" : ""}`, 24, top + size * 0.25 + 9);
+        pen.fillText(`task ${task.number}${task.mark ? " ◆" : ""}${task.spacing === null ? "" : `, spacing ${task.spacing}`}`, 24, top + size * 0.25 + 9);
         pen.font = "10px sans-serif";
         pen.fillText(`priority ${task.priority}, L ${task.lengths[0]} C ${task.lengths[1]} U ${task.lengths[2]}`, 24, top + size * 0.25 + 20);
     }
@@ -366,7 +366,7 @@ function showHelp() {
     document.getElementById("why").textContent = "wheel or + and -: zoom; drag or the arrow keys: move; shift and wheel: rows up and down\n" +
         "a: all of the run; Home, End: its begin and end; w: the worst response; n and p: the next and the job before of a task\n" +
         "click on a job: keep what is said of it; click on a task's name: its worst response; Escape: let go\n" +
-        "/ and then a tick, or a task and a tick: go there\n◆: latency-sensitive; L, C, U: lengths of copy-in, execution and copy-out in ticks";
+        "/ and then a tick, or a task and a tick: go there\n◆: latency-sensitive; L, C, U: lengths of copy-in, execution and copy-out in ticks; spacing: from one release to the next";
     pinned.hidden = false;
 }
 

@@ -3,7 +3,7 @@
 import pathlib
 import unittest
 
-from sim.entries import task_entry
+from sim.entries import spacing_entry, task_entry
 from tools import antt, statements
 from tools.claims import Claims, listed
 from tools.edits import parse
@@ -50,6 +50,13 @@ class Runs(unittest.TestCase):
             ("Comes", 5), ("Stops", 1, 5), ("Ends", 5), ("Defers", 1, 5), ("Begins", 5, none, one),
             ("Comes", 6), ("Completes", 1, 6), ("Takes", 1, 6, True), ("Comes", 8), ("Finishes", 1)])
 
+    def test_what_came_too_soon_is_no_event(self):
+        """Neither taken nor set waiting, it stands in the answer alone."""
+        run = Run(TASKS + spacing_entry(1, 6), PLAN_F)
+        self.assertEqual(run.events[2], [("Comes", 5), ("Stops", 1, 5), ("Ends", 5), ("Begins", 5, ("NoTask",), ("Task", 1))])
+        self.assertEqual(run.answers[2][1]["skipped"], 2)
+        self.assertEqual((run.table["spaced"], run.table["columns"][96:]), (2, [0, 6] + [0] * 30))
+
     def changed(self, file, old, new):
         texts = {each: read("guarantees", each) for each in statements.CLAIM}
         self.assertEqual(texts[file].count(old), 1)
@@ -70,7 +77,7 @@ class Runs(unittest.TestCase):
         run = Run(TASKS, PLAN_F)
         events = listed([event for each in run.events for event in each if event[0] != "Defers"])
         self.assertTrue(claims.record_holds(claims.found["Holds"], (run.table, listed([event for each in run.events for event in each]))))
-        self.assertFalse(claims.record_holds(claims.found["Placed"], (1, 0, 0, listed([]), listed([("Comes", 0), ("Takes", 1, 0, True)]))))
+        self.assertFalse(claims.record_holds(claims.found["Placed"], (1, run.table, 0, 0, 0, listed([]), listed([("Comes", 0), ("Takes", 1, 0, True)]))))
         self.assertTrue(claims.record_holds(claims.found["InTime"], (events,)))
 
 

@@ -1,12 +1,17 @@
-"""The inputs with releases that wait show each wrong way of waiting, and those with tasks of one priority each wrong order among them."""
+"""The inputs with releases that wait show each wrong way of waiting, those with tasks of one priority each wrong order among them, and those with
+spacings each wrong reading of them."""
 
 import unittest
 
+from sim import other_orders, other_spacings
 from sim.dispatcher import Dispatcher, members
 from sim.earlier import NothingWaits
-from sim.entries import Refused, parts_of, two_parts
+from sim.entries import Refused, parts_of, release_entry, two_parts
 from sim.files import instant_entries, read_file, run
-from sim.other_orders import ALL, EqualBlocks, HighestNumberFirst, LatestFirst, PromotedByNumber
+from sim.generate import LONGEST_CHECKED
+from sim.lines import file_lines
+from sim.other_orders import EqualBlocks, HighestNumberFirst, LatestFirst, PromotedByNumber
+from sim.reading import read_lines
 from sim.sessions import calls_lines
 from tools import limits
 
@@ -156,7 +161,7 @@ class Waiting(unittest.TestCase):
 
 class Equals(unittest.TestCase):
     def test_files_show_each_wrong_order(self):
-        for wrong in ALL:
+        for wrong in other_orders.ALL:
             with self.subTest(wrong=wrong.__name__):
                 self.assertTrue(any(record_by(wrong, data) != record_by(Dispatcher, data) for data in limits.equal_files()))
 
@@ -173,6 +178,45 @@ class Equals(unittest.TestCase):
         self.assertLessEqual(set(limits.equal_files()), set(limits.files()))
         self.assertLessEqual(set(limits.equal_sessions()), set(limits.sessions()))
         self.assertLessEqual(set(limits.equal_records()), set(limits.stored_records()))
+
+
+class Spacings(unittest.TestCase):
+    def test_files_show_each_wrong_reading(self):
+        for wrong in other_spacings.ALL:
+            with self.subTest(wrong=wrong.__name__):
+                self.assertTrue(any(record_by(wrong, data) != record_by(Dispatcher, data) for data in limits.spaced_files()))
+
+    def test_sessions_show_each_wrong_reading(self):
+        for wrong in other_spacings.ALL:
+            with self.subTest(wrong=wrong.__name__):
+                self.assertTrue(any(lines_by(wrong, data) != lines_by(Dispatcher, data) for data in limits.spaced_sessions()))
+
+    def test_a_full_table_shows_the_edge_of_each_spacing(self):
+        head, pairs = b"".join(limits.full_head()), limits.full_releases()
+        data = head + b"".join(release_entry(*pair) for pair in pairs)
+        skipped = sorted(tuple(map(int, line.split()[:0:-1])) for line in file_lines(data) if line.startswith("S"))
+        self.assertEqual(skipped, sorted((time, number) for number in range(32) for time in (199 + number, 201 + number)))
+
+    def test_each_refusal_of_a_spacing(self):
+        lines = {line.split()[1] for data in limits.spaced_files() for line in file_lines(data)[:1] if line.startswith("R")}
+        self.assertLessEqual({"1", "2", "3", "8", "11", "19"}, lines)
+
+    def test_the_longest_files(self):
+        most, more = (limits.crowded_full(count) for count in (4096, 4097))
+        self.assertEqual(len(most), LONGEST_CHECKED - 16)
+        self.assertFalse(file_lines(most)[0].startswith("R"))
+        self.assertEqual(file_lines(more), [f"R 11 {len(most)}"])
+
+    def test_records_of_wrong_readings_are_refused_and_those_of_the_rule_read(self):
+        told = [read_lines(data)[:1] for data in limits.spaced_records()]
+        self.assertGreater(told.count(["R 18 0"]), 30)
+        self.assertGreater(sum(line[0].startswith("L") for line in told), len(limits.SPACED))
+        self.assertIn(["R 19 704"], told)
+
+    def test_they_are_among_the_limits(self):
+        self.assertLessEqual(set(limits.spaced_files()), set(limits.files()))
+        self.assertLessEqual(set(limits.spaced_sessions()), set(limits.sessions()))
+        self.assertLessEqual(set(limits.spaced_records()), set(limits.stored_records()))
 
 
 if __name__ == "__main__":

@@ -163,7 +163,7 @@ class Inputs(unittest.TestCase):
 
     def test_the_limits_meet_every_refusal_of_a_file(self):
         lines = {EXPECTED["file"](data).split()[1] for data in limits.files() if EXPECTED["file"](data).startswith(b"R")}
-        self.assertEqual({int(number) for number in lines}, set(range(1, 13)) - {5})
+        self.assertEqual({int(number) for number in lines}, {*range(1, 13), 19} - {5})
 
     def test_the_limits_have_a_release_on_each_side_of_a_copy_in(self):
         fates = [EXPECTED["file"](data).split(b"\n")[1].split()[8] for data in limits.around_a_copy()]
@@ -172,7 +172,7 @@ class Inputs(unittest.TestCase):
     def test_the_limits_meet_every_answer_of_the_reader(self):
         words = [EXPECTED["read"](data).split() for data in limits.stored_records()]
         said = {None if not each else int(each[1]) if each[0] == b"R" else each[0] for each in words}
-        self.assertEqual(said, {None, b"L", b"X", 1, 2, 4, 6, 7, 12, 18})
+        self.assertEqual(said, {None, b"L", b"X", 1, 2, 3, 4, 6, 7, 8, 12, 18, 19})
 
     def test_the_limits_cut_a_release_in_an_opening(self):
         cut = limits.sessions()[len(limits.TABLE) + 3]

@@ -61,6 +61,8 @@ class Page(unittest.TestCase):
                     self.assertEqual((phases[0][1], phases[-1][2]), (release, end))
                     self.assertIn([KINDS.index("execution"), done[task, release][2]], [phase[:2] for phase in phases])
             self.assertEqual(len(shown["lives"]), len(read_file(data)[1]))
+            self.assertEqual({task["number"]: task["spacing"] for task in shown["tasks"]},
+                             {number: task.spacing for number, task in read_file(data)[0].items()})
 
     def test_a_name_that_would_end_the_page(self):
         with tempfile.TemporaryDirectory() as folder:

@@ -463,6 +463,18 @@ class OtherPlans(unittest.TestCase):
         heads = [drawn.elements(kind)[0].findall(f"{SVG}path")[1].get("fill") for kind in ("release", "waiting")]
         self.assertEqual(heads, ["#1a1a1a", "#ffffff"])
 
+    def test_a_release_that_came_too_soon(self):
+        """The release at 5 is one tick sooner than the spacing: a second stop at its tail, and its own entry in the legend. 6 is taken."""
+        drawn = Drawn.of_plan(TASKS + "spacing 1 6\nrelease 0 1\nrelease 5 1\nrelease 6 1\n")
+        self.assertEqual(drawn.of_kind("release", "time", "task"), [(0, 1), (6, 1)])
+        [mark] = drawn.elements("skipped")
+        self.assertEqual(mark.find(f"{SVG}title").text, "release of task 1 at 5, skipped: sooner than its spacing")
+        self.assertEqual([path.get("class") for path in mark.iter(f"{SVG}path")], ["dashed", "stop", "stop", "strike"])
+        self.assertIn("3 releases (1 skipped, 1 of them too soon)", drawn.root.find(f"{SVG}desc").text)
+        texts = {text.text for text in drawn.root.iter(f"{SVG}text")}
+        self.assertIn("release skipped, too soon", texts)
+        self.assertIn("task 1: priority 1, latency-sensitive, L 2, C 3, U 1, spacing 6", texts)
+
     def test_a_copy_in_cancelled_at_the_end_of_its_interval(self):
         """Plan D: interval 0 to 1, and the job that cancelled is promoted."""
         drawn = Drawn.of_plan(TASKS + "release 0 2\nrelease 1 1\n")
@@ -748,7 +760,7 @@ class Command(unittest.TestCase):
     def test_plans_that_are_refused(self):
         task = "# a table\n\ntask 1 1 1 2 3 1\n"
         for plan, expected in (
-                (task + "tusk\n", "line 4: 'tusk' is neither 'task' nor 'release'"),
+                (task + "tusk\n", "line 4: 'tusk' is none of 'task', 'spacing' and 'release'"),
                 (task + f"release {'9' * 4000} 1\n", "line 4: time has 4000 digits, over 20"),
                 (task + "release 0 1\n# late\ntask 2 2 0 1 1 1\n", "line 6: a task after a release: the first release is in line 4 (refusal 3)"),
                 (task + "task 32 2 0 1 1 1\n", "line 4: task number 32 is over 31 (refusal 4)"),
@@ -801,6 +813,18 @@ class Command(unittest.TestCase):
                 ("J 1 3 8", "J 1 5 8", "line 7: the release of task 1 at 3 is taken before the one at 5"),
                 ("J 1 3 8", "J 1 3 6", "line 7: the job starts at 6, and is taken at 6")):
             self.assertEqual(self.refused(plan, lines.replace(old, new)), expected)
+
+    def test_lines_that_do_not_fit_a_spacing(self):
+        plan = TASKS + "spacing 1 6\nrelease 0 1\nrelease 5 1\nrelease 6 1\n"
+        lines = ("I 0 2 0 - 0 - 1 1 -\nI 2 5 1 1 1 - - 0 -\nS 1 5\nJ 1 0 2 6 0\nI 5 8 0 - 0 1 1 1 -\nI 8 11 1 1 1 - - 0 -\nJ 1 6 8 12 0\n"
+                 "I 11 12 0 - 0 1 - 0 -\n")
+        Drawn.of_plan(plan, lines)
+        for old, new, expected in (
+                ("S 1 5\n", "", "line 6: the release of task 1 at 5 is taken before the one at 6"),
+                ("S 1 5\n", "S 1 5\nS 1 6\n", "line 8: the plan has no release of task 1 at 7"),
+                ("S 1 5", "S 1 6", "line 7: the release of task 1 at 5 came sooner than its spacing, and is not skipped")):
+            changed = lines.replace(old, new).replace("J 1 6", {"S 1 6": "J 1 5", "S 1 5\nS 1 6\n": "J 1 7"}.get(new, "J 1 6"))
+            self.assertEqual(self.refused(plan, changed), expected)
 
     def test_lines_that_are_not_whole(self):
         """Each line that is left out, or added at the end, is missed."""
@@ -870,7 +894,7 @@ class Colours(unittest.TestCase):
 
 class Documents(unittest.TestCase):
     def test_pictures_are_up_to_date(self):
-        for name in ("a", "b", "f"):
+        for name in ("a", "b", "f", "desks", "spacing"):
             kept = (ROOT / f"docs/plan-{name}.svg").read_text(encoding="utf-8")
             self.assertEqual(kept, picture_of(str(ROOT / f"plans/{name}.plan")),
                              f"./gateway picture plans/{name}.plan > docs/plan-{name}.svg makes it anew")
@@ -882,16 +906,17 @@ class Documents(unittest.TestCase):
         self.assertEqual(text(self.lines("a")), LINES_A)
 
     def test_lines_in_the_documents(self):
-        """Plan A in the README; of plan B what is not plan A's, and plan F, in RULES."""
+        """Plan A in the README; of plan B what is not plan A's, and the plans of waiting and of spacings, in RULES."""
         readme, rules = ((ROOT / name).read_text(encoding="utf-8") for name in ("README.md", "docs/RULES.md"))
         lines_a = self.lines("a")
-        for text_of, lines in ((readme, lines_a), (rules, [line for line in self.lines("b") if line not in lines_a]), (rules, self.lines("f"))):
+        for text_of, lines in ((readme, lines_a), (rules, [line for line in self.lines("b") if line not in lines_a]), (rules, self.lines("f")),
+                               (rules, self.lines("spacing"))):
             self.assertIn("\n\n" + "".join(f"    {line}\n" for line in lines) + "\n", text_of)
 
     def test_what_is_told_in_the_documents(self):
         desks = (ROOT / "docs/DESKS.md").read_text(encoding="utf-8")
-        plan = str(ROOT / "plans/a.plan")
-        for words in (("why", plan, "1", "3"), ("summary", plan), ("figure", plan)):
+        plan, spacing = (str(ROOT / f"plans/{name}.plan") for name in ("a", "spacing"))
+        for words in (("why", plan, "1", "3"), ("why", spacing, "1", "5"), ("summary", plan), ("figure", plan)):
             told = gateway(*words)[1].decode()
             self.assertIn("\n\n" + "".join(f"    {line}".rstrip() + "\n" for line in told.splitlines()) + "\n", desks)
 

@@ -8,7 +8,7 @@ import tempfile
 import unittest
 
 from sim import generate
-from sim.entries import RELEASE, TASK, Refused, entries
+from sim.entries import RELEASE, SPACING, TASK, Refused, entries
 from sim.files import read_file
 from tools.plan import read_plan, sound_plan
 from tools.tests.captured import gateway
@@ -31,9 +31,10 @@ def mistakes(lines):
 
 def plan_lines(data):
     """The lines of an input's whole entries, with no care for what they say."""
+    words = {TASK: "task", SPACING: "spacing", RELEASE: "release"}
     found = []
-    for _, kind, fields in entries(data, kinds=(TASK, RELEASE)):
-        found.append(f"task {' '.join(map(str, fields))}" if kind == TASK else f"release {fields[1]} {fields[0]}")
+    for _, kind, fields in entries(data, kinds=words):
+        found.append(" ".join([words[kind], *map(str, reversed(fields) if kind == RELEASE else fields)]))
     return found
 
 
@@ -41,6 +42,9 @@ class Entries(unittest.TestCase):
     def test_a_task_is_its_fields_in_order(self):
         expected = bytes([1, 5, 9, 1, 2, 0, 0, 0, 0, 1, 0, 0, 64, 66, 15, 0])
         self.assertEqual(read(["task 5 9 1 2 256 1000000"]).data, expected)
+
+    def test_a_spacing_is_its_fields_in_order(self):
+        self.assertEqual(read(["spacing 3 258"]).data, bytes([3, 3, 2, 1, 0, 0]))
 
     def test_a_release_has_the_task_before_the_time(self):
         self.assertEqual(read(["release 258 3"]).data, bytes([2, 3, 2, 1, 0, 0, 0, 0, 0, 0]))
@@ -63,7 +67,7 @@ class Entries(unittest.TestCase):
 
 class NoEntries(unittest.TestCase):
     def test_an_unknown_word(self):
-        self.assertEqual(mistakes(["# head", "job 1"]), ["line 2: 'job' is neither 'task' nor 'release'"])
+        self.assertEqual(mistakes(["# head", "job 1"]), ["line 2: 'job' is none of 'task', 'spacing' and 'release'"])
 
     def test_too_few_numbers(self):
         self.assertEqual(mistakes(["task 1 2 3"]), ["line 1: 'task' takes 6 numbers (number priority mark L C U), and here are 3"])
@@ -95,12 +99,30 @@ class Mistakes(unittest.TestCase):
                           "line 2: L is 0, outside 1 to 1000000 (refusal 7)",
                           "line 2: U is 1000001, outside 1 to 1000000 (refusal 7)",
                           "line 3: task number 40 is over 31 (refusal 4)",
-                          "line 4: 'tusk' is neither 'task' nor 'release'",
+                          "line 4: 'tusk' is none of 'task', 'spacing' and 'release'",
                           "line 6: the release of task 1 at 5 is not after that of task 1 at 5 in line 5 (refusal 9)",
                           "line 7: a release of task 9, which is not in the table (refusal 8)",
                           "line 7: the release of task 9 at 4 is not after that of task 1 at 5 in line 6 (refusal 9)",
                           "line 8: release time 1000000001 is over 1000000000 (refusal 10)",
                           "line 9: a task after a release: the first release is in line 5 (refusal 3)"])
+
+    def test_of_spacings(self):
+        self.assertEqual(mistakes([TASK_1, "task 2 2 0 1 1 1", "spacing 1 5", "spacing 3 0", "spacing 2 1000000001", "spacing 1 5", "task 4 4 0 1 1 1",
+                                   "release 0 1", "spacing 2 7", "spacing 9 1"]),
+                         ["line 4: a spacing of task 3, which is not in the table (refusal 8)",
+                          "line 4: the spacing of task 3 is 0, outside 1 to 1000000000 (refusal 19)",
+                          "line 5: the spacing of task 2 is 1000000001, outside 1 to 1000000000 (refusal 19)",
+                          "line 6: a second spacing of task 1: the first is in line 3 (refusal 19)",
+                          "line 7: a task after a spacing: the first spacing is in line 3 (refusal 3)",
+                          "line 9: a spacing after a release: the first release is in line 8 (refusal 3)",
+                          "line 9: a second spacing of task 2: the first is in line 5 (refusal 19)",
+                          "line 10: a spacing after a release: the first release is in line 8 (refusal 3)",
+                          "line 10: a spacing of task 9, which is not in the table (refusal 8)"])
+
+    def test_spacings_at_their_limits(self):
+        plan = read([TASK_1, "task 2 2 0 1 1 1", "task 3 3 0 1 1 1", "spacing 2 1000000000", "spacing 1 1", "release 0 1"])
+        self.assertEqual(plan.mistakes, [])
+        self.assertEqual({number: task.spacing for number, task in plan.table.items()}, {1: 1, 2: 1_000_000_000, 3: None})
 
     def test_one_priority_may_be_that_of_many_tasks(self):
         self.assertEqual(mistakes([TASK_1, "task 2 1 0 1 1 1", "task 3 1 1 1 1 1", "release 0 1"]), [])
@@ -158,10 +180,23 @@ class Merge(unittest.TestCase):
 
     def test_what_does_not_go_together(self):
         self.assertEqual(self.merged([TASK_1, "release 1 1"], ["task 1 1 0 2 3 1", "release 1 1", "task 4 1 0 1 1 1", "release 2 9", "tusk"]),
-                         (1, [], ["1.plan: line 5: 'tusk' is neither 'task' nor 'release'",
+                         (1, [], ["1.plan: line 5: 'tusk' is none of 'task', 'spacing' and 'release'",
                                   "1.plan line 1: task 1 is another than in 0.plan line 1",
                                   "1.plan line 2: the release of task 1 at 1 is given before, in 0.plan line 2 (refusal 9)",
                                   "1.plan line 4: a release of task 9, which is in no plan (refusal 8)"]))
+
+    def test_spacings_of_several_desks(self):
+        """Behind all tasks, by task; one may stand in a plan without its task, or in several."""
+        self.assertEqual(self.merged([TASK_1, "spacing 1 6", "release 1 1"], ["task 2 1 1 1 1 1", "spacing 2 9", "spacing 1 6", "release 1 2"],
+                                     ["spacing 2 9"])[:2],
+                         (0, [TASK_1, "task 2 1 1 1 1 1", "spacing 1 6", "spacing 2 9", "release 1 1", "release 1 2"]))
+
+    def test_spacings_that_do_not_go_together(self):
+        self.assertEqual(self.merged([TASK_1, "spacing 1 6"], ["spacing 1 7", "spacing 4 7", "spacing 1 7"]),
+                         (1, [], ["1.plan: line 3: a second spacing of task 1: the first is in line 1 (refusal 19)",
+                                  "1.plan line 1: the spacing of task 1 is another than in 0.plan line 2 (refusal 19)",
+                                  "1.plan line 3: the spacing of task 1 is another than in 0.plan line 2 (refusal 19)",
+                                  "1.plan line 2: a spacing of task 4, which is in no plan (refusal 8)"]))
 
     def test_desks_of_one_priority(self):
         self.assertEqual(self.merged([TASK_1, "release 1 1"], ["task 2 1 1 1 1 1", "release 1 2"])[:2],

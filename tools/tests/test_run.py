@@ -71,7 +71,7 @@ class Run(Housed):
 
     def test_a_line_that_is_no_entry(self):
         plan = self.house.plan(TASK + "tusk\n")
-        self.assertEqual(self.run_plan(plan), (1, "", f"{plan}: line 2: 'tusk' is neither 'task' nor 'release'\n"))
+        self.assertEqual(self.run_plan(plan), (1, "", f"{plan}: line 2: 'tusk' is none of 'task', 'spacing' and 'release'\n"))
 
     def test_json(self):
         status, printed, _ = self.run_plan("--json")

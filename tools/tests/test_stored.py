@@ -59,6 +59,17 @@ class Plans(unittest.TestCase):
     def test_an_empty_record_has_no_release(self):
         self.assertEqual(Outcome(TASKS, b"").lines, TASKS)
 
+    def test_spacings_of_the_plan_come_back_too(self):
+        """They count in the reading: beside another spacing the record is one that no releases make."""
+        plan = [*TASKS, "spacing 1 6", "release 0 1", "release 5 1", "release 6 1"]
+        stored = record(input_of(plan))
+        self.assertEqual(Outcome(plan[:-3], stored).lines, plan)
+        outcome = Outcome([*TASKS, "spacing 1 5"], stored)
+        self.assertEqual((outcome.status, outcome.printed), (1, b""))
+        self.assertEqual(outcome.said.splitlines(), [
+            "record: no list of releases of these tasks makes this record (refusal 18)",
+            "record: byte 48: the record has 'S 1 5'; the releases that it tells, run again, give 'J 1 0 2 6 0'"])
+
     def test_releases_of_the_plan_are_passed_over_with_a_note(self):
         outcome = Outcome([*TASKS, "# others", "release 7 1", "release 8 2"], RECORD)
         self.assertEqual((outcome.status, outcome.lines), (0, TASKS + RELEASES))
@@ -80,7 +91,9 @@ class Refusals(unittest.TestCase):
                 ("task 32 2 0 1 1 1", "plan: line 4: task number 32 is over 31 (refusal 4)"),
                 ("task 2 2 2 1 1 1", "plan: line 4: mark is 2, over 1 (refusal 6)"),
                 ("task 2 2 0 0 1 1", "plan: line 4: L is 0, outside 1 to 1000000 (refusal 7)"),
-                ("tusk", "plan: line 4: 'tusk' is neither 'task' nor 'release'")):
+                ("tusk", "plan: line 4: 'tusk' is none of 'task', 'spacing' and 'release'"),
+                ("spacing 1 0", "plan: line 4: the spacing of task 1 is 0, outside 1 to 1000000000 (refusal 19)"),
+                ("spacing 2 5", "plan: line 4: a spacing of task 2, which is not in the table (refusal 8)")):
             self.assertEqual(self.refused([*head, line]), expected)
 
     def test_lines_are_counted_with_the_releases_between(self):

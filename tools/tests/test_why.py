@@ -99,6 +99,27 @@ blocked in 1 interval: interval 2 (2 to 7) by task 3
         self.assertIn("Only one release of a task can wait, and the one at 3 did (step c)", printed)
         self.assertIn("the next release of task 1: it waited for that, until 6", printed)
 
+    def test_a_release_that_came_too_soon(self):
+        plan = TASKS + "spacing 1 6\nrelease 0 1\nrelease 5 1\n"
+        self.assertEqual(command("why", "PLAN", "1", "5", plan=plan)[:2], (0, """\
+The release of task 1 at 5 was skipped.
+task 1: priority 1, latency-sensitive; copy-in L 2, execution C 3, copy-out U 1; spacing 6
+
+The spacing of task 1 is 6 ticks, and this release came 5 ticks after the one at 0 (step c):
+  0  the last release of task 1 that was not skipped: taken at once
+  5  this release: 1 tick too soon, and skipped. It has no job and changes nothing else
+  6  from here on a release is not too soon
+"""))
+
+    def test_too_soon_after_one_that_waited(self):
+        """9 is three ticks after 6, where 5 was taken, and four after 5, which counts."""
+        plan = TASKS + "spacing 1 5\nrelease 0 1\nrelease 5 1\nrelease 9 1\n"
+        _, printed, _ = command("why", "PLAN", "1", "9", plan=plan)
+        self.assertIn("this release came 4 ticks after the one at 5 (step c)", printed)
+        self.assertIn("  5   the last release of task 1 that was not skipped: it waited until 6, and its original time counts", printed)
+        self.assertIn("  9   this release: 1 tick too soon, and skipped", printed)
+        self.assertIn("  10  from here on a release is not too soon", printed)
+
     def test_a_job_that_meets_a_higher_choice(self):
         plan = TASKS + "release 0 1\nrelease 0 2\nrelease 0 3\n"
         _, printed, _ = command("why", "PLAN", "3", "0", plan=plan)
@@ -249,22 +270,33 @@ class Held(unittest.TestCase):
                 self.assertEqual(lengths, {"execution": life.task.execution, "copy-out": life.task.copy_out})
 
     def test_every_release_is_told_of(self):
-        skipped = 0
+        waited = soon = 0
         for _, run, found in random_runs(80, seed=4):
             for kind, fields in found:
                 if kind == SKIPPED:
                     task, time = fields
-                    self.assertIn("was skipped", told(run, run.lives[time, task]))
-                    skipped += 1
+                    text = told(run, run.lives[time, task])
+                    self.assertIn("was skipped", text)
+                    waited += "Only one release of a task can wait" in text
+                    soon += "too soon, and skipped" in text
             self.assertEqual(len(run.lives), sum(kind != INTERVAL for kind, _ in found))
-        self.assertGreater(skipped, 50)
+        self.assertGreater(min(waited, soon), 50)
+
+    def test_why_each_was_skipped_is_what_its_spacing_says(self):
+        """Found of the releases alone: one is too soon if it comes within the spacing of the last that has a job."""
+        for _, run, found in random_runs(80, seed=4):
+            jobs = sorted((fields[1], fields[0]) for kind, fields in found if kind == JOB_DONE)
+            for (time, task), life in run.lives.items():
+                spacing = run.table[task].spacing
+                soon = spacing is not None and any(number == task and time - spacing < before < time for before, number in jobs)
+                self.assertEqual(life.too_soon, soon)
 
     def test_another_run_is_not_told(self):
         """A line of the proved program that differs, whichever, is noticed."""
         for _, run, _ in random_runs(5, seed=6):
             for at, line in enumerate(run.lines):
                 words = line.split()
-                words[-1] = "9"
+                words[-1] += "9"
                 with self.assertRaises(Trouble):
                     hold(run, run.lines[:at] + [" ".join(words)] + run.lines[at + 1:])
 
@@ -292,8 +324,8 @@ class Summary(unittest.TestCase):
         status, printed, _ = command("summary", A)
         self.assertEqual(status, 0)
         self.assertEqual([line.split() for line in printed.splitlines()[1:]],
-                         ["1 1 1 1 1 0 0 10 3 10 3 1 3 3 0 0 1".split(), "2 2 0 1 1 0 0 15 2 15 2 1 2 3 1 0 0".split(),
-                          "3 3 0 1 1 0 0 9 0 9 0 0 - - 0 0 0".split()])
+                         ["1 1 1 1 1 0 0 0 10 3 10 3 1 3 3 0 0 1".split(), "2 2 0 1 1 0 0 0 15 2 15 2 1 2 3 1 0 0".split(),
+                          "3 3 0 1 1 0 0 0 9 0 9 0 0 - - 0 0 0".split()])
 
     def test_csv_and_json_say_the_same(self):
         rows = json.loads(command("summary", "--json", A)[1])
@@ -336,6 +368,7 @@ class Summary(unittest.TestCase):
 def plan_text(data):
     table, releases = read_file(data)
     lines = [f"task {task.number} {task.priority} {task.mark} {task.copy_in} {task.execution} {task.copy_out}" for task in table.values()]
+    lines += [f"spacing {task.number} {task.spacing}" for task in table.values() if task.spacing is not None]
     return "".join(f"{line}\n" for line in lines + [f"release {time} {task}" for time, task in releases])
 
 
@@ -346,7 +379,7 @@ class Compare(unittest.TestCase):
         self.assertIn("task 2 released at 2: response 15 > 10 (-5), start 12 > 7, done 17 > 12, blocked 1\n", printed)
         self.assertIn("task 1 released at 3: response 10 > 12 (+2), start 9 > 11, done 13 > 15, blocked 1 > 2\n", printed)
         self.assertNotIn("task 3 released", printed)
-        self.assertIn("1  1 > 0     1       0        0  10 > 12", printed)
+        self.assertIn("1  1 > 0     1       0        0         0  10 > 12", printed)
 
     def test_two_plans(self):
         printed = command("compare", A, B)[1]
@@ -362,7 +395,20 @@ class Compare(unittest.TestCase):
             file.write(other)
             file.flush()
             printed = command("compare", "PLAN", file.name, plan=plan)[1]
-        self.assertIn("task 2 released at 2: skipped, then done at ", printed)
+        self.assertIn("task 2 released at 2: skipped, since one waited, then done at ", printed)
+
+    def test_a_spacing_in_one(self):
+        plan = TASKS + "release 0 1\nrelease 5 1\nrelease 6 1\n"
+        spaced = plan.replace("release 0", "spacing 1 6\nrelease 0")
+        with tempfile.NamedTemporaryFile(mode="w") as file:
+            file.write(spaced)
+            file.flush()
+            printed = command("compare", "PLAN", file.name, plan=plan)[1]
+            changed = json.loads(command("compare", "--json", "PLAN", file.name, plan=plan)[1])
+        self.assertIn("task 1 released at 5: done at 12, then skipped, since it came too soon\n", printed)
+        self.assertIn("task 1 released at 6: response 12 > 6 (-6), start 14 > 8, done 18 > 12, blocked 0\n", printed)
+        self.assertEqual(changed["tasks"][0]["too_soon"], [0, 1])
+        self.assertEqual(changed["jobs"][0]["after"], {"skipped": True, "too_soon": True})
 
     def test_a_mark_of_no_task(self):
         self.assertEqual(command("compare", A, "--mark", "9=1")[::2], (1, f"{A}: there is no task 9 to mark\n"))

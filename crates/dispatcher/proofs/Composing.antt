@@ -4,11 +4,12 @@ use mathlib.Core.Bool.{false}
 use mathlib.Core.List.{List}
 use Prim.Native.Nat.{ℕ, _+_}
 use lib.ListN.{length, set as put, getD}
+use Rattle.sets.specs.Sets.{union, difference}
 use Rattle.rules.specs.With.{at-clock}
 use Rattle.rules.specs.Instant.{released, taken, deferred, skipped, held-over, step-a, step-f, step-g, steps-c-d, due, closing, occurred}
 use Rattle.rules.specs.Registers.{phase-in, state-in}
 use Rattle.rules.specs.Kept.{Kept, Whole, Beside, registers-in, read, Becomes, copyout-ends}
-use Rattle.rules.specs.Steps.{HeldOverAt, CopiesOut, TestedAt}
+use Rattle.rules.specs.Steps.{TooSoonAt, HeldOverAt, CopiesOut, TestedAt}
 use Rattle.rules.specs.declared.ReleaseFates.{ReleaseFates}
 use Rattle.rules.proofs.Instants.{Left, left, occurred-by, once-here}
 use Rattle.dispatcher.specs.Types.{State, Stage, JobEntry, IntervalEntry, Done, NoJob, Job, Closed, NoInterval, Span, Closing, Due, Occurred}
@@ -80,23 +81,28 @@ stays-told n {told = told} h = record {
 
 -- ---- where the state is kept
 
-module _ {kt ka kb kx kf kg : Kept} {bb bx bf : Beside} {fates : ReleaseFates} {held done first last next : ℕ} {told-a told-b told-f told-g told-h : List ℕ}
+module _ {kt ka kb kx kf kg : Kept} {bb bx bf : Beside} {fates : ReleaseFates} {soon pass skips held done first last next : ℕ} {told-a told-b told-f told-g told-h : List ℕ}
     (k : Kept) (b : Beside) (t set : ℕ) (told : List ℕ) (long : length told ≡ 19) where
-  pub composed : Becomes (λ d. at-clock d t) k b kt b
+  pub composed : TooSoonAt t set (k .sets) (b .columns) (b .by-task .release) (b .by-task .waits) soon
+      → Becomes (λ d. at-clock d t) k b kt b
       → EndedAt t kt b ka told told-a done
       → {ko : Kept} → Becomes (λ d. step-a d t (d .phase) .state) ka b ko b
       → TestedTold 1 (step-f (read ko b) t) kb bb told-a told-b first
-      → fates ≡ released (getD (kb .sets) 1 0) (getD (kb .sets) 5 0) set
+      → pass ≡ difference set soon
+      → fates ≡ released (getD (kb .sets) 1 0) (getD (kb .sets) 5 0) pass
       → HeldOverAt (kb .codes) (fates .taken) held
       → Becomes (λ d. steps-c-d d t (fates .taken) (fates .deferred)) kb bb kx bx
       → TestedTold 2 (step-e-f (read kx bx) t) kf bf told-b told-f last
       → Becomes (λ d. step-g d t held (d .phase)) kf bf kg bf
       → TellsDue (kg .times) (kg .codes) told-f told-g next
-      → TellsFlags (fates .skipped) done first last next told-g told-h
+      → skips ≡ union soon (fates .skipped)
+      → TellsFlags skips done first last next told-g told-h
       → Instant (read k b) t set kg bf told told-h
   unfolding state-in taken deferred skipped
-  composed stamps outs {ko} ends tests takes holds moves second begins dues flags =
-      let h : Left (read k b) t set (fates .taken) (fates .deferred) held (read kt b) (read ko b) (read kb bb) (read kx bx) (read kf bf) (read kg bf) = record {
+  composed soons stamps outs {ko} ends tests passes fate holds moves second begins dues skip flags =
+      let takes = fate ∙ ap (released (getD (kb .sets) 1 0) (getD (kb .sets) 5 0)) passes in
+      let h : Left (read k b) t set soon (fates .taken) (fates .deferred) held (read kt b) (read ko b) (read kb bb) (read kx bx) (read kf bf) (read kg bf) = record {
+        soon-is = soons (k .times) (k .codes) (b .priority) (b .by-task .blocked);
         timed-is = stamps .state;
         a-is = ends .state ∙ outs .state;
         b-is = tests .state;
@@ -110,10 +116,10 @@ module _ {kt ka kb kx kf kg : Kept} {bb bx bf : Beside} {fates : ReleaseFates} {
       let x = step-f (read ko b) t .closed in
       let y = step-e-f (read kx bx) t .closed in
       let once : (e : IntervalEntry) → x ≡ Span e → y ≡ NoInterval = once-here (read k b) t set h in
-      let o : Occurred = record { done = step-a (read kt b) t (read kt b .phase) .done; closed = closing x y; skipped = fates .skipped; due = due (phase-in (registers-in kg)) } in
-      let occurs : o ≡ occurred (read k b) t set = occurred-by (read k b) t set h refl refl refl refl (ap (λ (z : ReleaseFates). z .skipped) takes) refl in
+      let o : Occurred = record { done = step-a (read kt b) t (read kt b .phase) .done; closed = closing x y; skipped = skips; due = due (phase-in (registers-in kg)) } in
+      let occurs : o ≡ occurred (read k b) t set = occurred-by (read k b) t set h refl refl refl refl (skip ∙ ap (λ (z : ReleaseFates). union soon (z .skipped)) takes) refl in
       let told-is : told-h ≡ told-of o told =
-      told-by (o .done) x y (fates .skipped) (o .due) once (outs .told-is) (tests .told-is) (second .told-is) (dues (kg .sets) .told-is)
+      told-by (o .done) x y skips (o .due) once (outs .told-is) (tests .told-is) (second .told-is) (dues (kg .sets) .told-is)
       (outs .number-is) (tests .number-is) (second .number-is) (dues (kg .sets) .number-is) (flags .told-is) in
       record {
         whole = begins .whole;

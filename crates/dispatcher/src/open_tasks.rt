@@ -1,4 +1,5 @@
-// Opening a dispatcher from a head alone: 12, then 2, 1, 4, 5, 6, 7 entry by entry. A release entry is refused by 2.
+// Opening a dispatcher from a head alone: 12, then entry by entry 2, 1, and 3, 4, 6, 7 of a task or 8, 19 of a spacing. A release entry
+// is refused by 2.
 use crate::Dispatcher;
 use crate::Opening;
 use entries::limits;
@@ -13,13 +14,14 @@ pub fn opened(table: Table, marked: u32) -> Dispatcher
     ensures { λ r. ⌜ state-of r ≡ calls.opened table marked ⌝ }
 {
     let present = table.present;
+    let spaced = table.spaced;
     let priority = table.priority;
     let columns = table.columns;
     Dispatcher {
         times: [0; 7],
         release: [0; limits::TASKS],
         waits: [0; limits::TASKS],
-        sets: [marked, 0, 0, 0, present, 0],
+        sets: [marked, 0, 0, 0, present, 0, spaced, 0],
         columns,
         codes: [codes::NO_HALF, 0, 0, 0, 0, 0, codes::NO_INTERVAL, 0, 0],
         priority,

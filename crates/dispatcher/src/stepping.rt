@@ -1,6 +1,7 @@
 // Steps a to g over the arrays that keep a dispatcher, each changed where it is. What occurs is told as it occurs: an answer that is made
 // first and told afterwards costs as much again. The test of an interval's end stands twice: as one function with two callers it is not
-// inlined.
+// inlined. Which releases come too soon is asked first of all, since nothing before step c changes it: amid the steps it takes registers
+// from them.
 use crate::telling::WORDS;
 use crate::telling::all_words;
 use crate::telling::tell_due;
@@ -118,12 +119,14 @@ pub fn steps<'a>(
         (beside (now (priority .entry)) (now (columns .entry)) (by-task (now (release .exit)) (now (blocked .exit)) (now (waits .exit))))
         (now (told .exit)) ⌝ }
 {
+    let soon = rules::too_soon(t, set, sets, columns, release, waits);
     all_words(told);
     rules::stamp(t, times, sets, codes);
     let done = end_copyout(t, times, sets, codes, release, blocked, told);
     rules::others_end(t, times, codes, columns);
     let first = end_before(t, times, sets, codes, priority, release, blocked, told);
-    let r = rules::released(sets[at::PENDING], sets[at::WAITING], set);
+    let passing = sets::difference(set, soon);
+    let r = rules::released(sets[at::PENDING], sets[at::WAITING], passing);
     let held = rules::held_over(codes, r.taken);
     rules::take_releases(t, r, sets, codes, priority, release, blocked, waits);
     let last = end_after(
@@ -139,5 +142,5 @@ pub fn steps<'a>(
     );
     rules::begin_interval(t, held, times, sets, codes, columns, priority, release);
     let next = tell_due(times, codes, told);
-    tell_flags(r.skipped, done, first, last, next, told);
+    tell_flags(sets::union(soon, r.skipped), done, first, last, next, told);
 }

@@ -12,7 +12,7 @@ use lib.ListN.{length, take, drop, length-append}
 use Rattle.words.specs.Words.{numberAt}
 use Rattle.words.proofs.Laws.{behind, read-in-rest}
 use Rattle.entries.specs.Types.{RecordEntry, MalformedRecord, JobDone, IntervalEnded, ReleaseSkipped}
-use Rattle.entries.specs.Entries.{size, task-at, release-at, job-at, interval-at, record-entry-at, record-entry-size}
+use Rattle.entries.specs.Entries.{size, task-at, release-at, spacing-at, job-at, interval-at, record-entry-at, record-entry-size}
 
 -- ---- In the rest from a place on
 
@@ -30,6 +30,10 @@ module _ (s : List ℕ) (at : ℕ) where
   pub release-is : release-at rest 0 ≡ release-at s at
   unfolding release-at
   release-is = rw (read-in-rest 1 at 1 s, read-in-rest 8 at 2 s)
+
+  pub spacing-is : spacing-at rest 0 ≡ spacing-at s at
+  unfolding spacing-at
+  spacing-is = rw (read-in-rest 1 at 1 s, read-in-rest 4 at 2 s)
 
   pub job-is : job-at rest 0 ≡ job-at s at
   unfolding job-at

@@ -6,18 +6,19 @@ use lib.Dec.{eqb, leb}
 use mathlib.Core.Path.{_≡_}
 use lib.ListN.{length, take, drop}
 use Rattle.words.specs.Words.{bytesOf, numberAt}
-use Rattle.entries.specs.Types.{MaybeTask, NoTask, Task, TaskParameters, Release, Entry, Malformed, TaskEntry, ReleaseEntry, JobEntry, IntervalEntry, RecordEntry, MalformedRecord, JobDone, IntervalEnded, ReleaseSkipped}
+use Rattle.entries.specs.Types.{MaybeTask, NoTask, Task, TaskParameters, Release, Spacing, Entry, Malformed, TaskEntry, ReleaseEntry, SpacingEntry, JobEntry, IntervalEntry, RecordEntry, MalformedRecord, JobDone, IntervalEnded, ReleaseSkipped}
 
 -- the length of an entry of each kind, its kind byte included; 0 for what is no kind
 abbrev pub size : ℕ → ℕ
 size kind =
     cond (eqb kind 1) 16
     (cond (eqb kind 2) 10
+    (cond (eqb kind 3) 6
     (cond (eqb kind 16) 27
     (cond (eqb kind 17) 24
     (cond (eqb kind 18) 10
     (cond (eqb kind 64) 13
-    (cond (eqb kind 65) 3 0))))))
+    (cond (eqb kind 65) 3 0)))))))
 
 -- ---- An entry of the input, taken apart
 
@@ -36,17 +37,29 @@ task-at s at = record {
 unfoldable pub release-at : List ℕ → ℕ → Release
 release-at s at = record { task = numberAt 1 s (at + 1); time = numberAt 8 s (at + 2) }
 
+-- kind 3 (8/13): task (1), spacing in ticks (4)
+unfoldable pub spacing-at : List ℕ → ℕ → Spacing
+spacing-at s at = record { task = numberAt 1 s (at + 1); ticks = numberAt 4 s (at + 2) }
+
 -- the kind byte at a place is a release's, be the entry whole or cut short
 abbrev pub is-release : List ℕ → ℕ → Bool
 is-release s at = eqb (numberAt 1 s at) 2
 
--- the entry whose kind byte is at a place before the end: 2 where the kind is not 1 or 2, 1 where the entry is cut short
+-- the entry whose kind byte is at a place before the end: 2 where the kind is not 1 to 3, 1 where the entry is cut short
 unfoldable pub entry-at : List ℕ → ℕ → Entry
 entry-at s at =
     let kind : ℕ = numberAt 1 s at in
     cond (eqb kind 1) (cond (leb (size 1) (length s - at)) (TaskEntry (task-at s at)) (Malformed 1))
     (cond (eqb kind 2) (cond (leb (size 2) (length s - at)) (ReleaseEntry (release-at s at)) (Malformed 1))
-    (Malformed 2))
+    (cond (eqb kind 3) (cond (leb (size 3) (length s - at)) (SpacingEntry (spacing-at s at)) (Malformed 1))
+    (Malformed 2)))
+
+-- its length: 0 where it is refused
+abbrev pub entry-size : Entry → ℕ
+entry-size (Malformed n) = 0
+entry-size (TaskEntry p) = size 1
+entry-size (ReleaseEntry r) = size 2
+entry-size (SpacingEntry x) = size 3
 
 -- ---- A release entry, written
 

@@ -21,11 +21,15 @@ releases = 4096
 abbrev pub last-release : ℕ
 last-release = 1000000000
 
+-- the longest spacing of a task's releases (8/13)
+abbrev pub longest-spacing : ℕ
+longest-spacing = 1000000000
+
 -- ---- The bytes of an input
 
--- of a head that is accepted: an entry for each task
+-- of a head that is accepted: an entry for each task, and a spacing for each
 abbrev pub longest-head : ℕ
-longest-head = tasks * size 1
+longest-head = tasks * size 1 + tasks * size 3
 
 -- of a list of releases that is accepted
 abbrev pub longest-list : ℕ

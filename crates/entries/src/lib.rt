@@ -17,6 +17,8 @@ pub const TASK_KIND: u8 = 1;
 
 pub const RELEASE_KIND: u8 = 2;
 
+pub const SPACING_KIND: u8 = 3;
+
 pub const JOB_KIND: u8 = 16;
 
 pub const INTERVAL_KIND: u8 = 17;
@@ -27,6 +29,8 @@ pub const SKIPPED_KIND: u8 = 18;
 pub const TASK_SIZE: usize = 16;
 
 pub const RELEASE_SIZE: usize = 10;
+
+pub const SPACING_SIZE: usize = 6;
 
 pub const JOB_SIZE: usize = 27;
 
@@ -54,6 +58,10 @@ const TASK_COPYOUT: usize = 12;
 const RELEASE_TASK: usize = 1;
 
 const RELEASE_TIME: usize = 2;
+
+const SPACING_TASK: usize = 1;
+
+const SPACING_TICKS: usize = 2;
 
 const JOB_TASK: usize = 1;
 
@@ -105,11 +113,18 @@ pub struct Release {
     pub time: u64,
 }
 
+// Kind 3: the spacing of a task's releases, in ticks.
+pub struct Spacing {
+    pub task: u8,
+    pub ticks: u32,
+}
+
 // An entry of the input taken apart, or the number by which it is refused.
 pub enum Entry {
     Malformed(u8),
     TaskEntry(TaskParameters),
     ReleaseEntry(Release),
+    SpacingEntry(Spacing),
 }
 
 // Kind 16: a job done.
@@ -190,6 +205,17 @@ fn front_release(rest: &[u8]) -> Release
     }
 }
 
+// The spacing of the entry at the front.
+fn front_spacing(rest: &[u8]) -> Spacing
+    requires { ⌜ entries.size 3 ≤ length (now rest) ⌝ }
+    ensures { λ r. ⌜ r ≡ entries.spacing-at (now (rest .entry)) 0 ⌝ }
+{
+    Spacing {
+        task: words::get_u8(rest, SPACING_TASK),
+        ticks: words::get_u32(rest, SPACING_TICKS),
+    }
+}
+
 // Whether the kind byte at `at` is a release's, be the entry whole or cut short.
 pub fn is_release(s: &[u8], at: usize) -> bool
     ensures { λ r. ⌜ r ≡ entries.is-release (now (s .entry)) at ⌝ }
@@ -197,7 +223,7 @@ pub fn is_release(s: &[u8], at: usize) -> bool
     words::get_u8(s, at) == RELEASE_KIND
 }
 
-// The entry of an input whose kind byte is at `at`: 2 where the kind is not 1 or 2, then 1 where the entry is cut short.
+// The entry of an input whose kind byte is at `at`: 2 where the kind is not 1 to 3, then 1 where the entry is cut short.
 pub fn entry_at(s: &[u8], at: usize) -> Entry
     ensures { λ r. ⌜ r ≡ entries.entry-at (now (s .entry)) at ⌝ }
 {
@@ -215,6 +241,12 @@ pub fn entry_at(s: &[u8], at: usize) -> Entry
     if kind == RELEASE_KIND {
         if RELEASE_SIZE <= rest.len() {
             return Entry::ReleaseEntry(front_release(rest));
+        }
+        return Entry::Malformed(1);
+    }
+    if kind == SPACING_KIND {
+        if SPACING_SIZE <= rest.len() {
+            return Entry::SpacingEntry(front_spacing(rest));
         }
         return Entry::Malformed(1);
     }

@@ -4,6 +4,7 @@ use crate::INTERVAL_SIZE;
 use crate::JOB_SIZE;
 use crate::RELEASE_SIZE;
 use crate::SKIPPED_SIZE;
+use crate::SPACING_SIZE;
 use crate::TASK_SIZE;
 
 // There are so many task numbers, from 0 on.
@@ -18,8 +19,11 @@ pub const RELEASES: usize = 4096;
 // The last tick at which a task may be released.
 pub const LAST_RELEASE: u64 = 1000000000;
 
-// The bytes of a head that is accepted, at most: an entry for each task.
-pub const LONGEST_HEAD: usize = TASKS * TASK_SIZE;
+// The longest spacing of a task's releases.
+pub const LONGEST_SPACING: u32 = 1000000000;
+
+// The bytes of a head that is accepted, at most: an entry for each task, and a spacing for each.
+pub const LONGEST_HEAD: usize = TASKS * TASK_SIZE + TASKS * SPACING_SIZE;
 
 // Of a list of releases, and of an input that is accepted.
 pub const LONGEST_LIST: usize = RELEASES * RELEASE_SIZE;

@@ -19,7 +19,7 @@ ghost use Rattle.exports_instants.specs.Promises.{Answered, Shows, Marke
 // An instant of the dispatcher that the arrays keep: 0 and what occurred in `told`, or the number of the refusal. What every instant looks
 // at comes first, in registers.
 #[no_mangle]
-pub extern "C" fn gateway_instant_v3<'a>(
+pub extern "C" fn gateway_instant_v4<'a>(
     time: u64,
     set: u32,
     times: &mut at::Times,
@@ -63,7 +63,7 @@ pub extern "C" fn gateway_instant_v3<'a>(
 // What goes on now in the dispatcher that the first three arrays keep: begin and ends; pending, waiting and marked; whether an interval
 // is open, its work, and the four values.
 #[no_mangle]
-pub extern "C" fn gateway_now_v3<'a>(
+pub extern "C" fn gateway_now_v4<'a>(
     times: &'a at::Times,
     sets: &'a at::Sets,
     codes: &'a at::Codes,
@@ -81,7 +81,7 @@ pub extern "C" fn gateway_now_v3<'a>(
 
 // 7/13: M, the most that an interval of the dispatcher lasts whose sets and columns are lent.
 #[no_mangle]
-pub extern "C" fn gateway_longest_interval_v3(sets: &at::Sets, columns: &Columns) -> u64
+pub extern "C" fn gateway_longest_interval_v4(sets: &at::Sets, columns: &Columns) -> u64
     ensures { λ r. ⌜ r ≡ longest-interval (getD (now (sets .entry)) 4 0) (now (columns .entry)) ⌝ }
 {
     guarantees::longest_interval(columns, sets[at::PRESENT])
@@ -90,7 +90,7 @@ pub extern "C" fn gateway_longest_interval_v3(sets: &at::Sets, columns: &Columns
 // 7/13: by how many ticks after its taking a job of the task is done, where h other jobs that are not lower execute between; by the mark
 // that the task has now.
 #[no_mangle]
-pub extern "C" fn gateway_completes_after_v3(
+pub extern "C" fn gateway_completes_after_v4(
     sets: &at::Sets,
     columns: &Columns,
     task: u8,
@@ -105,7 +105,7 @@ pub extern "C" fn gateway_completes_after_v3(
 
 // A mark call on the dispatcher whose sets are lent: 0, or the number of the refusal.
 #[no_mangle]
-pub extern "C" fn gateway_mark_v3(sets: &mut at::Sets, task: u8, mark: u8) -> u8
+pub extern "C" fn gateway_mark_v4(sets: &mut at::Sets, task: u8, mark: u8) -> u8
     ensures { λ r. ⌜ Marked (now (sets .entry)) task mark r (now (sets .exit)) ⌝ }
 {
     let number = dispatcher::mark_refusal(task, mark, sets);
@@ -154,7 +154,7 @@ fn put_tasks(
 
 // Opens a dispatcher from task entries into the arrays that keep it: 0, or the number of the refusal, whose place `place` then has.
 #[no_mangle]
-pub extern "C" fn gateway_open_v3(
+pub extern "C" fn gateway_open_v4(
     entries: &[u8],
     times: &mut at::Times,
     sets: &mut at::Sets,

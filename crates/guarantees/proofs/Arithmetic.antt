@@ -1,5 +1,5 @@
 -- Every state that calls made names tasks of the table alone, and no time and no count of it comes near the end of its type.
-use Rattle.guarantees.specs.Types.{_≡_, refl, sym, ap, _∙_, subst, List, _⊎_, inl, inr, ℕ, _+_, _≤_, _<_, min, Table, Jobs, WaitingReleases, NoneNext, NoneOutgoing, Phase, Between, State, Due, Never, Tick, Call}
+use Rattle.guarantees.specs.Types.{_≡_, refl, sym, ap, _∙_, subst, List, _⊎_, inl, inr, ℕ, _+_, _^_, _≤_, _<_, min, Table, Jobs, WaitingReleases, NoneNext, NoneOutgoing, Phase, Between, State, Due, Never, Tick, Call}
 use native.Mathlib.Omega.{arith}
 use mathlib.Core.Path.{ap₂}
 use borrow.Author.Tests.{eqb-true, eq-eqb, leb-true, leb-false}
@@ -7,9 +7,9 @@ use lib.Dec.{eqb, leb}
 use lib.ListN.{getD}
 use Rattle.table.specs.Table.{copyin-length, execution-length, copyout-length}
 use Rattle.sets.specs.Sets.{member, below, collect, union, intersection, difference}
-use Rattle.sets.proofs.Laws.{by-test, member-task}
+use Rattle.sets.proofs.Laws.{by-test, member-task, union-none}
 use Rattle.rules.specs.With.{with-jobs, with-phase, with-waiting, at-clock, later}
-use Rattle.rules.specs.Instant.{step-a, step-b, step-c, step-d, step-e, step-g, taken, deferred, original, with-candidates, due, at-a, at-b, at-e, at-f, at-g, taken-at, deferred-at}
+use Rattle.rules.specs.Instant.{too-soon, passing, step-a, step-b, step-c, step-d, step-e, step-g, taken, deferred, original, with-candidates, due, at-a, at-b, at-e, at-f, at-g, taken-at, deferred-at}
 use Rattle.rules.specs.Calls.{opened, refusal}
 use Rattle.rules.proofs.ByTask.{stamped-none}
 use Rattle.guarantees.specs.History.{after-calls}
@@ -28,14 +28,14 @@ module _ (d : State) (t : ℕ) where
   no-jobs = record { pending = 0; ready = 0; release = d .jobs .release; blocked = d .jobs .blocked }
 
   abbrev none-waits : WaitingReleases
-  none-waits = record { tasks = 0; times = d .waiting .times }
+  none-waits = record { tasks = 0; times = d .waiting .times; before = d .waiting .before }
 
   abbrev idle : State
   idle = with-phase (with-waiting (with-jobs d no-jobs) none-waits) (Between NoneNext NoneOutgoing)
 
-  idle-stays : at-g idle t 0 ≡ at-clock idle t
-  unfolding at-g at-f at-e at-b at-a taken-at deferred-at step-a step-b step-c step-d step-e step-g taken deferred with-candidates union intersection difference collect below member
-  idle-stays = rw (stamped-none (original none-waits t) 0 (d .jobs .release), stamped-none (λ k. 0) 0 (d .jobs .blocked), stamped-none (λ k. t) 0 (d .waiting .times))
+  idle-stays : d .waiting .before < 2 ^ 32 → at-g idle t 0 ≡ at-clock idle t
+  unfolding at-g at-f at-e at-b at-a taken-at deferred-at step-a step-b step-c step-d step-e step-g passing too-soon taken deferred with-candidates union intersection difference collect below member
+  idle-stays few = rw (union-none (d .waiting .before) few, stamped-none (original none-waits t) 0 (d .jobs .release), stamped-none (λ k. 0) 0 (d .jobs .blocked), stamped-none (λ k. t) 0 (d .waiting .times))
 
   is-idle : AtRest d → d ≡ idle
   is-idle r = ap₂ (λ (j : Jobs) (p : Phase). with-phase (with-jobs d j) p) jobs (r .phase) ∙ ap (λ (w : WaitingReleases). with-phase (with-waiting (with-jobs d no-jobs) w) (Between NoneNext NoneOutgoing)) waits
@@ -44,10 +44,10 @@ module _ (d : State) (t : ℕ) where
       jobs = ap₂ (λ (x y : ℕ). record { pending = x; ready = y; release = d .jobs .release; blocked = d .jobs .blocked }) (r .pending) (r .ready)
 
       waits : d .waiting ≡ none-waits
-      waits = ap (λ (x : ℕ). record { tasks = x; times = d .waiting .times }) (r .waiting)
+      waits = ap (λ (x : ℕ). record { tasks = x; times = d .waiting .times; before = d .waiting .before }) (r .waiting)
 
-  nothing-begins : AtRest d → at-g d t 0 ≡ at-clock d t
-  nothing-begins r = subst (λ (x : State). at-g x t 0 ≡ at-clock x t) (sym (is-idle r)) idle-stays
+  nothing-begins : d .waiting .before < 2 ^ 32 → AtRest d → at-g d t 0 ≡ at-clock d t
+  nothing-begins few r = subst (λ (x : State). at-g x t 0 ≡ at-clock x t) (sym (is-idle r)) (idle-stays few)
 
 -- ---- every state that calls made
 
@@ -62,10 +62,12 @@ module _ (table : Table) (marks : ℕ) (fair : Fair table marks) where
   named d g =
       subst (λ (x : Table). Named x d) (sym (g .table-is)) (record {
         numbers = λ n k. member-task n (table .present) (fair .present) k;
+        spaced = λ n l m. fair .spaced n m;
         marked = g .parted .marks;
         pending = g .parted .pending;
         ready = g .parted .ready;
         waiting = g .parted .waits;
+        before = g .before-known;
         phase = g .parted .known;
       })
 
@@ -88,7 +90,7 @@ module _ (table : Table) (marks : ℕ) (fair : Fair table marks) where
       (λ l. by-test (eqb set 0) (λ e. inr (late (leb-false t 3000000000 l) (eqb-true set 0 e))) (λ e. absurd (omega (arith, s .early e, leb-false t 3000000000 l))))
     where
       go : (x : Due) → due (d .phase) ≡ x → 3000000000 < t → at-g d t 0 ≡ at-clock d t
-      go Never e l = nothing-begins d t (rests table marks fair d g e)
+      go Never e l = nothing-begins d t (g .before-few) (rests table marks fair d g e)
       go (Tick u) e l =
           absurd (omega (arith, due-times table marks fair d u g e .bound, debt-less d (g .sound), drop-one (NotBefore t) u (d .phase) (s .due) (due-drop u (d .phase) e)))
 

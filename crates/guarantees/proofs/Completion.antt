@@ -6,7 +6,7 @@ use borrow.Author.Tests.{eq-eqb, le-ltb, lt-leb}
 use lib.Dec.{eqb}
 use Rattle.sets.specs.Sets.{member, difference, bit, size}
 use Rattle.sets.proofs.Laws.{none, by-test, clash, difference-left, empty, difference-small, size-none}
-use Rattle.rules.specs.Instant.{over, copying-out, resting, settled, due, sooner, processor-due, copyout-due, copyin-due, at-b, at-g}
+use Rattle.rules.specs.Instant.{over, copying-out, resting, settled, due, sooner, processor-due, copyout-due, copyin-due, at-g}
 use Rattle.rules.specs.Calls.{unknown, not-after, refusal, after-call}
 use Rattle.guarantees.specs.History.{Event, happens, by-call, after-calls, history, EmptySets}
 use Rattle.guarantees.specs.Queries.{total, is-take, is-completion}
@@ -15,7 +15,7 @@ use Rattle.guarantees.proofs.Walk.{walk-to, served}
 use Rattle.guarantees.proofs.Settled.{Decided, DecidedAt, OpenAt, RestAt}
 use Rattle.guarantees.proofs.Places.{instant-moves, stage}
 use Rattle.guarantees.proofs.Steps.{Sub}
-use Rattle.guarantees.proofs.Releases.{balance-g, skipped-none}
+use Rattle.guarantees.proofs.Releases.{balance-g, none-skipped-g}
 use Rattle.guarantees.proofs.Served.{due-drop, last, Served-at, served-at, sooner-never}
 use Rattle.guarantees.proofs.Invariant.{Good, Until, mass, debt, sinks, debt-less, drop-one, good-next, good-quiet}
 use Rattle.guarantees.proofs.Totals.{takes-of, completes-of}
@@ -151,7 +151,7 @@ module _ (table : Table) (marks : ℕ) (fair : Fair table marks) where
           ap (λ (g : State). size (g .waiting .tasks)) left,
           balance-g d t 0,
           size-none,
-          skipped-none (at-b d t .state) 0 (λ k l. none k),
+          none-skipped-g d t 0 (λ k l. none k),
           h .takes,
         );
   }

@@ -12,7 +12,7 @@ use Rattle.guarantees.specs.History.{Event, Comes, Starts, Stops, Finish
 use Rattle.guarantees.specs.Queries.{details, is-task, takes, defers, after, first, taking}
 use Rattle.guarantees.proofs.Walk.{walk, walk-to}
 use Rattle.guarantees.proofs.Events.{by-front, by-takes, by-defers, by-gives, by-ends, by-begins, by-starts, front-of, tail-of, happens-parts, tail-parts}
-use Rattle.guarantees.proofs.Releases.{is-taken, is-deferred, is-waiting, taken-member, deferred-member, waits-member, waits-after, waits-g}
+use Rattle.guarantees.proofs.Releases.{is-taken, is-deferred, is-waiting, taken-member, deferred-member, waits-member, waits-after, passed, waits-g}
 use Rattle.guarantees.proofs.Frames.{waiting-b}
 
 -- ---- the events of the tasks of a set, one for each: of these only task n's changes what is kept of task n
@@ -250,8 +250,8 @@ instant-alone n small d t set last es h =
     (rw (happens-parts d t set es)
     (front-alone n last d t w (take-events 32 (taken-at d t set) (d .marked) t ++ (tail-of d t set ++ es))
     (takes-alone n last small (taken-at d t set) (d .marked) t w (tail-of d t set ++ es)
-    (rest-alone n last d t set (cond (member n (taken b set)) false w) es small (free b set n small)
-    (subst (λ (x : Bool). Alone n last x es) (ap (member n) (waits-g d t set) ∙ sym (moves b set n small)) h)))))
+    (rest-alone n last d t set (cond (member n (taken b (passed d t set))) false w) es small (free b (passed d t set) n small)
+    (subst (λ (x : Bool). Alone n last x es) (ap (member n) (waits-g d t set) ∙ sym (moves b (passed d t set) n small)) h)))))
 
 -- along the calls, from any state
 pub alone : (n : ℕ) → n < 32 → (d : State) (cs : List Call) → Alone n (member n (after-calls d cs .waiting .tasks)) (member n (d .waiting .tasks)) (history d cs)

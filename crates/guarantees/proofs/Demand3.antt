@@ -33,6 +33,7 @@ use Rattle.guarantees.proofs.Marks.{taken-marked}
 use Rattle.guarantees.proofs.Fates.{balanced as releases-balanced, placed}
 use Rattle.guarantees.proofs.Turns.{one-at-a-time, in-time, resumed-in}
 use Rattle.guarantees.proofs.Turning.{turns}
+use Rattle.guarantees.proofs.LastReleases.{spaced, last-releases}
 use Rattle.guarantees.proofs.Lasts.{lasts}
 use Rattle.guarantees.proofs.Figure.{plain-figure, figure}
 use Rattle.guarantees.proofs.Counts.{counts-rise}
@@ -83,6 +84,7 @@ module _ (table : Table) (marks : ℕ) (fair : Fair table marks) where
       at-waiting = λ before after t e. one n (deferred-small (opened table marks) calls before after n t e) .at-waiting before after t e;
       at-resuming = λ before after c u e w. one n (completes-small before after n c e) .at-resuming before after c u e w;
     };
+    each-spacing = λ n l s. spaced table marks fair n l calls s;
     in-time = in-time 0 h (turns table marks fair 0 (omega arith) calls);
     at-most-three = at-most-three table marks calls;
     figure = figure table h in-turn (copied-out table marks fair calls) (executed table marks fair calls)
@@ -150,7 +152,7 @@ module _ (table : Table) (marks : ℕ) (fair : Fair table marks) where
       each-job = λ before after t set o e c. unfold opened in tells table marks fair before t set o e;
       each-done = all-done calls d;
       each-release = λ before after n e l. releases-balanced n l d before (none-waits n);
-      each-instant = λ before after n t set o e l x. placed n l d before t set o (none-waits n) x;
+      each-instant = λ before after n t set o e l x. unfold opened in placed n l d before (none-waits n) table (λ s. fair .spacings n s .0) (table-after before) (last-releases table marks fair n l before) t set o x;
       each-mark = λ before after n t set u m xs ys e x. taken-marked d before t set n u m xs ys (same-task n) x;
       each-interval = unfold opened in sym (follows calls .says);
     };
@@ -171,11 +173,15 @@ module _ (table : Table) (marks : ℕ) (fair : Fair table marks) where
         );
     counts = counts-rise table marks fair calls;
     plain = plain table marks fair calls;
+    last-releases = λ n l. last-releases table marks fair n l calls;
     first-come = λ before after t set c e. first-come table marks before t set e;
   }
     where
       d : State
       d = opened table marks
+
+      table-after : (before : List Call) → after-calls (opened table marks) before .table ≡ table
+      table-after before = good-after table marks fair before (opened table marks) (good-opened table marks fair) .table-is
 
       none-waits : (n : ℕ) → member n (opened table marks .waiting .tasks) ≡ false
       none-waits n = unfold opened in none n

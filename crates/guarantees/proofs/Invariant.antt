@@ -1,14 +1,14 @@
 -- The invariant of the states that calls made, and that each call keeps it. Its last part bounds the times: each phase under way ends after
 -- the clock, at most 1,000,000 ticks after it, and before a bound that the mass still to come pushes down; so no time comes near the last tick
 -- of a u64, since releases come by 1,000,000,000 and every phase that ends after that takes from the mass.
-use Rattle.guarantees.specs.Types.{_≡_, refl, sym, ap, _∙_, subst, false, List, ℕ, _+_, _*_, _^_, _≤_, _<_, Table, WaitingReleases, Clock, Processor, Idle, CopyingIn, Executing, Finished, CopyOut, NoCopyOut, CopyingOut, CopiedOut, CopyIn, Unchosen, NoneChosen, Copying, Loaded, Cancelled, Next, NoneNext, LoadedNext, PromotedNext, Outgoing, NoneOutgoing, AwaitsCopyOut, Phase, Between, Within, State, Call}
+use Rattle.guarantees.specs.Types.{_≡_, refl, sym, ap, _∙_, subst, false, List, ⊎-elim, ℕ, _+_, _*_, _^_, _≤_, _<_, Table, WaitingReleases, Clock, Processor, Idle, CopyingIn, Executing, Finished, CopyOut, NoCopyOut, CopyingOut, CopiedOut, CopyIn, Unchosen, NoneChosen, Copying, Loaded, Cancelled, Next, NoneNext, LoadedNext, PromotedNext, Outgoing, NoneOutgoing, AwaitsCopyOut, Phase, Between, Within, State, Call}
 use native.Mathlib.Omega.{arith}
 use borrow.Author.Tests.{eqb-true, eqb-false, eq-eqb, ltb-true, ltb-false}
 use lib.Dec.{eqb, ltb}
 use lib.ListN.{getD}
 use Rattle.table.specs.Table.{copyin-length, execution-length, copyout-length}
 use Rattle.sets.specs.Sets.{member, difference, bit, size}
-use Rattle.sets.proofs.Laws.{none, by-test, clash, size-none, size-most, union-small}
+use Rattle.sets.proofs.Laws.{none, by-test, clash, size-none, size-most, union-small, union-out}
 use Rattle.guarantees.proofs.Walk.{with-marks, MarksKnown, after}
 use Rattle.guarantees.proofs.Proper.{Fair}
 use Rattle.guarantees.specs.History.{after-calls}
@@ -16,7 +16,7 @@ use Rattle.rules.specs.Calls.{opened}
 use Rattle.rules.specs.Instant.{taken, deferred, settled, at-b, at-e, at-f, at-g, taken-at, fresh-stage}
 use Rattle.rules.specs.With.{later}
 use Rattle.guarantees.proofs.Frames.{table-g, clock-g, waiting-b}
-use Rattle.guarantees.proofs.Releases.{taken-none, waits-g, behind-g, balance-g}
+use Rattle.guarantees.proofs.Releases.{taken-none, taken-known, passing-none, passed, waits-g, before-g, behind-g, balance-g}
 use Rattle.guarantees.proofs.Count.{Sound, weight, rank, rank-small, phase-weight, phase-debt, b-leads, debt-covered, instant-leads, copyin-weight, processor-weight, next-weight, outgoing-weight}
 use Rattle.guarantees.proofs.Settled.{Settled, settled-after}
 use Rattle.guarantees.proofs.Times.{Times, times-map, processor-times, copyout-times, copyin-times, Starts, Later, drop, processor-drop, copyout-drop, copyin-drop, instant-times, instant-still, still-pending}
@@ -165,7 +165,7 @@ none-taken : (d : State) (t set : ℕ) → ((k : ℕ) → k < 32 → member k se
     → (k : ℕ) → k < 32 → member k (taken-at d t set) ≡ false
 unfolding taken-at
 none-taken d t set h behind z =
-    taken-none (at-b d t .state) set h
+    taken-none (at-b d t .state) (passed d t set) (passing-none (at-b d t .state) t set h)
     (λ k l m. ap (member k) (still-pending d t z) ∙ behind k l (ap (λ (w : WaitingReleases). member k (w .tasks)) (sym (waiting-b d t)) ∙ m))
 
 few-f : (d : State) (t set : ℕ) → Sound d (d .phase) → at-f d t set .state .jobs .ready < 2 ^ 32
@@ -192,6 +192,8 @@ module _ (table : Table) (marks : ℕ) (fair : Fair table marks) where
     pub settled : Settled d (d .phase)
     pub waits-few : d .waiting .tasks < 2 ^ 32
     pub behind : Sub (d .waiting .tasks) (d .jobs .pending)
+    pub before-few : d .waiting .before < 2 ^ 32
+    pub before-known : Sub (d .waiting .before) (table .present)
     pub times : Times (Until (last (d .clock)) (mass d) (debt d)) (d .phase)
 
   pub good-opened : Good (opened table marks)
@@ -211,6 +213,8 @@ module _ (table : Table) (marks : ℕ) (fair : Fair table marks) where
     settled = record { decided = tt; open-yet = tt; rests = (refl, refl, refl) };
     waits-few = omega arith;
     behind = λ k l h. clash (member k 0) h (none k);
+    before-few = omega arith;
+    before-known = λ k l h. clash (member k 0) h (none k);
     times = tt;
   }
 
@@ -287,8 +291,10 @@ module _ (table : Table) (marks : ℕ) (fair : Fair table marks) where
       sound = instant-leads d t set (good .sound) .sound;
       parted = instant-moves (table .present) (fair .present) d t set known-set (good .parted) .parted;
       settled = settled-after d t set (few-f d t set (good .sound));
-      waits-few = subst (λ (s : ℕ). s < 2 ^ 32) (sym (waits-g d t set)) (union-small (difference (at-b d t .state .waiting .tasks) (taken (at-b d t .state) set)) (deferred (at-b d t .state) set));
+      waits-few = subst (λ (s : ℕ). s < 2 ^ 32) (sym (waits-g d t set)) (union-small (difference (at-b d t .state .waiting .tasks) (taken (at-b d t .state) (passed d t set))) (deferred (at-b d t .state) (passed d t set)));
       behind = behind-g d t set;
+      before-few = subst (λ (s : ℕ). s < 2 ^ 32) (sym (before-g d t set)) (union-small (d .waiting .before) (taken-at d t set));
+      before-known = λ k l h. ⊎-elim (good .before-known k l) (taken-known d t set (table .present) (good .parted .waits) known-set k l) (union-out (d .waiting .before) (taken-at d t set) k (ap (member k) (sym (before-g d t set)) ∙ h));
       times = subst (λ (c : Clock). Times (Until (last c) (mass (at-g d t set)) (debt (at-g d t set))) (at-g d t set .phase)) (sym (clock-g d t set)) times-next;
     }
 
@@ -308,6 +314,8 @@ module _ (table : Table) (marks : ℕ) (fair : Fair table marks) where
     settled = record { decided = g .settled .decided; open-yet = g .settled .open-yet; rests = g .settled .rests };
     waits-few = g .waits-few;
     behind = g .behind;
+    before-few = g .before-few;
+    before-known = g .before-known;
     times = unfold mass debt in g .times;
   }
 

@@ -1,5 +1,5 @@
 -- Every task that is taken, executed, copied out or completed in a history is one of the table's.
-use Rattle.guarantees.specs.Types.{_≡_, ap, _∙_, ⊎-elim, true, List, [], _∷_, _++_, sym, subst, ℕ, Table, WaitingReleases, MaybeTask, NoTask, Task, Processor, Idle, CopyingIn, Executing, Finished, CopyOut, NoCopyOut, CopyingOut, CopiedOut, Phase, Between, Within, State, Call}
+use Rattle.guarantees.specs.Types.{_≡_, true, List, [], _∷_, _++_, sym, subst, ℕ, Table, MaybeTask, NoTask, Task, Processor, Idle, CopyingIn, Executing, Finished, CopyOut, NoCopyOut, CopyingOut, CopiedOut, Phase, Between, Within, State, Call}
 use lib.Dec.{eqb}
 use Rattle.sets.specs.Sets.{member}
 use Rattle.sets.proofs.Laws.{by-test}
@@ -10,8 +10,7 @@ use Rattle.guarantees.proofs.Proper.{Fair}
 use Rattle.guarantees.proofs.Walk.{walk}
 use Rattle.guarantees.proofs.Events.{by-processor, by-finishes, by-gives, by-ends, by-takes, by-defers, by-starts, tail-of, happens-parts, front-parts, tail-parts}
 use Rattle.guarantees.proofs.Steps.{Sub}
-use Rattle.guarantees.proofs.Frames.{waiting-b}
-use Rattle.guarantees.proofs.Releases.{taken-from}
+use Rattle.guarantees.proofs.Releases.{taken-known}
 use Rattle.guarantees.proofs.Served.{served-at}
 use Rattle.guarantees.proofs.Invariant.{Good, good-next, good-quiet}
 use Rattle.guarantees.specs.States.{set-known, processor-known, copyout-known, phase-known}
@@ -102,12 +101,8 @@ module _ (present : ℕ) where
             (by-finishes AllKnown (λ n es k. (tt, k)) t (d .phase) (completion-events (at-a d t .done) ++ ends)
             (known-completes d t ends o
             (by-ends AllKnown t (λ es k. (tt, k)) (at-a d t .state .phase) (at-b d t .state .phase) later
-            (by-takes AllKnown 32 (taken-at d t set) (d .marked) t (λ n l m es k. (was-known n l m, k)) (tail-of d t set ++ ys) tail)))),
+            (by-takes AllKnown 32 (taken-at d t set) (d .marked) t (λ n l m es k. (taken-known d t set present w f n l m, k)) (tail-of d t set ++ ys) tail)))),
       )
-    where
-      was-known : Sub (taken-at d t set) present
-      was-known n l m = unfold taken-at in
-          ⊎-elim (λ x. w n l (ap (λ (y : WaitingReleases). member n (y .tasks)) (sym (waiting-b d t)) ∙ x)) (λ x. f n l x) (taken-from (at-b d t .state) set n m)
 
 -- ---- along the calls
 

@@ -34,6 +34,7 @@ pub mod Deferred
 pub mod Origins
 pub mod Turns
 pub mod Turning
+pub mod LastReleases
 pub mod Lasting
 pub mod Lasts
 pub mod Figure

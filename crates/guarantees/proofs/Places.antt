@@ -14,7 +14,7 @@ use Rattle.rules.specs.With.{at-clock}
 use Rattle.rules.specs.Order.{highest-of}
 use Rattle.guarantees.specs.History.{completion-events}
 use Rattle.guarantees.proofs.Steps.{Sub, best-of, settles}
-use Rattle.guarantees.proofs.Releases.{taken-from, deferred-from, taken-not-pending}
+use Rattle.guarantees.proofs.Releases.{taken-from, deferred-from, taken-not-pending, passed, passed-known}
 use Rattle.guarantees.proofs.Cases.{held-at, Held, d-cases, e-cases, copyin-cases, processor-cases}
 use Rattle.guarantees.specs.States.{Known, copyin-known, processor-known, copyout-known, next-known, outgoing-known, phase-known}
 
@@ -435,7 +435,7 @@ module _ (present : ℕ) (tasks : present < 2 ^ 32) where
       let c : State = at-c d t set in
       let x : State = at-d d t set in
       let e : State = at-e d t set in
-      let l1 : Moves b (b .phase) c (c .phase) 0 (size (taken-at d t set)) = c-takes b t set f h in
+      let l1 : Moves b (b .phase) c (c .phase) 0 (size (taken-at d t set)) = c-takes b t (passed d t set) (passed-known d t set present f) h in
       let l2 : Moves c (c .phase) x (x .phase) 0 0 = d-moves c (taken-at d t set) (l1 .parted) in
       let l3 : Moves x (x .phase) e (e .phase) 0 0 = e-moves x t (l2 .parted) in
       record { parted = l3 .parted; sizes = omega (arith, l1 .sizes, l2 .sizes, l3 .sizes) }

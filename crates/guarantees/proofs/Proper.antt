@@ -1,19 +1,22 @@
 -- The tables that opening serves: they have a task, and each length is in its range.
-use Rattle.guarantees.specs.Types.{_≡_, refl, sym, _∙_, subst, Bool, true, false, cond, _||_, List, _⊎_, inl, inr, ⊎-elim, ℕ, zero, suc, _+_, _^_, _≤_, _<_, Table, State, NoRefusal, AtEntry, Head}
+use Rattle.guarantees.specs.Types.{_≡_, refl, sym, ap, _∙_, subst, Bool, true, false, cond, not, _||_, List, _⊎_, inl, inr, ⊎-elim, ℕ, zero, suc, _+_, _^_, _≤_, _<_, Table, State, NoRefusal, AtEntry, Head}
 use Rattle.entries.specs.declared.TaskParameters.{TaskParameters}
 use Rattle.entries.specs.declared.Entry.{Entry}
-use Rattle.entries.specs.declared.Entry.the-variants.{Malformed, TaskEntry, ReleaseEntry}
+use Rattle.entries.specs.declared.Spacing.{Spacing}
+use Rattle.entries.specs.declared.Entry.the-variants.{Malformed, TaskEntry, ReleaseEntry, SpacingEntry}
 use native.Mathlib.Omega.{arith}
-use borrow.Author.Tests.{eqb-false, eq-eqb, leb-false, ltb-false}
-use lib.Dec.{eqb, leb, ltb}
-use lib.ListN.{length, length-set}
-use Rattle.table.specs.Table.{copyin-length, execution-length, copyout-length, with-lengths}
+use borrow.Author.Tests.{eqb-true, eqb-false, eq-eqb, ltb-false}
+use lib.Dec.{eqb, ltb}
+use lib.ListN.{getD, set, length, length-set}
+use lib.Seq.{getD-set-same, getD-set-other}
+use Rattle.table.specs.Table.{copyin-length, execution-length, copyout-length, spacing, with-lengths}
+use Rattle.table.proofs.Laws.{none-passed as neither-passed, number-new, SpacingTaken, spacing-taken, is-whole, at-end, refuses, takes}
 use Rattle.table.proofs.Columns.{copyin-more, execution-more, copyout-more, columns-long}
 use Rattle.sets.specs.Sets.{member, insert}
 use Rattle.sets.proofs.Laws.{by-test, clash, none, insert-same, insert-other, insert-out, insert-small, member-task}
-use Rattle.entries.specs.Entries.{entry-at}
+use Rattle.entries.specs.Entries.{entry-at, entry-size}
 use Rattle.entries.specs.Limits as limits
-use Rattle.table.specs.Head.{no-table, outside, number-refused, mark-or-length-refusal, task-refusal, with-task, with-marked, refused-at, read-to, behind-head, head-from, head-of}
+use Rattle.table.specs.Head.{no-table, outside, number-refused, mark-or-length-refusal, after-spacings, task-refusal, with-task, with-marked, with-spacing, entry-refusal, with-entry, marked-with, refused-at, read-to, behind-head, head-from, head-of}
 use Rattle.table.proofs.Alone.{Whole, accepted, whole-head}
 use Rattle.rules.specs.Calls.{opened, opening}
 
@@ -22,11 +25,10 @@ use Rattle.rules.specs.Calls.{opened, opening}
 -- where no number is answered no test has passed
 pub none-passed : (w x y z : ℕ) (a b c e : Bool) → cond a (suc w) (cond b (suc x) (cond c (suc y) (cond e (suc z) 0))) ≡ 0
     → (a ≡ false) × (b ≡ false) × (c ≡ false) × (e ≡ false)
-none-passed w x y z true b c e h = absurd (omega arith)
-none-passed w x y z false true c e h = absurd (omega arith)
-none-passed w x y z false false true e h = absurd (omega arith)
-none-passed w x y z false false false true h = absurd (omega arith)
-none-passed w x y z false false false false h = (refl, refl, refl, refl)
+none-passed w x y z a b c e h =
+    let f = neither-passed a b w x (cond c (suc y) (cond e (suc z) 0)) h in
+    let g = neither-passed c e y z 0 (f .2) in
+    (f .0, f .1, g .0, g .1)
 
 neither : (a b : Bool) → (a || b) ≡ false → (a ≡ false) × (b ≡ false)
 neither true b h = clash true refl h
@@ -43,11 +45,13 @@ pub record Fair (table : Table) (marked : ℕ) : Type 0 where
   pub copyins : (k : ℕ) → member k (table .present) ≡ true → InRange (copyin-length (table .columns) k)
   pub executions : (k : ℕ) → member k (table .present) ≡ true → InRange (execution-length (table .columns) k)
   pub copyouts : (k : ℕ) → member k (table .present) ≡ true → InRange (copyout-length (table .columns) k)
+  pub spaced : (k : ℕ) → member k (table .spaced) ≡ true → member k (table .present) ≡ true
+  pub spacings : (k : ℕ) → member k (table .spaced) ≡ true → (1 ≤ spacing (table .columns) k) × (spacing (table .columns) k ≤ limits.longest-spacing)
 
 -- with room for 32 tasks
 pub record Roomy (table : Table) : Type 0 where
   pub priorities : length (table .priority) ≡ 32
-  pub columns : length (table .columns) ≡ 96
+  pub columns : length (table .columns) ≡ 128
 
 roomy-none : Roomy no-table
 roomy-none = record { priorities = refl; columns = refl }
@@ -59,6 +63,8 @@ fair-none = record {
   copyins = λ k h. clash (member k 0) h (none k);
   executions = λ k h. clash (member k 0) h (none k);
   copyouts = λ k h. clash (member k 0) h (none k);
+  spaced = λ k h. h;
+  spacings = λ k h. clash (member k 0) h (none k);
 }
 
 in-range : (x : ℕ) → outside x ≡ false → InRange x
@@ -68,7 +74,7 @@ in-range x h =
     (omega (arith, eqb-false x 0 (y .0)), ltb-false limits.longest-phase x (y .1))
 
 -- a task entry that meets no refusal
-module _ (t : Table) (marked : ℕ) (fair : Fair t marked) (roomy : Roomy t) (p : TaskParameters) (taken : task-refusal t p ≡ 0) where
+module _ (t : Table) (marked : ℕ) (fair : Fair t marked) (roomy : Roomy t) (p : TaskParameters) (taken : task-refusal (t .present) (t .spaced) p ≡ 0) where
   abbrev n : ℕ
   n = p .number
 
@@ -77,17 +83,27 @@ module _ (t : Table) (marked : ℕ) (fair : Fair t marked) (roomy : Roomy t) (p 
       × InRange (p .copyin) × InRange (p .execution) × InRange (p .copyout)
 
   met : Met
-  unfolding task-refusal number-refused mark-or-length-refusal
+  unfolding task-refusal mark-or-length-refusal
   met =
-      let a : Bool = leb limits.tasks n || member n (t .present) in
       let c : Bool = outside (p .copyin) || (outside (p .execution) || outside (p .copyout)) in
-      let f : (a ≡ false) × (ltb 1 (p .mark) ≡ false) × (c ≡ false) × (false ≡ false) =
-      none-passed 3 5 6 0 a (ltb 1 (p .mark)) c false taken in
-      let x : (leb limits.tasks n ≡ false) × (member n (t .present) ≡ false) = neither (leb limits.tasks n) (member n (t .present)) (f .0) in
+      let f = neither-passed (after-spacings (t .spaced)) (number-refused (t .present) n) 2 3 (mark-or-length-refusal p) taken in
+      let g = neither-passed (ltb 1 (p .mark)) c 5 6 0 (f .2) in
       let y : (outside (p .copyin) ≡ false) × ((outside (p .execution) || outside (p .copyout)) ≡ false) =
-      neither (outside (p .copyin)) (outside (p .execution) || outside (p .copyout)) (f .2) in
+      neither (outside (p .copyin)) (outside (p .execution) || outside (p .copyout)) (g .1) in
       let z : (outside (p .execution) ≡ false) × (outside (p .copyout) ≡ false) = neither (outside (p .execution)) (outside (p .copyout)) (y .1) in
-      (omega (arith, leb-false limits.tasks n (x .0)), x .1, in-range (p .copyin) (y .0), in-range (p .execution) (z .0), in-range (p .copyout) (z .1))
+      let x = number-new t p taken in
+      (x .0, x .1, in-range (p .copyin) (y .0), in-range (p .execution) (z .0), in-range (p .copyout) (z .1))
+
+  -- tasks come before spacings
+  unspaced : (k : ℕ) → member k (t .spaced) ≡ false
+  unfolding task-refusal
+  unspaced k =
+      let f = neither-passed (after-spacings (t .spaced)) (number-refused (t .present) n) 2 3 (mark-or-length-refusal p) taken in
+      ap (member k) (eqb-true (t .spaced) 0 (not-true (eqb (t .spaced) 0) (f .0))) ∙ none k
+    where
+      not-true : (b : Bool) → not b ≡ false → b ≡ true
+      not-true true e = refl
+      not-true false e = clash true refl e
 
   -- of a column: a property of the new task's value and of those of the tasks before
   stored : (P : ℕ → Type 0) (old new : ℕ → ℕ) (v : ℕ) → ((k : ℕ) → k < 32 → new k ≡ cond (eqb k n) v (old k)) → P v
@@ -120,6 +136,8 @@ module _ (t : Table) (marked : ℕ) (fair : Fair t marked) (roomy : Roomy t) (p 
     copyins = stored InRange (copyin-length (t .columns)) (copyin-length (with-lengths (t .columns) p)) (p .copyin) (copyin-more (t .columns) p (roomy .columns) (met .0)) (met .2) (fair .copyins);
     executions = stored InRange (execution-length (t .columns)) (execution-length (with-lengths (t .columns) p)) (p .execution) (execution-more (t .columns) p (roomy .columns) (met .0)) (met .3) (fair .executions);
     copyouts = stored InRange (copyout-length (t .columns)) (copyout-length (with-lengths (t .columns) p)) (p .copyout) (copyout-more (t .columns) p (roomy .columns) (met .0)) (met .4) (fair .copyouts);
+    spaced = λ k m. clash (member k (t .spaced)) m (unspaced k);
+    spacings = λ k m. clash (member k (t .spaced)) m (unspaced k);
   }
 
   roomy-more : Roomy (with-task t p)
@@ -137,41 +155,95 @@ module _ (t : Table) (marked : ℕ) (fair : Fair t marked) (roomy : Roomy t) (p 
   unfolding with-task
   members-more k m = insert-other n (t .present) k (member-task k (t .present) (fair .present) m) m
 
+-- a spacing that meets no refusal
+module _ (t : Table) (marked : ℕ) (fair : Fair t marked) (roomy : Roomy t) (x : Spacing) (taken : SpacingTaken t x) where
+  small : x .task < 32
+  small = member-task (x .task) (t .present) (fair .present) (taken .known)
+
+  -- the columns of lengths stay
+  same-length : (k : ℕ) → k < 96 → getD (set (t .columns) (96 + x .task) (x .ticks)) k 0 ≡ getD (t .columns) k 0
+  same-length k l = getD-set-other (t .columns) (96 + x .task) k (x .ticks) 0 (λ h. omega arith)
+
+  -- those of the tasks that are known
+  lengths-stay : (from : ℕ) → from ≤ 64 → ((k : ℕ) → member k (t .present) ≡ true → InRange (getD (t .columns) (from + k) 0))
+      → (k : ℕ) → member k (t .present) ≡ true → InRange (getD (set (t .columns) (96 + x .task) (x .ticks)) (from + k) 0)
+  lengths-stay from l f k m =
+      let s : k < 32 = member-task k (t .present) (fair .present) m in
+      subst InRange (sym (same-length (from + k) (omega arith))) (f k m)
+
+  spacing-more : Fair (with-spacing t x) marked
+  unfolding with-spacing
+  spacing-more = record {
+    present = fair .present;
+    marks = fair .marks;
+    copyins = λ k m. let s : k < 32 = member-task k (t .present) (fair .present) m in subst InRange (sym (same-length k (omega arith))) (fair .copyins k m);
+    executions = lengths-stay 32 (omega arith) (fair .executions);
+    copyouts = lengths-stay 64 (omega arith) (fair .copyouts);
+    spaced = λ k m. ⊎-elim (λ e. subst (λ (j : ℕ). member j (t .present) ≡ true) (sym (eqb-true k (x .task) e)) (taken .known)) (fair .spaced k) (insert-out (x .task) (t .spaced) k m);
+    spacings = λ k m.
+        by-test (eqb k (x .task))
+        (λ e. subst (λ (j : ℕ). In (getD after (96 + j) 0)) (sym (eqb-true k (x .task) e))
+        (subst In (sym (getD-set-same (t .columns) (96 + x .task) (x .ticks) 0 (omega (arith, roomy .columns, small)))) (omega (arith, taken .some), taken .most)))
+        (λ e. subst In (sym (getD-set-other (t .columns) (96 + x .task) (96 + k) (x .ticks) 0 (λ h. eqb-false k (x .task) e (omega arith))))
+        (fair .spacings k (⊎-elim (λ y. clash (eqb k (x .task)) y e) (λ y. y) (insert-out (x .task) (t .spaced) k m))));
+  }
+    where
+      after : List ℕ
+      after = set (t .columns) (96 + x .task) (x .ticks)
+
+      In : ℕ → Type 0
+      In v = (1 ≤ v) × (v ≤ limits.longest-spacing)
+
+  roomy-spaced : Roomy (with-spacing t x)
+  unfolding with-spacing
+  roomy-spaced = record { priorities = roomy .priorities; columns = length-set (t .columns) (96 + x .task) (x .ticks) ∙ roomy .columns }
+
+-- ---- an entry that meets no refusal
+
+module _ (t : Table) (marked : ℕ) (fair : Fair t marked) (roomy : Roomy t) where
+  fair-with : (x : Entry) → entry-refusal t x ≡ 0 → Fair (with-entry t x) (marked-with marked x)
+  unfolding entry-refusal with-entry marked-with
+  fair-with (Malformed n) e = fair
+  fair-with (TaskEntry p) e = fair-more t marked fair roomy p e
+  fair-with (ReleaseEntry r) e = fair
+  fair-with (SpacingEntry x) e = spacing-more t marked fair roomy x (spacing-taken t x e)
+
+  roomy-with : (x : Entry) → entry-refusal t x ≡ 0 → Roomy (with-entry t x)
+  unfolding entry-refusal with-entry
+  roomy-with (Malformed n) e = roomy
+  roomy-with (TaskEntry p) e = roomy-more t marked fair roomy p e
+  roomy-with (ReleaseEntry r) e = roomy
+  roomy-with (SpacingEntry x) e = roomy-spaced t marked fair roomy x (spacing-taken t x e)
+
+  members-with : (x : Entry) → entry-refusal t x ≡ 0 → (k : ℕ) → member k (t .present) ≡ true → member k (with-entry t x .present) ≡ true
+  unfolding entry-refusal with-entry with-spacing
+  members-with (Malformed n) e k m = m
+  members-with (TaskEntry p) e k m = members-more t marked fair roomy p e k m
+  members-with (ReleaseEntry r) e k m = m
+  members-with (SpacingEntry x) e k m = m
+
+  -- and there is a task with it: an entry of no length is none
+  some-with : (x : Entry) → 0 < entry-size x → entry-refusal t x ≡ 0 → (n : ℕ) × (member n (with-entry t x .present) ≡ true)
+  unfolding entry-refusal with-entry with-spacing
+  some-with (Malformed n) l e = absurd (omega arith)
+  some-with (TaskEntry p) l e = (p .number, some-more t marked fair roomy p e)
+  some-with (ReleaseEntry r) l e = absurd (omega arith)
+  some-with (SpacingEntry x) l e = (x .task, spacing-taken t x e .known)
+
 -- ---- the entries one after another
 
 -- what an entry can lead to
 module _ (P : Head → Type 0) (s : List ℕ) (k at : ℕ) (t : Table) (marked : ℕ) where
   entry-cases : P (read-to t marked at) → ((n : ℕ) → P (refused-at n at))
-      → ((p : TaskParameters) → task-refusal t p ≡ 0 → P (head-from k s (at + 16) (with-task t p) (with-marked marked p))) → P (head-from (suc k) s at t marked)
-  unfolding head-from
-  entry-cases h f g = go (behind-head s at)
+      → ((x : Entry) → entry-at s at ≡ x → entry-refusal t x ≡ 0 → P (head-from k s (at + entry-size x) (with-entry t x) (marked-with marked x))) → P (head-from (suc k) s at t marked)
+  entry-cases h f g =
+      by-test (behind-head s at)
+      (λ b. subst P (sym (at-end s at t marked (suc k) b)) h)
+      (λ b. go b (entry-refusal t (entry-at s at)) refl)
     where
-      go-task : (p : TaskParameters) (r : ℕ) → task-refusal t p ≡ r
-          → P (elim r [ zero ↦ head-from k s (at + 16) (with-task t p) (with-marked marked p) | suc n ↦ refused-at (suc n) at ])
-      go-task p zero e = g p e
-      go-task p (suc n) e = f (suc n)
-
-      go-entry : (e : Entry)
-          → P (elim e [
-            | Malformed n ↦ refused-at n at
-            | ReleaseEntry r ↦ read-to t marked at
-            | TaskEntry p ↦ elim (task-refusal t p) [ zero ↦ head-from k s (at + 16) (with-task t p) (with-marked marked p) | suc n ↦ refused-at (suc n) at ]
-          ])
-      go-entry (Malformed n) = f n
-      go-entry (ReleaseEntry r) = h
-      go-entry (TaskEntry p) = go-task p (task-refusal t p) refl
-
-      go : (b : Bool)
-          → P (elim b [
-            | true ↦ read-to t marked at
-            | false ↦ elim (entry-at s at) [
-              | Malformed n ↦ refused-at n at
-              | ReleaseEntry r ↦ read-to t marked at
-              | TaskEntry p ↦ elim (task-refusal t p) [ zero ↦ head-from k s (at + 16) (with-task t p) (with-marked marked p) | suc n ↦ refused-at (suc n) at ]
-            ]
-          ])
-      go true = h
-      go false = go-entry (entry-at s at)
+      go : behind-head s at ≡ false → (n : ℕ) → entry-refusal t (entry-at s at) ≡ n → P (head-from (suc k) s at t marked)
+      go b zero r = subst P (sym (takes s at t marked k b (entry-at s at) refl r)) (g (entry-at s at) refl r)
+      go b (suc n) r = subst P (sym (refuses s at t marked k b (entry-at s at) refl (suc n) r (omega arith))) (f (suc n))
 
 -- what is read without a refusal is fair, and has a task or nothing was read
 abbrev Read : ℕ → Head → Type 0
@@ -188,16 +260,15 @@ reads-on : (k : ℕ) (s : List ℕ) (at : ℕ) (t : Table) (marked n : ℕ) → 
 reads-on zero s at t marked n f r m = unfold head-from in λ e. (f, (n, m))
 reads-on (suc k) s at t marked n f r m =
     entry-cases ReadOn s k at t marked (λ e. (f, (n, m))) (λ x e. unread x at e)
-    (λ p e. reads-on k s (at + 16) (with-task t p) (with-marked marked p) n (fair-more t marked f r p e) (roomy-more t marked f r p e) (members-more t marked f r p e n m))
+    (λ x i e. reads-on k s (at + entry-size x) (with-entry t x) (marked-with marked x) n (fair-with t marked f r x e) (roomy-with t marked f r x e) (members-with t marked f r x e n m))
 
 reads : (k : ℕ) (s : List ℕ) (at : ℕ) (t : Table) (marked : ℕ) → Fair t marked → Roomy t → Read at (head-from k s at t marked)
 reads zero s at t marked f r = unfold head-from in λ e. (f, inl refl)
 reads (suc k) s at t marked f r =
     entry-cases (Read at) s k at t marked (λ e. (f, inl refl)) (λ x e. unread x at e)
-    (λ p e x.
-    let y : Fair (head-from k s (at + 16) (with-task t p) (with-marked marked p) .table) (head-from k s (at + 16) (with-task t p) (with-marked marked p) .marked)
-    × ((n : ℕ) × (member n (head-from k s (at + 16) (with-task t p) (with-marked marked p) .table .present) ≡ true)) =
-    reads-on k s (at + 16) (with-task t p) (with-marked marked p) (p .number) (fair-more t marked f r p e) (roomy-more t marked f r p e) (some-more t marked f r p e) x in
+    (λ x i e z.
+    let m : (n : ℕ) × (member n (with-entry t x .present) ≡ true) = some-with t marked f r x (is-whole s at t x i e .some) e in
+    let y = reads-on k s (at + entry-size x) (with-entry t x) (marked-with marked x) (m .0) (fair-with t marked f r x e) (roomy-with t marked f r x e) (m .1) z in
     (y .0, inr (y .1)))
 
 -- ---- opening

@@ -1,11 +1,12 @@
 -- What becomes of releases at step c, by the tasks with a pending job (p), those with a waiting release (w) and those of the set that is handed in
 -- (s): which are taken, wait from now on or are skipped, and which wait after it. Each of these sets is said member by member, in the two cases of p;
--- what the proofs use of them follows by cases.
-use Rattle.guarantees.specs.Types.{_≡_, refl, sym, ap, _∙_, Bool, true, false, cond, not, _&&_, _||_, false≢true, _⊎_, inl, inr, ℕ, zero, suc, _+_, _<_, WaitingReleases, State}
+-- what the proofs use of them follows by cases. At an instant the set is what passes the spacings (8/13): the rest of what was handed in came too soon.
+use Rattle.guarantees.specs.Types.{_≡_, refl, sym, ap, _∙_, Bool, true, false, cond, not, _&&_, _||_, false≢true, _⊎_, inl, inr, ⊎-elim, ℕ, zero, suc, _+_, _<_, WaitingReleases, State}
 use native.Mathlib.Omega.{arith}
 use Rattle.sets.specs.Sets.{member, union, intersection, difference, bit, count, size}
-use Rattle.sets.proofs.Laws.{united, intersection-member, difference-member, member-task, union-small, difference-small, count-none}
-use Rattle.rules.specs.Instant.{resumed, found-pending, found-waiting, taken, deferred, skipped, step-c, at-b, at-g, taken-at, deferred-at}
+use Rattle.sets.proofs.Laws.{united, intersection-member, intersection-left, difference-member, difference-left, difference-right, collected, member-task, union-small, difference-small, count-none, count-sum, size-union-apart}
+use Rattle.table.specs.Table.{spacing}
+use Rattle.rules.specs.Instant.{last-release, comes-sooner, too-soon, passing, resumed, found-pending, found-waiting, taken, deferred, skipped, step-c, at-b, at-g, taken-at, deferred-at, skipped-at}
 use Rattle.guarantees.proofs.Steps.{Sub}
 use Rattle.guarantees.proofs.Frames.{waiting-b, waiting-g, pending-g}
 
@@ -213,23 +214,111 @@ taken-none d set h behind k l =
     go false true f = absurd (false≢true (f refl))
     go false false f = refl
 
+-- ---- what comes too soon, and what passes
+
+-- a release of task k at t would come too soon
+abbrev pub soon-at : State → ℕ → ℕ → Bool
+soon-at d t k = member k (d .table .spaced) && comes-sooner t (spacing (d .table .columns) k) (last-release d k)
+
+-- a set without some of its members, as a formula
+left-over : (s x : Bool) → (s && not (s && x)) ≡ (s && not x)
+left-over true x = refl
+left-over false x = refl
+
+module _ (d : State) (t set k : ℕ) (l : k < 32) where
+  pub too-soon-member : member k (too-soon d t set) ≡ (member k set && soon-at d t k)
+  unfolding too-soon
+  too-soon-member = collected (λ n. member n set && (member n (d .table .spaced) && comes-sooner t (spacing (d .table .columns) n) (last-release d n))) k l
+
+  pub passing-member : member k (passing d t set) ≡ (member k set && not (soon-at d t k))
+  unfolding passing
+  passing-member = difference-member set (too-soon d t set) k l ∙ rw too-soon-member (left-over (member k set) (soon-at d t k))
+
+-- what passes was handed in
+pub passing-from : (d : State) (t set k : ℕ) → member k (passing d t set) ≡ true → member k set ≡ true
+unfolding passing
+passing-from d t set k h = difference-left set (too-soon d t set) k h
+
+pub passing-none : (d : State) (t set : ℕ) → ((k : ℕ) → k < 32 → member k set ≡ false) → (k : ℕ) → k < 32 → member k (passing d t set) ≡ false
+passing-none d t set h k l = passing-member d t set k l ∙ rw (h k l)
+
+-- each release that is handed in passes or comes too soon
+passes-or-not : (d : State) (t set : ℕ) → size set ≡ size (passing d t set) + size (too-soon d t set)
+unfolding size
+passes-or-not d t set =
+    count-sum 32 (λ k. member k set) (λ k. member k (passing d t set)) (λ k. member k (too-soon d t set))
+    (λ k l. rw (passing-member d t set k l, too-soon-member d t set k l) (go (member k set) (soon-at d t k)))
+  where
+    go : (s x : Bool) → bit s ≡ bit (s && not x) + bit (s && x)
+    go true true = refl
+    go true false = refl
+    go false x = refl
+
+-- and what is skipped comes too soon, or passes and finds one waiting
+skipped-apart : (d : State) (t set : ℕ) → size (union (too-soon d t set) (skipped d (passing d t set))) ≡ size (too-soon d t set) + size (skipped d (passing d t set))
+unfolding skipped passing
+skipped-apart d t set =
+    size-union-apart (too-soon d t set) (skipped d (passing d t set))
+    (λ k h. difference-right set (too-soon d t set) k (intersection-left (passing d t set) (found-waiting (d .jobs .pending) (d .waiting .tasks)) k h))
+
 -- ---- at an instant, whose step c finds what its steps a and b leave
 
 module _ (d : State) (t set : ℕ) where
   abbrev B : State
   B = at-b d t .state
 
-  pub waits-g : at-g d t set .waiting .tasks ≡ waits-after B set
+  -- what is handed in and passes
+  abbrev pub passed : ℕ
+  passed = passing (at-b d t .state) t set
+
+  pub passed-known : (present : ℕ) → Sub set present → Sub passed present
+  passed-known present f k l h = f k l (passing-from B t set k h)
+
+  -- what is taken waited, or is handed in
+  pub taken-known : (present : ℕ) → Sub (d .waiting .tasks) present → Sub set present → Sub (taken-at d t set) present
+  unfolding taken-at
+  taken-known present w f k l h =
+      ⊎-elim (λ x. w k l (ap (λ (y : WaitingReleases). member k (y .tasks)) (sym (waiting-b d t)) ∙ x)) (passed-known present f k l) (taken-from B passed k h)
+
+  pub waits-g : at-g d t set .waiting .tasks ≡ waits-after B passed
   unfolding step-c taken-at deferred-at
   waits-g = ap (λ (w : WaitingReleases). w .tasks) (waiting-g d t set)
+
+  -- the tasks that had a release taken
+  pub before-g : at-g d t set .waiting .before ≡ union (d .waiting .before) (taken-at d t set)
+  unfolding step-c
+  before-g = ap (λ (w : WaitingReleases). w .before) (waiting-g d t set) ∙ ap (λ (w : WaitingReleases). union (w .before) (taken-at d t set)) (waiting-b d t)
 
   -- for any state before it, what waits after an instant does so behind a pending job
   pub behind-g : Sub (at-g d t set .waiting .tasks) (at-g d t set .jobs .pending)
   unfolding taken-at
   behind-g k l h =
-      ap (member k) (pending-g d t set) ∙ waits-behind B set k l (ap (member k) (sym waits-g) ∙ h)
+      ap (member k) (pending-g d t set) ∙ waits-behind B passed k l (ap (member k) (sym waits-g) ∙ h)
 
   -- and each release is taken, waits or is skipped
-  pub balance-g : size (d .waiting .tasks) + size set ≡ size (taken-at d t set) + size (at-g d t set .waiting .tasks) + size (skipped B set)
-  unfolding taken-at
-  balance-g = ap (λ (w : WaitingReleases). size (w .tasks) + size set) (sym (waiting-b d t)) ∙ balance B set ∙ ap (λ (w : ℕ). size (taken B set) + size w + size (skipped B set)) (sym waits-g)
+  pub balance-g : size (d .waiting .tasks) + size set ≡ size (taken-at d t set) + size (at-g d t set .waiting .tasks) + size (skipped-at d t set)
+  unfolding taken-at skipped-at
+  balance-g =
+      omega (
+        arith,
+        ap (λ (w : WaitingReleases). size (w .tasks)) (waiting-b d t),
+        balance B passed,
+        ap size waits-g,
+        passes-or-not B t set,
+        skipped-apart B t set,
+      )
+
+  -- what is skipped came too soon, or passes and is behind a waiting one
+  pub skipped-at-member : (k : ℕ) → k < 32 → member k (skipped-at d t set)
+      ≡ ((member k set && soon-at B t k) || is-skipped (member k (B .jobs .pending)) (member k (B .waiting .tasks)) (member k passed))
+  unfolding skipped-at
+  skipped-at-member k l = united (too-soon B t set) (skipped B passed) k l ∙ rw (too-soon-member B t set k l, skipped-member B passed k l)
+
+  -- where none is handed in none is skipped
+  pub none-skipped-g : ((k : ℕ) → k < 32 → member k set ≡ false) → size (skipped-at d t set) ≡ 0
+  unfolding skipped-at
+  none-skipped-g h =
+      omega (arith, skipped-apart B t set, skipped-none B passed (passing-none B t set h), none-soon)
+    where
+      none-soon : size (too-soon (at-b d t .state) t set) ≡ 0
+      none-soon = unfold size in count-none 32 (λ k. member k (too-soon (at-b d t .state) t set)) (λ k l. too-soon-member (at-b d t .state) t set k l ∙ rw (h k l))

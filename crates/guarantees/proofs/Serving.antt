@@ -16,7 +16,7 @@ use Rattle.guarantees.proofs.Proper.{Fair}
 use Rattle.guarantees.proofs.Cases.{held-at, copyout-cases, b-cases, d-cases, e-cases, g-cases}
 use Rattle.guarantees.proofs.Walk.{walk}
 use Rattle.guarantees.proofs.Events.{by-finishes, by-ends, by-defers, by-gives, by-begins, tail-of, happens-parts, front-parts, tail-parts}
-use Rattle.guarantees.proofs.Releases.{taken-not-pending}
+use Rattle.guarantees.proofs.Releases.{taken-not-pending, passed}
 use Rattle.guarantees.proofs.Places.{stage, processor-bit, copyout-bit, outgoing-bit, to-b}
 use Rattle.guarantees.proofs.Served.{served-at}
 use Rattle.guarantees.proofs.Invariant.{Good, good-opened, good-next, good-quiet}
@@ -295,7 +295,7 @@ module _ (table : Table) (marks : ℕ) (fair : Fair table marks) where
           omega (
             arith,
             to-b (table .present) (fair .present) d t (g .parted) .parted .parts n small,
-            ap bit (taken-not-pending (at-b d t .state) set n (unfold taken-at in m)),
+            ap bit (taken-not-pending (at-b d t .state) (passed d t set) n (unfold taken-at in m)),
           )
 
   -- each job that is taken starts and completes, since at the opening none is pending and none executes

@@ -16,6 +16,7 @@ use Rattle.rules.specs.Order.{highest-of}
 use Rattle.guarantees.specs.Figure.{greatest, greatest-copyin, greatest-copyout, greatest-work, longest-interval}
 use Rattle.guarantees.specs.States.{next-known, outgoing-known, phase-known}
 use Rattle.guarantees.proofs.Frames.{Frame, at-c, at-d, b-frame, c-table, d-frame, table-b, table-e}
+use Rattle.guarantees.proofs.Releases.{passed, passed-known}
 use Rattle.guarantees.proofs.Settled.{Decided, DecidedAt, OpenAt}
 use Rattle.guarantees.proofs.Times.{Times, processor-times, copyout-times, copyin-times, parted-d, table-d}
 use Rattle.guarantees.proofs.Served.{NotBefore}
@@ -233,11 +234,11 @@ module _ (table : Table) (tasks : table .present < 2 ^ 32) where
         let z : Stage = fresh-stage e in
         let ff : State = at-f d t set .state in
         let kb : Parted pr tasks b (b .phase) = Places.to-b pr tasks d t k .parted in
-        let ky : Parted pr tasks y (y .phase) = parted-d pr tasks t b set f kb in
+        let ky : Parted pr tasks y (y .phase) = parted-d pr tasks t b (passed d t set) (passed-known d t set pr f) kb in
         let ke : Parted pr tasks e (e .phase) = Places.to-e pr tasks d t set f kb .parted in
         let kf : Parted pr tasks ff (ff .phase) = Places.b-moves pr tasks z t (e .phase) refl ke .parted in
         let hb : Spans t (b .phase) = b-spans (at-a d t) (a-spans (at-clock d t) (d .phase) refl x h) in
-        let he : Spans t (e .phase) = e-spans y (table-d table t b set (table-b d t ∙ x)) (ky .ready) (d-spans (at-c d t set) (taken-at d t set) (to-c b set hb)) in
+        let he : Spans t (e .phase) = e-spans y (table-d table t b (passed d t set) (table-b d t ∙ x)) (ky .ready) (d-spans (at-c d t set) (taken-at d t set) (to-c b (passed d t set) hb)) in
         g-spans ff (held-at d t set) (ap (λ (y : Frame). y .table) (b-frame z t) ∙ table-e d t set ∙ x) kf (b-spans z he)
       where
         to-c : (b : State) (set : ℕ) → Spans t (b .phase) → Spans t (step-c b t (taken b set) (deferred b set) .phase)

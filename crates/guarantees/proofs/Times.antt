@@ -13,6 +13,7 @@ use Rattle.rules.specs.Instant.{step-a, step-b, step-c, step-d, step-e, step-g,
 use Rattle.rules.specs.With.{at-clock, later}
 use Rattle.rules.specs.Order.{highest-of, outranks}
 use Rattle.guarantees.proofs.Frames.{Frame, at-c, at-d, b-frame, c-table, d-frame, table-b, table-e, pending-b}
+use Rattle.guarantees.proofs.Releases.{passed, passed-known}
 use Rattle.guarantees.proofs.Settled.{Decided, DecidedAt, OpenAt, RestAt}
 use Rattle.guarantees.proofs.Places.{Parted}
 use Rattle.guarantees.proofs.Steps.{Sub, best-of}
@@ -193,11 +194,11 @@ module _ (table : Table) (tasks : table .present < 2 ^ 32) (t : ℕ) (P : ℕ �
         let ff : State = at-f d t set .state in
         let k0 : Parted pr tasks d0 (d .phase) = record { few = k .few; marks = k .marks; pending = k .pending; ready = k .ready; waits = k .waits; known = k .known; parts = k .parts } in
         let kb : Parted pr tasks b (b .phase) = Places.to-b pr tasks d t k .parted in
-        let ky : Parted pr tasks y (y .phase) = parted-d (table .present) tasks t b set f kb in
+        let ky : Parted pr tasks y (y .phase) = parted-d (table .present) tasks t b (passed d t set) (passed-known d t set pr f) kb in
         let ke : Parted pr tasks e (e .phase) = Places.to-e pr tasks d t set f kb .parted in
         let kf : Parted pr tasks ff (ff .phase) = Places.b-moves pr tasks z t (e .phase) refl ke .parted in
         let hb : Times P (b .phase) = b-times a (a-times d0 (d .phase) refl x k0 h) in
-        let he : Times P (e .phase) = e-times y (table-d table t b set (table-b d t ∙ x)) (ky .ready) (d-times c (taken-at d t set) (to-c b set hb)) in
+        let he : Times P (e .phase) = e-times y (table-d table t b (passed d t set) (table-b d t ∙ x)) (ky .ready) (d-times c (taken-at d t set) (to-c b (passed d t set) hb)) in
         g-times ff (held-at d t set) (ap (λ (y : Frame). y .table) (b-frame z t) ∙ table-e d t set ∙ x) kf (b-times z he)
       where
         to-c : (b : State) (set : ℕ) → Times P (b .phase) → Times P (step-c b t (taken b set) (deferred b set) .phase)

@@ -18,7 +18,7 @@ use Rattle.guarantees.proofs.Invariant.{Good, good-opened, good-next, g
 use Rattle.rules.specs.Calls.{refusal, served, instant, opened}
 use Rattle.guarantees.proofs.Cases.{held-at}
 use Rattle.guarantees.proofs.Steps.{Sub}
-use Rattle.guarantees.proofs.Releases.{taken-not-pending}
+use Rattle.guarantees.proofs.Releases.{taken-not-pending, passed}
 use Rattle.guarantees.proofs.Waiting.{runs}
 use Rattle.guarantees.proofs.Blocking.{Bounded, bounded-a, bounded-e, bounded-g, bounded-opened, bounded-quiet}
 use Rattle.guarantees.proofs.Places.{Parted, b-moves, to-b, to-e}
@@ -105,7 +105,7 @@ module _ (table : Table) (marks : ℕ) (fair : Fair table marks) (n : ℕ) (smal
         e-knows pr n small t (step-d c taken (c .phase)) after-c
         (d-knows pr n small taken c after-c
         (c-knows pr n small (table .present) (fair .present) b t taken deferred (d .marked) (tally n (tally n x ended-a) ends-b) parted-b
-        (λ j m. unfold taken-at in taken-not-pending b set j m) knows-b))
+        (λ j m. unfold taken-at in taken-not-pending b (passed d t set) j m) knows-b))
 
     pub parted-e : Parted (table .present) (fair .present) (at-e d t set) (at-e d t set .phase)
     parted-e = to-e (table .present) (fair .present) d t set known parted-b .parted

@@ -16,7 +16,7 @@ use Rattle.guarantees.proofs.Cases.{held-at, d-cases, e-cases}
 use Rattle.guarantees.proofs.Steps.{Sub}
 use Rattle.guarantees.proofs.Events.{by-processor-at, by-finishes, by-gives, by-starts, tail-of, happens-parts, front-parts, tail-parts}
 use Rattle.guarantees.proofs.Frames.{Frame, b-frame, g-frame, waiting-b, pending-g, clock-g}
-use Rattle.guarantees.proofs.Releases.{is-taken, is-deferred, taken-member, deferred-member, taken-not-pending, waits-g}
+use Rattle.guarantees.proofs.Releases.{is-taken, is-deferred, taken-member, deferred-member, taken-not-pending, passed, waits-g}
 use Rattle.guarantees.proofs.Places.{Parted, copyin-bit, processor-bit, copyout-bit, next-bit, outgoing-bit, stage, rests, no-copyout, b-moves, a-processor-bit, b-outgoing-bit, b-copyout-bit, g-processor, g-copyout, to-b, to-e}
 use Rattle.guarantees.proofs.Served.{Served-at, served-at, strictly-onward}
 use Rattle.guarantees.proofs.Invariant.{Good, good-opened, good-next, good-quiet}
@@ -267,17 +267,17 @@ module _ (present : ℕ) (tasks : present < 4294967296) (n : ℕ) (small : n < 3
       placed-b = bit (member n (B .jobs .pending)) + executing (B .phase) + 2 * leaving (B .phase)
 
       abbrev taken-now : ℕ
-      taken-now = taken B set
+      taken-now = taken B (passed d t set)
 
       abbrev deferred-now : ℕ
-      deferred-now = deferred B set
+      deferred-now = deferred B (passed d t set)
 
       -- a release is set waiting behind a pending job
       deferred-behind : member n deferred-now ≡ true → cond (member n taken-now) 1 placed-b ≡ 0 → ⊥
       deferred-behind m z =
-          go (member n (B .jobs .pending)) (member n (B .waiting .tasks)) (member n set) (executing (B .phase)) (2 * leaving (B .phase))
-          (sym (deferred-member B set n small) ∙ m)
-          (subst (λ (x : Bool). cond x 1 placed-b ≡ 0) (taken-member B set n small) z)
+          go (member n (B .jobs .pending)) (member n (B .waiting .tasks)) (member n (passed d t set)) (executing (B .phase)) (2 * leaving (B .phase))
+          (sym (deferred-member B (passed d t set) n small) ∙ m)
+          (subst (λ (x : Bool). cond x 1 placed-b ≡ 0) (taken-member B (passed d t set) n small) z)
         where
           go : (p w s : Bool) (x y : ℕ) → is-deferred p w s ≡ true → cond (is-taken p w s) 1 (bit p + x + y) ≡ 0 → ⊥
           go true w s x y m z = omega arith
@@ -287,7 +287,7 @@ module _ (present : ℕ) (tasks : present < 4294967296) (n : ℕ) (small : n < 3
 
       placed-e : cond (member n taken-now) 1 placed-b ≡ bit (member n (G .jobs .pending)) + executing (at-e d t set .phase) + 2 * leaving (at-e d t set .phase)
       placed-e =
-          go (member n taken-now) (nowhere B set h) ∙ omega (arith, spots-e d set, ap bit (sym pending-is))
+          go (member n taken-now) (nowhere B (passed d t set) h) ∙ omega (arith, spots-e d set, ap bit (sym pending-is))
         where
           pending-is : member n (G .jobs .pending) ≡ (member n (B .jobs .pending) || member n taken-now)
           pending-is = ap (member n) (pending-g d t set) ∙ (unfold taken-at in united (B .jobs .pending) taken-now n small)
@@ -297,7 +297,7 @@ module _ (present : ℕ) (tasks : present < 4294967296) (n : ℕ) (small : n < 3
           go false z = by-test (member n (B .jobs .pending)) (λ p. rw p refl) (λ p. rw p refl)
 
       held-e : cond (member n deferred-now) true (cond (member n taken-now) false (member n (B .waiting .tasks))) ≡ member n (G .waiting .tasks)
-      held-e = moves B set n small ∙ ap (member n) (sym (waits-g d t set))
+      held-e = moves B (passed d t set) n small ∙ ap (member n) (sym (waits-g d t set))
 
       parted-f : Parted present tasks (at-f d t set .state) (at-f d t set .state .phase)
       unfolding at-f
@@ -329,10 +329,10 @@ module _ (present : ℕ) (tasks : present < 4294967296) (n : ℕ) (small : n < 3
           → T (Seen (member n (B .jobs .pending)) (member n (B .waiting .tasks)) (B .phase)) (take-events 32 (taken-at d t set) (d .marked) t ++ (tail-of d t set ++ ys))
       unfolding taken-at deferred-at
       tail-turning ys k =
-          takes-turning taken-now (d .marked) placed-b (member n (B .waiting .tasks)) (tail-of d t set ++ ys) (nowhere B set h)
+          takes-turning taken-now (d .marked) placed-b (member n (B .waiting .tasks)) (tail-of d t set ++ ys) (nowhere B (passed d t set) h)
           (rw (tail-parts d t set ys)
           (defers-turning deferred-now (cond (member n taken-now) 1 placed-b) (cond (member n taken-now) false (member n (B .waiting .tasks))) _
-          (λ m. (deferred-behind m, free B set n small m))
+          (λ m. (deferred-behind m, free B (passed d t set) n small m))
           (rw (placed-e, held-e) (rest-turning ys k))))
 
   -- ---- an instant

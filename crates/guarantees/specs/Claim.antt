@@ -3,21 +3,23 @@
 use Rattle.guarantees.specs.Types.{_≡_, Bool, true, false, cond, List, [], _∷_, _++_, ℕ, _+_, _*_, _≤_, _<_, Table, MaybeTask, NoTask, Task, State, Due, Never, Tick, NoRefusal, Call, Instant}
 use lib.Dec.{leb}
 use lib.ListN.{getD, length}
-use Rattle.sets.specs.Sets.{size}
+use Rattle.sets.specs.Sets.{member, size}
 use Rattle.table.specs.Table.{copyin-length, execution-length, copyout-length}
 use Rattle.table.specs.Refusals.{refusal-number, refusal-place}
+use Rattle.rules.specs.Instant.{last-release}
 use Rattle.rules.specs.Calls.{opening, refusal}
 use Rattle.dispatcher.specs.declared.Opening.{Opening}
 use Rattle.dispatcher.specs.Dispatcher.{state-of, opening-of}
 use Rattle.guarantees.specs.History.{Event, Starts, Stops, Completes, Ends, Takes, Defers, Begins, history, after-calls, EmptySets}
 use Rattle.guarantees.specs.Pending.{OneAtATime, InTime}
+use Rattle.guarantees.specs.Releases.{Spaced}
 use Rattle.guarantees.specs.Intervals.{Proceeds}
 use Rattle.guarantees.specs.Entries.{EntriesTell}
 use Rattle.guarantees.specs.Figure.{PlainFigure, Figure}
 use Rattle.guarantees.specs.Counting.{CountsRise}
 use Rattle.guarantees.specs.Choosing.{FirstCome}
 use Rattle.guarantees.specs.States.{PlainState}
-use Rattle.guarantees.specs.Queries.{is-task, Situation, NoneOpen, situation, Latest, none-yet, latest, loaded, Execution, not-yet, execution, intervals, met, end-tick, begin-tick, copied-out, taking, start, stop, completion, since, last-instant, is-take, is-begin, is-completion, total}
+use Rattle.guarantees.specs.Queries.{is-task, Situation, NoneOpen, situation, Latest, none-yet, latest, loaded, Execution, not-yet, execution, intervals, met, end-tick, begin-tick, copied-out, taking, start, stop, completion, since, last-released, last-instant, is-take, is-begin, is-completion, total}
 
 -- ---- The order
 
@@ -110,6 +112,8 @@ pub record Holds (table : Table) (history : List Event) : Type 0 where
       (b : ℕ) × (x .begun ≡ Tick b) × (x .out ≡ Task n) × (c ≡ b + copyout-length (table .columns) n)
   -- a task has one pending job at a time, each taken, executed, copied out and completed once; 4/13: and one release that waits behind it
   pub each-task : (n : ℕ) → OneAtATime n history
+  -- 8/13: a task with a spacing has its releases that far apart
+  pub each-spacing : (n : ℕ) → n < 32 → member n (table .spaced) ≡ true → Spaced n table history
   -- what occurs at an instant says its tick
   pub in-time : InTime history
   -- "Where N jobs were taken, at most 3 × N intervals have begun"; "N is the number of releases taken in
@@ -167,6 +171,8 @@ pub record Claim (d : State) (calls : List Call) : Type 0 where
   pub counts : (t set : ℕ) → refusal (after-calls d calls) t set ≡ 0 → CountsRise (after-calls d calls) t set
   -- and no time and no count of that state comes near the end of its type
   pub plain : PlainState (after-calls d calls)
+  -- 8/13: what that state has as a task's last release is the last of the history that was taken or set waiting
+  pub last-releases : (n : ℕ) → n < 32 → last-release (after-calls d calls) n ≡ last-released n (history d calls)
   -- 6/13: at each instant of the list that is served the engine chooses the first of the ready jobs, by the history's original times
   pub first-come : (before after : List Call) (t set : ℕ) → calls ≡ before ++ (Instant t set ∷ after)
       → refusal (after-calls d before) t set ≡ 0

@@ -120,10 +120,10 @@ pub record EntriesTell (d : State) (calls : List Call) : Type 0 where
   -- 4/13: at each point of the list, each release that was handed in was taken at once, set waiting or skipped, task by task
   pub each-release : (before after : List Call) (n : ℕ) → calls ≡ before ++ after → n < 32
       → Balance n (handed-in n d before) (skips n (all-occurred d before)) (history d before)
-  -- and at each instant by its set and what waited
+  -- and at each instant by its set, what waited and, 8/13, the last one
   pub each-instant : (before after : List Call) (n t set : ℕ) (o : Occurred) → calls ≡ before ++ (Instant t set ∷ after) → n < 32
       → instant (after-calls d before) t set .answer ≡ Served o
-      → Placed n set (o .skipped) (history d before) (by-call (after-calls d before) (Instant t set))
+      → Placed n (d .table) t set (o .skipped) (history d before) (by-call (after-calls d before) (Instant t set))
   -- "A job is marked if its task was at the release": as opening read its mark, or as mark calls have changed it; a release that waited
   -- has the same mark as at its taking, since "a mark cannot change while a release waits"
   pub each-mark : (before after : List Call) (n t set u : ℕ) (m : Bool) (xs ys : List Event) → calls ≡ before ++ (Instant t set ∷ after)

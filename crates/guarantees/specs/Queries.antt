@@ -1,7 +1,7 @@
 -- The questions that the claim asks of a history: what is open at a point of it, which intervals begin, when the next one ends or begins,
 -- when a job starts to execute, stops and completes, and how many events of a kind there are. Each is a walk along the events, and names
 -- only the kinds of events that it asks for.
-use Rattle.guarantees.specs.Types.{Bool, false, cond, _&&_, _||_, List, [], _∷_, _++_, ℕ, _+_, MaybeTask, NoTask, Task, Due, Never, Tick}
+use Rattle.guarantees.specs.Types.{Bool, true, false, cond, _&&_, _||_, List, [], _∷_, _++_, ℕ, _+_, MaybeTask, NoTask, Task, Due, Never, Tick}
 use lib.Dec.{eqb}
 use Rattle.guarantees.specs.History.{Event, Comes, Starts, Stops, Finishes, Completes, Ends, Takes, Defers, GivesWay, Begins}
 
@@ -163,6 +163,24 @@ origin-by n x e =
 -- the original tick of the last release of task n that was taken
 abbrev pub since : List Event → ℕ → ℕ
 since h n = after (origin-by n) no-origin h .since
+
+-- 8/13: of the releases of task n, whether the last one that was taken or set waiting waits, and its original tick
+pub record LastRelease : Type 0 where
+  pub waits : Bool
+  pub tick : Due
+
+abbrev pub no-last : LastRelease
+no-last = record { waits = false; tick = Never }
+
+-- one that waited is taken later, and stays the last
+abbrev pub last-by : ℕ → LastRelease → Event → LastRelease
+last-by n x e =
+    cond (takes e && is-task n (details e .task)) (record { waits = false; tick = cond (x .waits) (x .tick) (Tick (details e .tick)) })
+    (cond (defers e && is-task n (details e .task)) (record { waits = true; tick = Tick (details e .tick) }) x)
+
+-- "the task's last release taken or set waiting", by original time
+abbrev pub last-released : ℕ → List Event → Due
+last-released n h = after (last-by n) no-last h .tick
 
 -- ---- What comes next
 

@@ -54,10 +54,12 @@ module _ (present : ℕ) where
 -- the table has tasks below 32 alone, and every task that the state names is one of them
 pub record Named (table : Table) (d : State) : Type 0 where
   pub numbers : (n : ℕ) → Known (table .present) n → n < 32
+  pub spaced : set-known (table .present) (table .spaced)
   pub marked : set-known (table .present) (d .marked)
   pub pending : set-known (table .present) (d .jobs .pending)
   pub ready : set-known (table .present) (d .jobs .ready)
   pub waiting : set-known (table .present) (d .waiting .tasks)
+  pub before : set-known (table .present) (d .waiting .before)
   pub phase : phase-known (table .present) (d .phase)
 
 -- ---- The arithmetic of an instant

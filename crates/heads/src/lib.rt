@@ -1,5 +1,7 @@
 // The head of an input, the part before its releases, read: the table of tasks that its entries make, or the first refusal.
 use entries::Entry;
+use entries::SPACING_SIZE;
+use entries::Spacing;
 use entries::TASK_SIZE;
 use entries::TaskParameters;
 use entries::limits;
@@ -7,6 +9,7 @@ use table::COPYOUT;
 use table::EXECUTION;
 use table::Head;
 use table::Refusal;
+use table::SPACING;
 use table::Table;
 use table::no_table;
 use table::refused;
@@ -52,6 +55,19 @@ fn number_refused(present: u32, n: u8) -> bool
     sets::contains(present, n)
 }
 
+// 3 behind a spacing, then 4, 6, 7; 0 is none.
+fn task_refusal(present: u32, spaced: u32, p: TaskParameters) -> u8
+    ensures { λ r. ⌜ r ≡ heads.task-refusal present spaced p ⌝ }
+{
+    if spaced != 0 {
+        return 3;
+    }
+    if number_refused(present, p.number) {
+        return 4;
+    }
+    mark_or_length_refusal(p)
+}
+
 fn with_marked(marked: u32, p: TaskParameters) -> u32
     ensures { λ r. ⌜ r ≡ heads.with-marked marked p ⌝ }
 {
@@ -59,6 +75,32 @@ fn with_marked(marked: u32, p: TaskParameters) -> u32
         return sets::insert(marked, p.number);
     }
     marked
+}
+
+// 19: no spacing, too long a one, or a second one of the task.
+fn ticks_refused(spaced: u32, x: Spacing) -> bool
+    ensures { λ r. ⌜ r ≡ heads.ticks-refused spaced x ⌝ }
+{
+    if x.ticks == 0 {
+        return true;
+    }
+    if limits::LONGEST_SPACING < x.ticks {
+        return true;
+    }
+    sets::contains(spaced, x.task)
+}
+
+// 8, then 19; 0 is none.
+fn spacing_refusal(present: u32, spaced: u32, x: Spacing) -> u8
+    ensures { λ r. ⌜ r ≡ heads.spacing-refusal present spaced x ⌝ }
+{
+    if !sets::contains(present, x.task) {
+        return 8;
+    }
+    if ticks_refused(spaced, x) {
+        return 19;
+    }
+    0
 }
 
 fn refused_at(n: u8, at: usize) -> Head
@@ -79,7 +121,7 @@ fn read_to(table: Table, marked: u32, at: usize) -> Head
 }
 
 // The head of an input, up to its end or the first release entry, which is left to whoever reads on. A
-// further kind of entry is an arm more.
+// further kind of entry is an arm more. The table is changed where it is: handed from function to function it is copied each time.
 pub fn head_of(s: &[u8]) -> Head
     ensures { λ r. ⌜ r ≡ heads.head-of (now (s .entry)) ⌝ }
 {
@@ -99,25 +141,30 @@ pub fn head_of(s: &[u8]) -> Head
                 break 'entries refused_at(n, at);
             }
             Entry::ReleaseEntry(_) => {
-                break 'entries read_to(t, marked, at);
+                break 'entries refused_at(2, at);
             }
             Entry::TaskEntry(p) => {
-                if number_refused(t.present, p.number) {
-                    break 'entries refused_at(4, at);
-                }
-                let n = mark_or_length_refusal(p);
+                let n = task_refusal(t.present, t.spaced, p);
                 if n != 0 {
                     break 'entries refused_at(n, at);
                 }
-                let n = p.number;
-                let i = n as usize;
-                t.present = sets::insert(t.present, n);
+                let i = p.number as usize;
+                t.present = sets::insert(t.present, p.number);
                 t.priority[i] = p.priority;
                 t.columns[i] = p.copyin;
                 t.columns[EXECUTION + i] = p.execution;
                 t.columns[COPYOUT + i] = p.copyout;
                 marked = with_marked(marked, p);
                 at += TASK_SIZE;
+            }
+            Entry::SpacingEntry(x) => {
+                let n = spacing_refusal(t.present, t.spaced, x);
+                if n != 0 {
+                    break 'entries refused_at(n, at);
+                }
+                t.spaced = sets::insert(t.spaced, x.task);
+                t.columns[SPACING + x.task as usize] = x.ticks;
+                at += SPACING_SIZE;
             }
         }
     }

@@ -9,7 +9,7 @@ use Rattle.entries.specs.declared.MaybeTask.the-variants.{NoTask, Task}
 use Rattle.rules.specs.declared.Due.the-variants.{Never, Tick}
 use Rattle.table.specs.declared.Refusal.the-variants.{NoRefusal}
 use mathlib.Core.List.{append-nil}
-use mathlib.Core.Logic.{⊎-elim}
+use mathlib.Core.Logic.{_⊎_, inl, ⊎-elim}
 use native.Mathlib.Omega.{arith}
 use lib.ListN.{take, drop}
 use Rattle.words.specs.Words
@@ -28,7 +28,7 @@ use Rattle.guarantees.specs.Queries.{details, is-task, takes, completes, after,
 use Rattle.guarantees.specs.Figure.{greatest, longest-interval, not-lower-in, before-start}
 use Rattle.guarantees.specs.Claim.{Holds, Completed, TakenLater, AllCompleted, Claim, Demand3}
 use Rattle.sets.proofs.Laws.{by-test, same-task}
-use Rattle.histories.specs.Histories.{task, tasks, three, plans-table, Accepts, Refuses, PlansAccepted, WrongRefused, calls-a, history-a, calls-b, history-b, calls-c, history-c, calls-d, history-d, calls-e, history-e, calls-f, history-f, calls-f′, history-f′, calls-waiting, history-waiting, second-lower, second-finished, thrown-out-runs, third-idle, third-lower, copyout-late, four-intervals, copyout-not-at-once, completion-late, completion-missing, completion-unexecuted, begins-late, no-ticks, not-executed, loaded-late, promoted-early, execution-long, promoted-unmarked, starts-unasked, starts-twice, stops-unstarted, cut-short, one-waits, never-taken, two-wait, waited-unexecuted, before-13, before-17, job-1, Tells, OneEntry, WaitedEntry, taken-late, waits-for-nothing, taken-twice, completed-twice, runs-unreleased, executed-again, another-tick, instants-fall, nobody-promoted, promoted-late, promoted-beside-the-loaded, begins-twice, ends-twice, finishes-twice, gives-way-twice, FigureRefuses, FigureTells, unmarked-in-four, marked-in-three, marked-behind-idle, marked-idles, lasts-long, open-long, completes-behind-two, unmarked-late, marked-late, between-unstarted, between-unstopped, Marks, calls-one, taken-another, up-to-5, ReleasesRefused, PlanEntries, waits-between, ends-late, stays-open, calls-unmarked, history-unmarked, BoundsMet}
+use Rattle.histories.specs.Histories.{task, tasks, three, plans-table, spaced-tasks, spaced-table, AcceptsOf, Accepts, Refuses, PlansAccepted, WrongRefused, calls-a, history-a, calls-b, history-b, calls-c, history-c, calls-d, history-d, calls-e, history-e, calls-f, history-f, calls-f′, history-f′, calls-waiting, history-waiting, second-lower, second-finished, thrown-out-runs, third-idle, third-lower, copyout-late, four-intervals, copyout-not-at-once, completion-late, completion-missing, completion-unexecuted, begins-late, no-ticks, not-executed, loaded-late, promoted-early, execution-long, promoted-unmarked, starts-unasked, starts-twice, stops-unstarted, cut-short, one-waits, never-taken, two-wait, waited-unexecuted, before-13, before-17, job-1, Tells, OneEntry, WaitedEntry, taken-late, waits-for-nothing, taken-twice, completed-twice, runs-unreleased, executed-again, another-tick, instants-fall, nobody-promoted, promoted-late, promoted-beside-the-loaded, begins-twice, ends-twice, finishes-twice, gives-way-twice, FigureRefuses, FigureTells, unmarked-in-four, marked-in-three, marked-behind-idle, marked-idles, lasts-long, open-long, completes-behind-two, unmarked-late, marked-late, between-unstarted, between-unstopped, Marks, calls-one, taken-another, up-to-5, ReleasesRefused, calls-skipped, history-skipped, calls-third, history-third, RefusesSpaced, taken-at-0, SpacingsAccepted, SpacingsRefused, LastReleases, PlanEntries, waits-between, ends-late, stays-open, calls-unmarked, history-unmarked, BoundsMet}
 use Rattle.guarantees.specs.Intervals.{ended}
 use Rattle.guarantees.specs.Entries.{lower-in, handed-in, marked-by}
 use Rattle.guarantees.specs.Queries.{until}
@@ -39,25 +39,46 @@ use Rattle.guarantees.proofs.Demand3.{demand-3}
 
 -- what opening and the calls compute with
 unfoldable computed : Unit {0}
-unfolding Words.numberAt Sets.member Sets.below Sets.collect Sets.union Sets.intersection Sets.difference Sets.insert Sets.remove Entries.task-at Entries.release-at Entries.entry-at
-    Head.outside Head.number-refused Head.mark-or-length-refusal Head.task-refusal Head.with-task Head.with-marked Head.behind-head Head.head-from Head.head-of Head.head-alone Order.better
+unfolding Words.numberAt Sets.member Sets.below Sets.collect Sets.union Sets.intersection Sets.difference Sets.insert Sets.remove Entries.task-at Entries.release-at Entries.spacing-at Entries.entry-at
+    Head.outside Head.number-refused Head.mark-or-length-refusal Head.task-refusal Head.with-task Head.with-marked Head.ticks-refused Head.spacing-refusal Head.with-spacing Head.entry-refusal Head.with-entry Head.marked-with Head.behind-head Head.head-from Head.head-of Head.head-alone Order.better
     Order.highest-below Order.highest Order.higher-than Instant.processor-at Instant.copyout-at Instant.ended Instant.completed Instant.without-done Instant.step-a Instant.promoted Instant.blocks
-    Instant.counted Instant.close Instant.interval-entry Instant.close-stage Instant.step-b Instant.taken Instant.deferred Instant.skipped Instant.stamped Instant.with-candidates Instant.step-c
+    Instant.counted Instant.close Instant.interval-entry Instant.close-stage Instant.step-b Instant.last-release Instant.too-soon Instant.passing Instant.taken Instant.deferred Instant.skipped Instant.stamped Instant.with-candidates Instant.step-c
     Instant.cancel Instant.cancel-by Instant.step-d Instant.choose Instant.choose-if Instant.step-e Instant.begin Instant.step-g Instant.sooner Instant.due Instant.at-a Instant.at-b Instant.taken-at
-    Instant.deferred-at Instant.at-e Instant.at-f Instant.at-g Instant.occurred Calls.opened Calls.opening Calls.unknown Calls.refusal Calls.served Calls.instant History.processor-events
+    Instant.deferred-at Instant.skipped-at Instant.at-e Instant.at-f Instant.at-g Instant.occurred Calls.opened Calls.opening Calls.unknown Calls.refusal Calls.served Calls.instant History.processor-events
     History.processor-events-in History.finish-events History.finish-events-in History.completion-events History.end-events History.take-events History.defer-events History.giving-events
     History.giving-events-in History.begin-events History.execution-events History.start-events History.happens Calls.after-call History.by-call History.after-calls History.history task tasks three
-    plans-table calls-a history-a calls-b history-b calls-c history-c calls-d history-d calls-e history-e calls-f history-f calls-f′ history-f′ calls-waiting history-waiting
+    plans-table spaced-tasks spaced-table calls-a history-a calls-b history-b calls-c history-c calls-d history-d calls-e history-e calls-f history-f calls-f′ history-f′ calls-waiting history-waiting calls-skipped history-skipped calls-third history-third
 computed = tt
 
-opens : (opening tasks .refusal ≡ NoRefusal) × (opening tasks .state .table ≡ plans-table)
+-- the bytes are those of a table
+record Opens (bytes : List ℕ) (table : Table) : Type 0 where
+  served : opening bytes .refusal ≡ NoRefusal
+  read : opening bytes .state .table ≡ table
+
+opens : Opens tasks plans-table
 unfolding computed
-opens = (refl, refl)
+opens = record { served = refl; read = refl }
+
+opens-spaced : Opens (spaced-tasks 5) (spaced-table 5) × Opens (spaced-tasks 6) (spaced-table 6)
+unfolding computed
+opens-spaced = (record { served = refl; read = refl }, record { served = refl; read = refl })
 
 -- the history that some calls make, where they leave nothing due
-record Makes (calls : List Call) (h : List Event) : Type 0 where
-  made : history (opening tasks .state) calls ≡ h
-  at-rest : due (after-calls (opening tasks .state) calls .phase) ≡ Never
+record MakesOf (bytes : List ℕ) (calls : List Call) (h : List Event) : Type 0 where
+  made : history (opening bytes .state) calls ≡ h
+  at-rest : due (after-calls (opening bytes .state) calls .phase) ≡ Never
+
+abbrev Makes : List Call → List Event → Type 0
+Makes = MakesOf tasks
+
+spaced-made : MakesOf (spaced-tasks 5) calls-f history-f × MakesOf (spaced-tasks 6) calls-f′ history-f′ × MakesOf (spaced-tasks 5) calls-skipped history-skipped × MakesOf (spaced-tasks 5) calls-third history-third
+unfolding computed
+spaced-made = (
+  record { made = refl; at-rest = refl },
+  record { made = refl; at-rest = refl },
+  record { made = refl; at-rest = refl },
+  record { made = refl; at-rest = refl },
+)
 
 plans-made : Makes calls-a history-a × Makes calls-b history-b × Makes calls-c history-c × Makes calls-d history-d × Makes calls-e history-e × Makes calls-f history-f × Makes calls-f′ history-f′ × Makes calls-waiting history-waiting
 unfolding computed
@@ -74,19 +95,20 @@ plans-made = (
 
 -- ---- the claim, by the theorem
 
-demand-3-of : (calls : List Call) → Claim (opening tasks .state) calls
-unfolding Demand3
-demand-3-of = demand-3 tasks (opens .0)
+accepts-of : (bytes : List ℕ) (table : Table) → Opens bytes table → (calls : List Call) (h : List Event) → MakesOf bytes calls h → AcceptsOf bytes table calls h
+unfolding Demand3 EmptySets
+accepts-of bytes table o calls h m =
+    let claim : Claim (opening bytes .state) calls = demand-3 bytes (o .served) calls in
+    record {
+      made = m .made;
+      holds = subst (λ (t : Table). Holds t h) (o .read) (subst (λ (x : List Event). Holds (opening bytes .state .table) x) (m .made) (claim .of-the-list));
+      completed =
+          subst AllCompleted (m .made)
+          (subst (λ (x : List Call). AllCompleted (history (opening bytes .state) x)) (append-nil calls) (claim .complete-every-job [] (m .at-rest)));
+    }
 
 accepts : (calls : List Call) (h : List Event) → Makes calls h → Accepts calls h
-unfolding EmptySets
-accepts calls h m = record {
-  made = m .made;
-  holds = subst (λ (t : Table). Holds t h) (opens .1) (subst (λ (x : List Event). Holds (opening tasks .state .table) x) (m .made) (demand-3-of calls .of-the-list));
-  completed =
-      subst AllCompleted (m .made)
-      (subst (λ (x : List Call). AllCompleted (history (opening tasks .state) x)) (append-nil calls) (demand-3-of calls .complete-every-job [] (m .at-rest)));
-}
+accepts = accepts-of tasks plans-table opens
 
 pub plans-accepted : PlansAccepted
 unfolding PlansAccepted
@@ -555,15 +577,72 @@ pub marks : Marks
 unfolding computed Marks marked-by Calls.mark-refusal Calls.mark
 marks = (refl, refl, refl, refl)
 
+-- where no task has a spacing nothing comes too soon
+unsooned : {A B : Type 0} → ((false ≡ true) × A) ⊎ B → (B → ⊥) → ⊥
+unsooned h f = ⊎-elim (λ x. false≢true (x .0)) f h
+
 pub releases-refused : ReleasesRefused
-unfolding ReleasesRefused taken-another up-to-5 history-f after first Sets.member
+unfolding ReleasesRefused taken-another up-to-5 history-f after first Sets.member plans-table three
 releases-refused = (
   λ h. let e : _≡_ {A = ℕ} 1 0 = sym (handed .0) ∙ h .each-handed in omega arith,
   λ h. let e : _≡_ {A = ℕ} 0 1 = sym (handed .1) ∙ h .each-handed in omega arith,
   λ h. ⊎-elim (λ e. false≢true e) (λ w. not-never (w .0) (w .1)) (h .taken-from 0 refl),
-  λ h. let w : (u : ℕ) × (Never ≡ Tick u) = h .skipped-behind refl .0 in not-never (w .0) (w .1),
-  λ h. never-is 6 (h .skipped-behind refl .1),
+  λ h. unsooned (h .skipped-by refl .1) (λ w. not-never (w .0 .0) (w .0 .1)),
+  λ h. unsooned (h .skipped-by refl .1) (λ w. never-is 6 (w .1)),
+  λ h. false≢true (h .skipped-by refl .0),
+  λ h. false≢true (h .behind-skipped refl ((5, refl), refl)),
 )
+
+-- ---- the spacings
+
+-- a release at t that is late enough after the last one, at u, is no sooner
+late-enough : (t gap u v : ℕ) → u + gap ≤ t → Tick u ≡ Tick v → t < v + gap → ⊥
+late-enough t gap u v h e l = let z : u ≡ v = cc in omega arith
+
+pub spacings-accepted : SpacingsAccepted
+unfolding SpacingsAccepted taken-at-0 history-f′ after first Sets.member spaced-table three
+spacings-accepted = (
+  accepts-of (spaced-tasks 5) (spaced-table 5) (opens-spaced .0) calls-f history-f (spaced-made .0),
+  accepts-of (spaced-tasks 6) (spaced-table 6) (opens-spaced .1) calls-f′ history-f′ (spaced-made .1),
+  accepts-of (spaced-tasks 5) (spaced-table 5) (opens-spaced .0) calls-skipped history-skipped (spaced-made .2),
+  accepts-of (spaced-tasks 5) (spaced-table 5) (opens-spaced .0) calls-third history-third (spaced-made .3),
+  record {
+    taken-from = λ u e. inl refl;
+    skipped-by = λ m. absurd (false≢true m);
+    sooner-skipped = λ m x. absurd (late-enough 6 _ 0 (x .1 .0) (omega arith) (x .1 .1) (x .1 .2));
+    behind-skipped = λ m x. absurd (not-never (x .0 .0) (x .0 .1));
+  },
+  record {
+    taken-from = λ u e. absurd (not-never u e);
+    skipped-by = λ m. (refl, inl (refl, (0, refl, omega arith)));
+    sooner-skipped = λ m x. refl;
+    behind-skipped = λ m x. refl;
+  },
+)
+
+-- with any spacing that is longer
+refuses-taken-closer : (s : ℕ) → 6 < s → RefusesSpaced s history-f′
+unfolding history-f′ after Sets.member spaced-table three
+refuses-taken-closer s l h = let m : 0 + s ≤ 6 = h .each-spacing 1 (omega arith) refl .at-taking (take 14 history-f′) (drop 15 history-f′) 6 0 true refl refl refl in omega arith
+
+refuses-waits-sooner : (s : ℕ) → 5 < s → RefusesSpaced s history-f
+unfolding history-f after Sets.member spaced-table three
+refuses-waits-sooner s l h = let m : 0 + s ≤ 5 = h .each-spacing 1 (omega arith) refl .at-waiting (take 11 history-f) (drop 12 history-f) 5 0 refl refl in omega arith
+
+pub spacings-refused : SpacingsRefused
+unfolding SpacingsRefused taken-at-0 history-f history-f′ after first Sets.member spaced-table three
+spacings-refused = (
+  refuses-taken-closer _ (omega arith),
+  refuses-waits-sooner _ (omega arith),
+  λ h. ⊎-elim (λ x. late-enough 6 _ 0 (x .1 .0) (omega arith) (x .1 .1) (x .1 .2)) (λ w. not-never (w .0 .0) (w .0 .1)) (h .skipped-by refl .1),
+  λ h. false≢true (h .sooner-skipped refl (refl, (0, refl, omega arith))),
+  λ h. false≢true (h .sooner-skipped refl (refl, (0, refl, omega arith))),
+  λ h. ⊎-elim (λ x. late-enough 10 _ 5 (x .1 .0) (omega arith) (x .1 .1) (x .1 .2)) (λ w. not-never (w .0 .0) (w .0 .1)) (h .skipped-by refl .1),
+)
+
+pub last-releases : LastReleases
+unfolding LastReleases up-to-5 history-f history-f′ after
+last-releases = (refl, refl, refl, refl, refl, refl)
 
 -- ---- the entries of intervals
 

@@ -16,7 +16,8 @@ use Rattle.rules.specs.declared.Call.the-variants.{Instant, Mark}
 use Rattle.guarantees.specs.History.{Event, Comes, Starts, Stops, Finishes, Completes, Ends, Takes, Defers, GivesWay, Begins, history}
 use Rattle.entries.specs.declared.JobEntry.{JobEntry}
 use Rattle.entries.specs.declared.IntervalEntry.{IntervalEntry}
-use Rattle.guarantees.specs.Queries.{situation, NoneOpen, intervals, met}
+use Rattle.rules.specs.declared.Due.the-variants.{Never, Tick}
+use Rattle.guarantees.specs.Queries.{situation, NoneOpen, intervals, met, last-released}
 use Rattle.guarantees.specs.Figure.{overtaking}
 use Rattle.guarantees.specs.Releases.{Balance, Placed}
 use Rattle.guarantees.specs.Intervals.{no-course, ended}
@@ -36,8 +37,19 @@ tasks = task 1 1 1 2 3 1 ++ (task 2 2 0 2 4 1 ++ task 3 3 0 2 5 2)
 unfoldable pub three : ℕ → ℕ → ℕ → List ℕ
 three a b c = 0 ∷ a ∷ b ∷ c ∷ replicate 28 0
 
+-- L, C and U of each
+abbrev pub lengths : List ℕ
+lengths = three 2 2 2 ++ (three 3 4 5 ++ three 1 1 2)
+
 unfoldable pub plans-table : Table
-plans-table = record { present = 14; priority = three 1 2 3; columns = three 2 2 2 ++ (three 3 4 5 ++ three 1 1 2) }
+plans-table = record { present = 14; spaced = 0; priority = three 1 2 3; columns = lengths ++ three 0 0 0 }
+
+-- 8/13: the same tasks, where task 1 has a spacing of s ticks
+unfoldable pub spaced-tasks : ℕ → List ℕ
+spaced-tasks s = tasks ++ (3 ∷ 1 ∷ s ∷ 0 ∷ 0 ∷ 0 ∷ [])
+
+unfoldable pub spaced-table : ℕ → Table
+spaced-table s = record { present = 14; spaced = 2; priority = three 1 2 3; columns = lengths ++ three s 0 0 }
 
 -- ---- The plans: the calls, the empty sets at the due times among them, and the history, an instant a line
 
@@ -159,11 +171,14 @@ history-waiting =
     Comes 16 ∷ Stops 1 16 ∷ Ends 16 ∷ Begins 16 NoTask (Task 1) ∷
     Comes 17 ∷ Completes 1 17 ∷ Ends 17 ∷ []
 
--- the calls make the history, and the claim holds of it
-pub record Accepts (calls : List Call) (h : List Event) : Type 0 where
-  pub made : history (opening tasks .state) calls ≡ h
-  pub holds : Holds plans-table h
+-- of the table that these bytes are, the calls make the history, and the claim holds of it
+pub record AcceptsOf (bytes : List ℕ) (table : Table) (calls : List Call) (h : List Event) : Type 0 where
+  pub made : history (opening bytes .state) calls ≡ h
+  pub holds : Holds table h
   pub completed : AllCompleted h
+
+abbrev pub Accepts : List Call → List Event → Type 0
+Accepts = AcceptsOf tasks plans-table
 
 unfoldable pub PlansAccepted : Type 0
 PlansAccepted =
@@ -746,21 +761,104 @@ taken-another =
 
 -- plan F up to 5, where the release at 5 waits
 unfoldable pub up-to-5 : List Event
-up-to-5 = take 14 history-f
+up-to-5 = take 13 history-f
 
--- an instant that hands in a set, skips some of it and has these events, behind a history
-abbrev pub At : ℕ → ℕ → List Event → List Event → Type 0
-At = Placed 1
+-- an instant at a tick that hands in a set, skips some of it and has these events, behind a history
+abbrev pub At : ℕ → ℕ → ℕ → List Event → List Event → Type 0
+At = Placed 1 plans-table
 
--- refused: a taking of a task that is neither in the set nor waits; a release that is skipped where none waits; and one that is skipped
--- at the taking
+-- refused: a taking of a task that is neither in the set nor waits; a release that is skipped where none waits, one that is skipped at the
+-- taking, and one that is skipped and was not handed in; and one that finds one waiting and is not skipped
 unfoldable pub ReleasesRefused : Type 0
 ReleasesRefused =
     (Balance 1 (handed-in 1 (opening tasks .state) calls-one) 0 taken-another → ⊥)
     × (Balance 2 (handed-in 2 (opening tasks .state) calls-one) 0 taken-another → ⊥)
-    × (At 0 0 [] (Comes 0 ∷ Takes 1 0 true ∷ []) → ⊥)
-    × (At 2 2 [] (Comes 0 ∷ []) → ⊥)
-    × (At 2 2 up-to-5 (Comes 6 ∷ Completes 1 6 ∷ Takes 1 6 true ∷ []) → ⊥)
+    × (At 0 0 0 [] (Comes 0 ∷ Takes 1 0 true ∷ []) → ⊥)
+    × (At 0 2 2 [] (Comes 0 ∷ []) → ⊥)
+    × (At 6 2 2 up-to-5 (Comes 6 ∷ Completes 1 6 ∷ Takes 1 6 true ∷ []) → ⊥)
+    × (At 6 0 2 up-to-5 (Comes 6 ∷ []) → ⊥)
+    × (At 6 2 0 up-to-5 (Comes 6 ∷ []) → ⊥)
+
+-- ---- 8/13: the spacings
+
+-- plan F with a release of task 1 at 3 that comes too soon: the one at 5 comes sooner than a spacing of 5 after that one only
+unfoldable pub calls-skipped : List Call
+calls-skipped = Instant 0 2 ∷ Instant 2 0 ∷ Instant 3 2 ∷ Instant 5 2 ∷ Instant 6 0 ∷ Instant 8 0 ∷ Instant 11 0 ∷ Instant 12 0 ∷ []
+
+unfoldable pub history-skipped : List Event
+history-skipped = take 8 history-f ++ (Comes 3 ∷ drop 8 history-f)
+
+-- plan F with a third release, at 10: a spacing of 5 after the original time of the second, which was taken at 6
+unfoldable pub calls-third : List Call
+calls-third =
+    Instant 0 2 ∷ Instant 2 0 ∷ Instant 5 2 ∷ Instant 6 0 ∷ Instant 8 0 ∷ Instant 10 2 ∷ Instant 11 0 ∷ Instant 12 0 ∷
+    Instant 14 0 ∷ Instant 17 0 ∷ Instant 18 0 ∷ []
+
+unfoldable pub history-third : List Event
+history-third =
+    take 21 history-f ++ (
+    Comes 10 ∷ Defers 1 10 ∷
+    Comes 11 ∷ Stops 1 11 ∷ Ends 11 ∷ Begins 11 NoTask (Task 1) ∷
+    Comes 12 ∷ Completes 1 12 ∷ Takes 1 12 true ∷
+    Comes 14 ∷ Finishes 1 ∷ Ends 14 ∷ Begins 14 (Task 1) NoTask ∷ Starts 1 14 ∷
+    Comes 17 ∷ Stops 1 17 ∷ Ends 17 ∷ Begins 17 NoTask (Task 1) ∷
+    Comes 18 ∷ Completes 1 18 ∷ Ends 18 ∷ [])
+
+-- where task 1 has a spacing of s
+abbrev pub AcceptsSpaced : ℕ → List Call → List Event → Type 0
+AcceptsSpaced s = AcceptsOf (spaced-tasks s) (spaced-table s)
+
+abbrev pub RefusesSpaced : ℕ → List Event → Type 0
+RefusesSpaced s h = Holds (spaced-table s) h → ⊥
+
+abbrev pub AtSpaced : ℕ → ℕ → ℕ → ℕ → List Event → List Event → Type 0
+AtSpaced s = Placed 1 (spaced-table s)
+
+-- plan F' up to 5, with one release of task 1, at 0
+unfoldable pub taken-at-0 : List Event
+taken-at-0 = take 12 history-f′
+
+-- what occurs at 6, where its job completes: a release is taken, or none is
+abbrev pub takes-at-6 : List Event
+takes-at-6 = Comes 6 ∷ Completes 1 6 ∷ Takes 1 6 true ∷ []
+
+abbrev pub none-at-6 : List Event
+none-at-6 = Comes 6 ∷ Completes 1 6 ∷ Ends 6 ∷ []
+
+-- accepted: a release that is set waiting, and one that is taken, exactly one spacing after the last; one that comes sooner than a skipped
+-- one only; one that comes after one that waited, by its original time; and at an instant one exactly one spacing later that is taken, one
+-- a tick sooner that is skipped
+unfoldable pub SpacingsAccepted : Type 0
+SpacingsAccepted =
+    AcceptsSpaced 5 calls-f history-f
+    × AcceptsSpaced 6 calls-f′ history-f′
+    × AcceptsSpaced 5 calls-skipped history-skipped
+    × AcceptsSpaced 5 calls-third history-third
+    × AtSpaced 6 6 2 0 taken-at-0 takes-at-6
+    × AtSpaced 7 6 2 2 taken-at-0 none-at-6
+
+-- refused, of histories that all other lines accept, since the plans' table has no spacing: two releases taken closer than the spacing; and
+-- one that is set waiting too soon, though it is taken exactly one spacing after the last. And at an instant: one that is skipped although
+-- it came exactly one spacing after the last and none waits; one that came a tick sooner and was taken; one that was set waiting too soon;
+-- and one that is skipped since it is measured from the taking of the one that waited, at 6, and not from its original time
+unfoldable pub SpacingsRefused : Type 0
+SpacingsRefused =
+    RefusesSpaced 7 history-f′
+    × RefusesSpaced 6 history-f
+    × (AtSpaced 6 6 2 2 taken-at-0 none-at-6 → ⊥)
+    × (AtSpaced 7 6 2 0 taken-at-0 takes-at-6 → ⊥)
+    × (AtSpaced 5 4 2 0 (take 8 history-f) (Comes 4 ∷ Defers 1 4 ∷ []) → ⊥)
+    × (AtSpaced 5 10 2 2 (take 21 history-f) (Comes 10 ∷ []) → ⊥)
+
+-- the last release by original time: of plan F the one that waited, while it waits and from its taking on
+unfoldable pub LastReleases : Type 0
+LastReleases =
+    (last-released 1 [] ≡ Never)
+    × (last-released 1 (take 8 history-f) ≡ Tick 0)
+    × (last-released 1 up-to-5 ≡ Tick 5)
+    × (last-released 1 history-f ≡ Tick 5)
+    × (last-released 1 history-f′ ≡ Tick 6)
+    × (last-released 2 history-f ≡ Never)
 
 -- ---- The marks
 

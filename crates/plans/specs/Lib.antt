@@ -4,6 +4,7 @@ pub mod Waiting
 pub mod Desks
 pub mod Sharp
 pub mod Refusals
+pub mod Spacings
 pub mod Runs
 pub mod Waveforms
 pub mod Table

@@ -12,6 +12,10 @@ use Rattle.plans.specs.Rows.{Row, recorded, refused, answered}
 unfoldable pub task : ℕ → ℕ → ℕ → ℕ → ℕ → ℕ → List ℕ
 task n p m l c u = 1 ∷ n ∷ p ∷ m ∷ (bytesOf 4 l ++ (bytesOf 4 c ++ bytesOf 4 u))
 
+-- task, ticks (8/13)
+unfoldable pub spacing : ℕ → ℕ → List ℕ
+spacing n ticks = 3 ∷ n ∷ bytesOf 4 ticks
+
 -- time, task
 unfoldable pub release : ℕ → ℕ → List ℕ
 release t n = 2 ∷ n ∷ bytesOf 8 t

@@ -67,7 +67,7 @@ called-state d [] = d
 called-state d (c ∷ cs) = called-state (after-call d c) cs
 
 unfoldable pub with-put : State → ℕ → ℕ → State
-with-put d n t = with-waiting d (record { tasks = insert n 0; times = replicate 32 t })
+with-put d n t = with-waiting d (record { tasks = insert n 0; times = replicate 32 t; before = d .waiting .before })
 
 abbrev pub candidates-in : Phase → ℕ
 candidates-in (Between next outgoing) = 0

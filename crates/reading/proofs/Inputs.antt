@@ -2,6 +2,7 @@
 -- Assumes nothing.
 use mathlib.Core.Path.{_≡_, refl, sym, ap, ap₂, _∙_, subst}
 use mathlib.Core.List.{append-assoc}
+use mathlib.Core.Logic.{inr}
 use Prim.Native.Nat.{zero, _-_, _^_, _≤_, _<_}
 use native.Mathlib.Omega.{arith}
 use borrow.Author.Tests.{eq-eqb, leb-true, leb-false}
@@ -11,13 +12,12 @@ use lib.Seq.{length-take-le, take-append-seam, getD-append-seam}
 use Rattle.sets.proofs.Laws.{by-test}
 use Rattle.words.specs.Words.{bytesOf, numberAt}
 use Rattle.words.proofs.Laws.{one-byte}
-use Rattle.entries.specs.Entries.{size, entry-at, release-bytes}
+use Rattle.entries.specs.Entries.{size, entry-at, entry-size, release-bytes}
 use Rattle.entries.specs.Limits as limits
-use Rattle.entries.proofs.Front.{entry-in-front}
 use Rattle.entries.proofs.RoundTrip.{release-there}
-use Rattle.table.specs.Head.{no-table, behind-head, task-refusal, with-task, with-marked, head-from, head-of, head-alone}
-use Rattle.table.proofs.Laws.{behind-end, behind-release, task-whole, at-end, malformed, released, refuses, takes}
-use Rattle.table.proofs.Front.{head-short, behind-in-front}
+use Rattle.table.specs.Head.{no-table, behind-head, entry-refusal, with-entry, marked-with, head-from, head-of, head-alone}
+use Rattle.table.proofs.Laws.{behind-end, behind-release, is-whole, at-end, refuses, takes}
+use Rattle.table.proofs.Front.{head-short, behind-in-front, alike}
 use Rattle.table.proofs.Alone.{Whole, whole-head}
 use Rattle.table.proofs.Alone as Alone
 use Rattle.rules.specs.Calls.{opening}
@@ -25,7 +25,7 @@ use Rattle.guarantees.specs.Types.{Table, Head}
 use Rattle.run.specs.Files.{Releases, refusal-of, releases-of}
 use Rattle.run.specs.Listed.{releases-at}
 use Rattle.run.proofs.Listing.{here, none}
-use Rattle.record.specs.Types.{TaskParameters, Entry, Malformed, TaskEntry, ReleaseEntry, NoneBefore}
+use Rattle.record.specs.Types.{Entry, NoneBefore}
 use Rattle.record.proofs.Accepted.{Accepted, accepted}
 use Rattle.record.proofs.Outcomes
 use Rattle.record.proofs.TasksAlone.{unlike}
@@ -73,31 +73,29 @@ module _ (s : List ℕ) (e : ℕ) (inside : e ≤ length s) (behind : behind-hea
   tasks-on (suc k) (suc j) at t m r l f g x y z =
       by-test (leb e at)
       (λ b. stop (suc k) (suc j) at t m r (omega (arith, leb-true e at b)) x)
-      (λ b. go (leb-false e at b) (λ p w h. tasks-on k j (at + size 1) (with-task t p) (with-marked m p) r w (omega arith) (omega arith) h y z))
+      (λ b. go (leb-false e at b)
+      (λ some w h. tasks-on k j (at + entry-size i) (with-entry t i) (marked-with m i) r w (omega arith) (omega arith) h y z))
     where
+      i : Entry
+      i = entry-at (take e s) at
+
       More : Type 0
-      More = (p : TaskParameters) → at + size 1 ≤ e → head-from k (take e s) (at + size 1) (with-task t p) (with-marked m p) ≡ r
-          → head-from j s (at + size 1) (with-task t p) (with-marked m p) ≡ r
+      More = 0 < entry-size i → at + entry-size i ≤ e → head-from k (take e s) (at + entry-size i) (with-entry t i) (marked-with m i) ≡ r
+          → head-from j s (at + entry-size i) (with-entry t i) (marked-with m i) ≡ r
 
-      go-task : at + size 1 ≤ e → behind-head (take e s) at ≡ false → behind-head s at ≡ false → (p : TaskParameters) (n : ℕ) → entry-at (take e s) at ≡ TaskEntry p
-          → task-refusal t p ≡ n → More → head-from (suc j) s at t m ≡ r
-      go-task w b c p zero h q more =
-          takes s at t m j c p (sym (entry-in-front s e inside at w) ∙ h) q ∙ more p w (sym (takes (take e s) at t m k b p h q) ∙ x)
-      go-task w b c p (suc n) h q more = absurd (unlike r (suc n) at (sym (refuses (take e s) at t m k b p (suc n) h q (omega arith)) ∙ x) y)
-
-      go-entry : at < e → behind-head (take e s) at ≡ false → behind-head s at ≡ false → (i : Entry) → entry-at (take e s) at ≡ i → More
-          → head-from (suc j) s at t m ≡ r
-      go-entry l b c (Malformed n) h more = absurd (unlike r n at (sym (malformed (take e s) at t m k b n h) ∙ x) y)
-      go-entry l b c (ReleaseEntry q) h more = absurd (omega (arith, ap (λ (i : Head). i .end) (sym (released (take e s) at t m k b q h) ∙ x)))
-      go-entry l b c (TaskEntry p) h more =
-          go-task (omega (arith, task-whole (take e s) at p h, length-take-le e s inside)) b c p (task-refusal t p) h refl more
+      go-entry : behind-head (take e s) at ≡ false → behind-head s at ≡ false → (n : ℕ) → entry-refusal t i ≡ n → More → head-from (suc j) s at t m ≡ r
+      go-entry b c zero q more =
+          let w = is-whole (take e s) at t i refl q in
+          let room : at + entry-size i ≤ e = omega (arith, w .some, w .within, length-take-le e s inside) in
+          takes s at t m j c i (sym (alike s e inside at i (w .some) room (inr refl))) q ∙ more (w .some) room (sym (takes (take e s) at t m k b i refl q) ∙ x)
+      go-entry b c (suc n) q more = absurd (unlike r (suc n) at (sym (refuses (take e s) at t m k b i refl (suc n) q (omega arith)) ∙ x) y)
 
       go : at < e → More → head-from (suc j) s at t m ≡ r
       go l more =
           let same : behind-head (take e s) at ≡ behind-head s at = behind-in-front s e inside at l in
           by-test (behind-head s at)
           (λ b. at-end s at t m (suc j) b ∙ sym (at-end (take e s) at t m (suc k) (same ∙ b)) ∙ x)
-          (λ b. go-entry l (same ∙ b) b (entry-at (take e s) at) refl more)
+          (λ b. go-entry (same ∙ b) b (entry-refusal t i) refl more)
 
 -- behind task entries a list's entries begin with a release
 list-behind : (tasks : List ℕ) (rs : List Release) → behind-head (input-of tasks rs) (length tasks) ≡ true

@@ -8,20 +8,20 @@ use borrow.Author.Tests.{eqb-true, eqb-false}
 use lib.Dec.{eqb}
 use lib.ListN.{length, getD}
 use Rattle.sets.specs.Sets.{member, union, insert, bit}
-use Rattle.sets.proofs.Laws.{by-test, united, same-task, member-task}
+use Rattle.sets.proofs.Laws.{by-test, united, same-task, member-task, count-sum}
 use Rattle.table.specs.Head.{head-of}
 use Rattle.rules.specs.With.{at-clock}
 use Rattle.rules.specs.Order.{highest-of}
-use Rattle.rules.specs.Instant.{completed, after-done, without-done, step-a, close, step-b, taken, deferred, skipped, original, stamped, step-c, cancel, step-d, choose, step-e, begin, step-g, fresh-stage, at-a, at-b, taken-at, deferred-at, at-e, at-f, at-g, occurred}
+use Rattle.rules.specs.Instant.{completed, after-done, without-done, step-a, close, step-b, too-soon, passing, taken, deferred, skipped, original, stamped, step-c, cancel, step-d, choose, step-e, begin, step-g, fresh-stage, at-a, at-b, taken-at, deferred-at, skipped-at, at-e, at-f, at-g, occurred}
 use Rattle.rules.specs.Calls.{opened, after-call}
-use Rattle.guarantees.specs.Types.{_≡_, refl, sym, ap, _∙_, subst, Bool, true, false, cond, _&&_, _||_, List, [], _∷_, ℕ, _+_, _<_, Table, Jobs, WaitingReleases, MaybeTask, NoTask, Task, CopyOut, NoCopyOut, CopyingOut, CopiedOut, Interval, Phase, Between, Within, State, Done, Stage, Call, Instant, Step}
+use Rattle.guarantees.specs.Types.{_≡_, refl, sym, ap, _∙_, subst, Bool, true, false, cond, not, _&&_, _||_, List, [], _∷_, ℕ, _+_, _<_, Table, Jobs, WaitingReleases, MaybeTask, NoTask, Task, CopyOut, NoCopyOut, CopyingOut, CopiedOut, Interval, Phase, Between, Within, State, Done, Stage, Call, Instant, Step}
 use mathlib.Core.List.{_++_}
 use Rattle.guarantees.specs.History.{after-calls}
 use Rattle.guarantees.specs.States.{copyout-known}
 use Rattle.guarantees.proofs.Cases.{held-at, b-cases, d-cases, e-cases, g-cases}
 use Rattle.guarantees.proofs.Proper.{Fair}
 use Rattle.guarantees.proofs.Places.{copyout-bit, Parted}
-use Rattle.guarantees.proofs.Releases.{waits-after, is-taken, is-deferred, is-skipped, is-waiting, taken-member, deferred-member, skipped-member, waits-member}
+use Rattle.guarantees.proofs.Releases.{soon-at, too-soon-member, passing-member, waits-after, is-taken, is-deferred, is-skipped, is-waiting, taken-member, deferred-member, skipped-member, waits-member}
 use Rattle.guarantees.proofs.Tallies.{stamped-length, stamped-exact}
 use Rattle.guarantees.proofs.Closings.{done-so}
 use Rattle.run.specs.Files.{Releases, releases-of}
@@ -181,10 +181,44 @@ module _ (test : Release → Bool) where
       parts false false true n x y = omega arith
       parts false false false n x y = omega arith
 
+  -- 8/13: of those that are handed in some pass, and the others come too soon and are skipped
+  passing-apart : (d : State) (t set : ℕ) → among test set (λ n. t) ≡ among test (passing d t set) (λ n. t) + among test (too-soon d t set) (λ n. t)
+  unfolding among
+  passing-apart d t set =
+      count-sum 32 (λ n. member n set && hits test t n) (λ n. member n (passing d t set) && hits test t n) (λ n. member n (too-soon d t set) && hits test t n)
+      (λ n l. rw (passing-member d t set n l, too-soon-member d t set n l) (go (member n set) (soon-at d t n) (hits test t n)))
+    where
+      go : (s x h : Bool) → bit (s && h) ≡ bit ((s && not x) && h) + bit ((s && x) && h)
+      go true true true = refl
+      go true true false = refl
+      go true false true = refl
+      go true false false = refl
+      go false x h = refl
+
+  skipped-apart : (d : State) (t set : ℕ)
+      → among test (union (too-soon d t set) (skipped d (passing d t set))) (λ n. t) ≡ among test (too-soon d t set) (λ n. t) + among test (skipped d (passing d t set)) (λ n. t)
+  unfolding among
+  skipped-apart d t set =
+      let late : ℕ = skipped d (passing d t set) in
+      count-sum 32 (λ n. member n (union (too-soon d t set) late) && hits test t n) (λ n. member n (too-soon d t set) && hits test t n) (λ n. member n late && hits test t n)
+      (λ n l. rw (united (too-soon d t set) late n l, too-soon-member d t set n l, skipped-member d (passing d t set) n l, passing-member d t set n l)
+      (go (member n (d .jobs .pending)) (member n (d .waiting .tasks)) (member n set) (soon-at d t n) (hits test t n)))
+    where
+      go : (p w s x h : Bool) → bit (((s && x) || is-skipped p w (s && not x)) && h) ≡ bit ((s && x) && h) + bit (is-skipped p w (s && not x) && h)
+      go true true true true h = omega arith
+      go true true true false h = omega arith
+      go true true false x h = omega arith
+      go true false true true h = omega arith
+      go true false true false h = omega arith
+      go true false false x h = omega arith
+      go false w true true h = omega arith
+      go false w true false h = omega arith
+      go false w false x h = omega arith
+
   -- an instant
   instant-leaves : (present : ℕ) (tasks : present < 2 ^ 32) (d : State) (t set : ℕ) → Parted present tasks d (d .phase) → Long (held d)
       → tally test (moment-told (moment d t set)) + held-with (held (at-g d t set)) ≡ held-with (held d) + among test set (λ n. t)
-  unfolding moment-told occurred taken-at deferred-at
+  unfolding moment-told occurred taken-at deferred-at skipped-at
   instant-leaves present tasks d t set h long =
       let a : Stage = at-a d t in
       let b : State = at-b d t .state in
@@ -192,10 +226,12 @@ module _ (test : Release → Bool) where
       unfold at-a in a-leaves present tasks (at-clock d t) t (d .phase) (record { few = h .few; marks = h .marks; pending = h .pending; ready = h .ready; waits = h .waits; known = h .known; parts = h .parts }) in
       omega (
         arith,
-        tally-append test (done-told (at-b d t .done)) (skips-told 32 (skipped b set) t),
-        skips-tally test (skipped b set) t,
+        tally-append test (done-told (at-b d t .done)) (skips-told 32 (union (too-soon b t set) (skipped b (passing b t set))) t),
+        skips-tally test (union (too-soon b t set) (skipped b (passing b t set))) t,
+        skipped-apart b t set,
+        passing-apart b t set,
         ap (λ (o : Done). tally test (done-told o)) (done-so d t set),
-        c-leaves b t set (b-long d t long),
+        c-leaves b t (passing b t set) (b-long d t long),
         ap held-with (held-b d t),
         ap held-with (held-g d t set),
       )

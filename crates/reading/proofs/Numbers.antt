@@ -1,25 +1,33 @@
--- Task entries and a record's entries are refused by numbers from 1 to 12: neither 13 nor 18 is one of theirs. Assumes nothing.
+-- The entries of a head and of a record are refused by numbers of their own: neither 13 nor 18 is one of theirs. Assumes nothing.
 use mathlib.Core.Path.{_≡_, refl, sym, subst}
-use mathlib.Core.Bool.{_||_}
+use mathlib.Core.Bool.{not, _||_}
+use Rattle.sets.specs.Sets.{member}
 use Prim.Native.Nat.{_-_, _<_}
 use native.Mathlib.Omega.{arith}
 use lib.Dec.{eqb, leb, ltb}
 use lib.ListN.{length}
 use Rattle.sets.proofs.Laws.{by-test}
 use Rattle.words.specs.Words.{numberAt}
-use Rattle.entries.specs.Entries.{task-at, release-at, entry-at, job-at, interval-at, record-entry-at, record-entry-size}
+use Rattle.entries.specs.Entries.{task-at, release-at, spacing-at, entry-at, entry-size, job-at, interval-at, record-entry-at, record-entry-size}
 use Rattle.table.specs.Refusals.{refusal-number}
-use Rattle.table.specs.Head.{no-table, outside, number-refused, mark-or-length-refusal, task-refusal, with-task, with-marked, refused, behind-head, head-from, head-of, with-nothing-behind, head-alone}
-use Rattle.table.proofs.Laws.{at-end, malformed, released, refuses, takes}
+use Rattle.table.specs.Head.{no-table, outside, number-refused, mark-or-length-refusal, after-spacings, task-refusal, ticks-refused, spacing-refusal, entry-refusal, with-entry, marked-with, refused, behind-head, head-from, head-of, with-nothing-behind, head-alone}
+use Rattle.table.proofs.Laws.{at-end, refuses, takes}
 use Rattle.rules.specs.Calls.{opening}
 use Rattle.guarantees.specs.Types.{Table, Head}
 use Rattle.run.specs.Files.{Checked, Rejected, Releases, with-release}
-use Rattle.record.specs.Types.{TaskParameters, Entry, Malformed, TaskEntry, ReleaseEntry}
+use Rattle.record.specs.Types.{TaskParameters, Spacing, Entry, Malformed, TaskEntry, ReleaseEntry, SpacingEntry}
 use Rattle.reading.specs.Types.{Bool, true, false, cond, List, [], ℕ, zero, suc, _+_, Release, Refusal, NoRefusal, Alone, AtEntry, RecordEntry, MalformedRecord, JobDone, IntervalEnded, ReleaseSkipped}
 use Rattle.reading.specs.Told.{release-of, told-by, told-from, told}
 
+-- neither 13 nor 18
+abbrev Other : ℕ → Type 0
+Other n = (n ≡ 13 → ⊥) × (n ≡ 18 → ⊥)
+
 abbrev pub Low : ℕ → Type 0
-Low n = (0 < n) × (n < 13)
+Low n = (0 < n) × (n ≡ 13 → ⊥) × (n ≡ 18 → ⊥)
+
+low : (n : ℕ) → 0 < n → n < 13 → Low n
+low n h l = (h, (λ e. omega arith), (λ e. omega arith))
 
 -- no refusal, or one by such a number
 abbrev pub RefusalLow : Refusal → Type 0
@@ -32,30 +40,35 @@ either : {A : Type 0} (P : A → Type 0) (b : Bool) (x y : A) → P x → P y �
 either P true x y h g = h
 either P false x y h g = g
 
--- ---- task entries
+-- ---- the entries of a head
 
-abbrev EntryLow : Entry → Type 0
-EntryLow (Malformed n) = Low n
-EntryLow (TaskEntry p) = Unit {0}
-EntryLow (ReleaseEntry r) = Unit {0}
+other : (n : ℕ) → n < 13 → Other n
+other n l = ((λ e. omega arith), (λ e. omega arith))
 
-entry-low : (s : List ℕ) (at : ℕ) → EntryLow (entry-at s at)
-unfolding entry-at
-entry-low s at =
+abbrev EntryOther : Table → Entry → Type 0
+EntryOther t x = Other (entry-refusal t x)
+
+entry-other : (t : Table) (s : List ℕ) (at : ℕ) → EntryOther t (entry-at s at)
+unfolding entry-at entry-refusal task-refusal mark-or-length-refusal spacing-refusal
+entry-other t s at =
     let kind : ℕ = numberAt 1 s at in
     let n : ℕ = length s - at in
-    either EntryLow (eqb kind 1) (cond (leb 16 n) (TaskEntry (task-at s at)) (Malformed 1)) _
-    (either EntryLow (leb 16 n) (TaskEntry (task-at s at)) (Malformed 1) tt (omega arith))
-    (either EntryLow (eqb kind 2) (cond (leb 10 n) (ReleaseEntry (release-at s at)) (Malformed 1)) (Malformed 2)
-    (either EntryLow (leb 10 n) (ReleaseEntry (release-at s at)) (Malformed 1) tt (omega arith)) (omega arith))
-
-task-low : (t : Table) (p : TaskParameters) → task-refusal t p < 13
-unfolding task-refusal mark-or-length-refusal
-task-low t p =
-    let Few : ℕ → Type 0 = λ n. n < 13 in
+    let cut : Other 1 = other 1 (omega arith) in
+    let none : Other 0 = other 0 (omega arith) in
+    let p : TaskParameters = task-at s at in
+    let x : Spacing = spacing-at s at in
     let lengths : Bool = outside (p .copyin) || (outside (p .execution) || outside (p .copyout)) in
-    either Few (number-refused (t .present) (p .number)) 4 _ (omega arith)
-    (either Few (ltb 1 (p .mark)) 6 _ (omega arith) (either Few lengths 7 0 (omega arith) (omega arith)))
+    either (EntryOther t) (eqb kind 1) _ _
+    (either (EntryOther t) (leb 16 n) (TaskEntry p) (Malformed 1)
+    (either Other (after-spacings (t .spaced)) 3 _ (other 3 (omega arith))
+    (either Other (number-refused (t .present) (p .number)) 4 _ (other 4 (omega arith))
+    (either Other (ltb 1 (p .mark)) 6 _ (other 6 (omega arith)) (either Other lengths 7 0 (other 7 (omega arith)) none)))) cut)
+    (either (EntryOther t) (eqb kind 2) _ _ (either (EntryOther t) (leb 10 n) (ReleaseEntry (release-at s at)) (Malformed 1) (other 2 (omega arith)) cut)
+    (either (EntryOther t) (eqb kind 3) _ (Malformed 2)
+    (either (EntryOther t) (leb 6 n) (SpacingEntry x) (Malformed 1)
+    (either Other (not (member (x .task) (t .present))) 8 _ (other 8 (omega arith))
+    (either Other (ticks-refused (t .spaced) x) 19 0 ((λ e. omega arith), (λ e. omega arith)) none)) cut)
+    (other 2 (omega arith))))
 
 abbrev HeadLow : Head → Type 0
 HeadLow k = RefusalLow (k .refusal)
@@ -65,19 +78,15 @@ tasks-low zero s at t m = unfold head-from in tt
 tasks-low (suc k) s at t m =
     by-test (behind-head s at)
     (λ b. subst HeadLow (sym (at-end s at t m (suc k) b)) tt)
-    (λ b. go b (entry-at s at) refl (entry-low s at) (λ p. tasks-low k s (at + 16) (with-task t p) (with-marked m p)))
+    (λ b. go b (entry-refusal t x) refl (tasks-low k s (at + entry-size x) (with-entry t x) (marked-with m x)))
   where
-    More : Type 0
-    More = (p : TaskParameters) → HeadLow (head-from k s (at + 16) (with-task t p) (with-marked m p))
+    x : Entry
+    x = entry-at s at
 
-    go-task : behind-head s at ≡ false → (p : TaskParameters) (n : ℕ) → entry-at s at ≡ TaskEntry p → task-refusal t p ≡ n → More → HeadLow (head-from (suc k) s at t m)
-    go-task b p zero e r more = subst HeadLow (sym (takes s at t m k b p e r)) (more p)
-    go-task b p (suc n) e r more = subst HeadLow (sym (refuses s at t m k b p (suc n) e r (omega arith))) (omega arith, omega (arith, task-low t p))
-
-    go : behind-head s at ≡ false → (i : Entry) → entry-at s at ≡ i → EntryLow (entry-at s at) → More → HeadLow (head-from (suc k) s at t m)
-    go b (Malformed n) e l more = subst HeadLow (sym (malformed s at t m k b n e)) (subst EntryLow e l)
-    go b (ReleaseEntry q) e l more = subst HeadLow (sym (released s at t m k b q e)) tt
-    go b (TaskEntry p) e l more = go-task b p (task-refusal t p) e refl more
+    go : behind-head s at ≡ false → (n : ℕ) → entry-refusal t x ≡ n → HeadLow (head-from k s (at + entry-size x) (with-entry t x) (marked-with m x))
+        → HeadLow (head-from (suc k) s at t m)
+    go b zero r more = subst HeadLow (sym (takes s at t m k b x refl r)) more
+    go b (suc n) r more = subst HeadLow (sym (refuses s at t m k b x refl (suc n) r (omega arith))) (let o : Other (suc n) = subst Other r (entry-other t s at) in (omega arith, o .0, o .1))
 
 pub opening-low : (tasks : List ℕ) → RefusalLow (opening tasks .refusal)
 unfolding opening head-alone
@@ -85,9 +94,9 @@ opening-low tasks = go (eqb (length tasks) 0) (eqb (head-of tasks .end) (length 
   where
     go : (b e : Bool) (r : Refusal) → eqb (head-of tasks .end) (length tasks) ≡ e → HeadLow (head-of tasks)
         → HeadLow (cond b (refused (Alone 12)) (with-nothing-behind (head-of tasks) (length tasks) r))
-    go true e r x l = omega arith
+    go true e r x l = low 12 (omega arith) (omega arith)
     go false true NoRefusal x l = rw x l
-    go false false NoRefusal x l = rw x (omega arith)
+    go false false NoRefusal x l = rw x (low 2 (omega arith) (omega arith))
     go false e (Alone n) x l = l
     go false e (AtEntry n at) x l = l
 
@@ -104,9 +113,9 @@ unfolding record-entry-at
 record-low s at =
     let kind : ℕ = numberAt 1 s at in
     let n : ℕ = length s - at in
-    either RecordLow (eqb kind 16) _ _ (either RecordLow (leb 27 n) (JobDone (job-at s at)) (MalformedRecord 1) tt (omega arith))
-    (either RecordLow (eqb kind 17) _ _ (either RecordLow (leb 24 n) (IntervalEnded (interval-at s at)) (MalformedRecord 1) tt (omega arith))
-    (either RecordLow (eqb kind 18) _ (MalformedRecord 2) (either RecordLow (leb 10 n) (ReleaseSkipped (release-at s at)) (MalformedRecord 1) tt (omega arith)) (omega arith)))
+    either RecordLow (eqb kind 16) _ _ (either RecordLow (leb 27 n) (JobDone (job-at s at)) (MalformedRecord 1) tt (low 1 (omega arith) (omega arith)))
+    (either RecordLow (eqb kind 17) _ _ (either RecordLow (leb 24 n) (IntervalEnded (interval-at s at)) (MalformedRecord 1) tt (low 1 (omega arith) (omega arith)))
+    (either RecordLow (eqb kind 18) _ (MalformedRecord 2) (either RecordLow (leb 10 n) (ReleaseSkipped (release-at s at)) (MalformedRecord 1) tt (low 1 (omega arith) (omega arith))) (low 2 (omega arith) (omega arith))))
 
 abbrev pub CheckedLow : Checked → Type 0
 CheckedLow (Rejected r) = Low (refusal-number r)

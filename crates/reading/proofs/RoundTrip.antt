@@ -16,7 +16,7 @@ use Rattle.table.specs.Head.{head-of}
 use Rattle.run.specs.Files.{Checked, Rejected, Releases, refusal-of, release-refusal, releases-from, releases-of}
 use Rattle.run.specs.Run.{record-bytes, moments-of}
 use Rattle.run.proofs.Checking
-use Rattle.record.specs.Types.{Last, NoneBefore, Before, Entry, Malformed, TaskEntry, ReleaseEntry}
+use Rattle.record.specs.Types.{Last, NoneBefore, Before, Entry, Malformed, TaskEntry, ReleaseEntry, SpacingEntry}
 use Rattle.record.specs.Writing.{written, written-of, file}
 use Rattle.record.proofs.Accepted.{Accepted, accepted, with-first}
 use Rattle.record.proofs.Outcomes.{entry-release, at-entry}
@@ -90,6 +90,7 @@ module _ (s : List ℕ) (bytes : AllBytes s) where
       go : at < length s → (i : Entry) → entry-at s at ≡ i → More → list-bytes rs ≡ drop at s
       go m (Malformed n) e more = absurd (at-entry (Checking.malformed s at present last count k m n e) (ap refusal-of h))
       go m (TaskEntry p) e more = absurd (at-entry (Checking.task-late s at present last count k m p e) (ap refusal-of h))
+      go m (SpacingEntry p) e more = absurd (at-entry (Checking.spacing-late s at present last count k m p e) (ap refusal-of h))
       go m (ReleaseEntry r) e more = go-release m r (release-refusal present last count r) e refl more
 
 -- what was written is the front of the slice

@@ -13,7 +13,7 @@ use Rattle.entries.specs.Entries.{size, entry-at}
 use Rattle.entries.specs.Limits as limits
 use Rattle.table.specs.Head.{head-of}
 use Rattle.guarantees.proofs.Proper.{none-passed}
-use Rattle.record.specs.Types.{Release, Entry, Malformed, TaskEntry, ReleaseEntry, Last, NoneBefore, Before, Refusal, NoRefusal, Alone, AtEntry}
+use Rattle.record.specs.Types.{Release, Entry, Malformed, TaskEntry, ReleaseEntry, SpacingEntry, Last, NoneBefore, Before, Refusal, NoRefusal, Alone, AtEntry}
 use Rattle.run.specs.Files.{Checked, Rejected, Releases, rises, release-refusal, with-release, releases-from, releases-behind, releases-of}
 
 -- ---- releases in order
@@ -80,6 +80,7 @@ reads (suc k) s at present last count = go (leb (length s) at) (entry-at s at) (
           | false ↦ elim e [
             | Malformed n ↦ Rejected (AtEntry n at)
             | TaskEntry p ↦ Rejected (AtEntry 3 at)
+            | SpacingEntry q ↦ Rejected (AtEntry 3 at)
             | ReleaseEntry r ↦ elim (release-refusal present last count r) [
               | zero ↦ with-release r (releases-from k s (at + size 2) present (Before r) (count + 1))
               | suc n ↦ Rejected (AtEntry (suc n) at)
@@ -89,6 +90,7 @@ reads (suc k) s at present last count = go (leb (length s) at) (entry-at s at) (
     go true e h = read-none present last count
     go false (Malformed n) h = λ rs x. absurd (rejected (AtEntry n at) rs x)
     go false (TaskEntry p) h = λ rs x. absurd (rejected (AtEntry 3 at) rs x)
+    go false (SpacingEntry q) h = λ rs x. absurd (rejected (AtEntry 3 at) rs x)
     go false (ReleaseEntry r) h = go-release r (release-refusal present last count r) refl h
 
 -- ---- a file that is accepted

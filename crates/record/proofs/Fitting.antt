@@ -7,7 +7,7 @@ use Rattle.sets.specs.Sets.{member}
 use Rattle.sets.proofs.Laws.{by-test}
 use Rattle.rules.specs.With.{at-clock}
 use Rattle.rules.specs.Order.{highest}
-use Rattle.rules.specs.Instant.{fresh-stage, processor-at, copyout-at, copyin-at, ended, completed, without-done, step-a, over, processor-task, copyout-task, copyin-task, promoted, next-of, awaiting-copyout, close, interval-entry, close-stage, step-b, original, stamped, with-candidates, step-c, cancel, step-d, choose, step-e, begin-processor, begin-copyout, begin, step-g, at-a, at-b, taken-at, deferred-at, at-e, at-f, at-g, skipped, closing, occurred}
+use Rattle.rules.specs.Instant.{fresh-stage, processor-at, copyout-at, copyin-at, ended, completed, without-done, step-a, over, processor-task, copyout-task, copyin-task, promoted, next-of, awaiting-copyout, close, interval-entry, close-stage, step-b, original, stamped, with-candidates, step-c, cancel, step-d, choose, step-e, begin-processor, begin-copyout, begin, step-g, at-a, at-b, taken-at, deferred-at, at-e, at-f, at-g, skipped-at, closing, occurred}
 use Rattle.rules.specs.Entries.{done-entries, skipped-entries, closed-entries, entries}
 use Rattle.rules.specs.Calls.{opened}
 use Rattle.guarantees.proofs.Highest.{Best, best}
@@ -306,7 +306,7 @@ module _ (t : ℕ) (now : TimeFits t) where
     moment-fits =
         both-fit _ _ (done-fits (at-b d t .done) (to-b .done))
         (closed-fits (closing (at-b d t .closed) (at-f d t set .closed)) _ (closing-fits (at-b d t .closed) (at-f d t set .closed) (to-b .closed) (to-f .closed))
-        (skips-fit 32 (skipped (at-b d t .state) set) t now))
+        (skips-fit 32 (skipped-at d t set) t now))
 
 -- ---- Opening
 

@@ -15,7 +15,7 @@ use Rattle.entries.specs.Limits as limits
 use Rattle.table.specs.Head.{behind-head, task-refusal, with-task, with-marked, head-from, head-of}
 use Rattle.table.proofs.Laws.{head-within}
 use Rattle.table.specs.declared.Table.{Table}
-use Rattle.record.specs.Types.{TaskParameters, Release, Entry, Malformed, TaskEntry, ReleaseEntry, Last, NoneBefore, Before, Head, Refusal, NoRefusal, Alone, AtEntry, Outcome, RefusedInput, TooShort, Recorded}
+use Rattle.record.specs.Types.{TaskParameters, Release, Entry, Malformed, TaskEntry, ReleaseEntry, SpacingEntry, Last, NoneBefore, Before, Head, Refusal, NoRefusal, Alone, AtEntry, Outcome, RefusedInput, TooShort, Recorded}
 use Rattle.run.specs.Files.{Checked, Rejected, Releases, refusal-of, with-release, release-refusal, releases-from, releases-behind, releases-of, head-unless, file-head}
 use Rattle.run.specs.Listed.{releases-at}
 use Rattle.run.specs.Run.{moments-of, record-bytes}
@@ -60,7 +60,9 @@ entry-release s at r e =
     (λ a. by-test (leb 16 (length s - at)) (λ b. absurd (let z : _≡_ {A = ℕ} 0 1 = cc (rw (a, b) at e) in omega arith)) (λ b. absurd (let z : _≡_ {A = ℕ} 0 1 = cc (rw (a, b) at e) in omega arith)))
     (λ a. by-test (eqb (numberAt 1 s at) 2)
     (λ b. by-test (leb (size 2) (length s - at)) (λ d. (eqb-true (numberAt 1 s at) 2 b, cc (rw (a, b, d) at e))) (λ d. absurd (let z : _≡_ {A = ℕ} 0 1 = cc (rw (a, b, d) at e) in omega arith)))
-    (λ b. absurd (let z : _≡_ {A = ℕ} 0 1 = cc (rw (a, b) at e) in omega arith)))
+    (λ b. by-test (eqb (numberAt 1 s at) 3)
+    (λ d. by-test (leb 6 (length s - at)) (λ f. absurd (let z : _≡_ {A = ℕ} 0 1 = cc (rw (a, b, d, f) at e) in omega arith)) (λ f. absurd (let z : _≡_ {A = ℕ} 0 1 = cc (rw (a, b, d, f) at e) in omega arith)))
+    (λ d. absurd (let z : _≡_ {A = ℕ} 0 1 = cc (rw (a, b, d) at e) in omega arith))))
 
 pub record Accepted (s : List ℕ) (at count : ℕ) (c : Checked) : Type 0 where
   pub list : c ≡ Releases (releases-at s at)
@@ -96,6 +98,7 @@ module _ (s : List ℕ) (present : ℕ) where
       go-entry : (e : Entry) → at < length s → entry-at s at ≡ e → More → Accepted s at count whole
       go-entry (Malformed x) m e rec = absurd (let z : _≡_ {A = ℕ} 0 1 = cc (rw (lt-leb (length s) at m, releases-from, e) at h) in omega arith)
       go-entry (TaskEntry p) m e rec = absurd (let z : _≡_ {A = ℕ} 0 1 = cc (rw (lt-leb (length s) at m, releases-from, e) at h) in omega arith)
+      go-entry (SpacingEntry q) m e rec = absurd (let z : _≡_ {A = ℕ} 0 1 = cc (rw (lt-leb (length s) at m, releases-from, e) at h) in omega arith)
       go-entry (ReleaseEntry r) m e rec = go-refusal r (release-refusal present last count r) m e refl rec
 
       go-end : (b : Bool) → leb (length s) at ≡ b → More → Accepted s at count whole

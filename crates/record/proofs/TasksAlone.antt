@@ -10,11 +10,10 @@ use lib.ListN.{length, take}
 use lib.Seq.{length-take-le}
 use Rattle.sets.specs.Sets.{member}
 use Rattle.sets.proofs.Laws.{by-test, none}
-use Rattle.entries.specs.Entries.{size, entry-at}
-use Rattle.entries.proofs.Front.{entry-in-front}
-use Rattle.table.specs.Head.{no-table, behind-head, task-refusal, with-task, with-marked, refused-at, read-to, head-from, head-of}
-use Rattle.table.proofs.Laws.{behind-end, task-whole, at-end, malformed, released, refuses, takes}
-use Rattle.table.proofs.Front.{behind-in-front}
+use Rattle.entries.specs.Entries.{entry-at, entry-size}
+use Rattle.table.specs.Head.{no-table, behind-head, entry-refusal, with-entry, marked-with, refused-at, read-to, head-from, head-of}
+use Rattle.table.proofs.Laws.{behind-end, is-whole, at-end, refuses, takes}
+use Rattle.table.proofs.Front.{behind-in-front, alike}
 use Rattle.table.proofs.Alone.{Whole, whole-head}
 use Rattle.rules.specs.Calls.{opened, opening}
 use Rattle.guarantees.specs.Types.{Table, Refusal, NoRefusal, AtEntry, Opening, Head, Call}
@@ -22,7 +21,7 @@ use Rattle.guarantees.specs.Claim.{Claim, Demand3}
 use Rattle.guarantees.proofs.Proper
 use Rattle.guarantees.proofs.Proper.{Fair}
 use Rattle.guarantees.proofs.Demand3.{demand-3}
-use Rattle.record.specs.Types.{TaskParameters, Release, Entry, Malformed, TaskEntry, ReleaseEntry, Last, NoneBefore}
+use Rattle.record.specs.Types.{Release, Entry, Malformed, TaskEntry, ReleaseEntry, SpacingEntry, Last, NoneBefore}
 use Rattle.run.specs.Files.{Releases, refusal-of, release-refusal, releases-from}
 use Rattle.run.proofs.Checking
 use Rattle.record.proofs.Accepted.{Accepted}
@@ -47,20 +46,22 @@ prefix-none s at t m l = record {
   same = λ k h. at-end (take at s) at t m k (behind-end (take at s) at (omega (arith, length-take-le at s l)));
 }
 
-prefix-more : (s : List ℕ) (at : ℕ) (t : Table) (m : ℕ) (p : TaskParameters) (r : Head) → behind-head s at ≡ false → entry-at s at ≡ TaskEntry p
-    → task-refusal t p ≡ 0 → Prefix s (at + size 1) (with-task t p) (with-marked m p) r → Prefix s at t m r
-prefix-more s at t m p r b e x h = record {
-  onward = omega (arith, h .onward);
-  inside = h .inside;
-  some-entry = inr (omega (arith, h .onward));
-  same = λ k l. go k l;
-}
+prefix-more : (s : List ℕ) (at : ℕ) (t : Table) (m : ℕ) (x : Entry) (r : Head) → behind-head s at ≡ false → entry-at s at ≡ x
+    → entry-refusal t x ≡ 0 → Prefix s (at + entry-size x) (with-entry t x) (marked-with m x) r → Prefix s at t m r
+prefix-more s at t m x r b e q h =
+    let some : 0 < entry-size x = is-whole s at t x e q .some in
+    record {
+      onward = omega (arith, h .onward);
+      inside = h .inside;
+      some-entry = inr (omega (arith, h .onward));
+      same = λ k l. go some k l;
+    }
   where
-    go : (k : ℕ) → r .end - at ≤ k → head-from k (take (r .end) s) at t m ≡ r
-    go zero l = absurd (omega (arith, h .onward))
-    go (suc k) l =
-        takes (take (r .end) s) at t m k (behind-in-front s (r .end) (h .inside) at (omega (arith, h .onward)) ∙ b) p
-        (entry-in-front s (r .end) (h .inside) at (h .onward) ∙ e) x
+    go : 0 < entry-size x → (k : ℕ) → r .end - at ≤ k → head-from k (take (r .end) s) at t m ≡ r
+    go some zero l = absurd (omega (arith, h .onward))
+    go some (suc k) l =
+        takes (take (r .end) s) at t m k (behind-in-front s (r .end) (h .inside) at (omega (arith, h .onward)) ∙ b) x
+        (alike s (r .end) (h .inside) at x some (h .onward) (inl e) ∙ e) q
         ∙ h .same k (omega arith)
 
 prefix : (k : ℕ) (s : List ℕ) (at : ℕ) (t : Table) (m : ℕ) (r : Head) → at ≤ length s → head-from k s at t m ≡ r → r .refusal ≡ NoRefusal → Prefix s at t m r
@@ -68,18 +69,16 @@ prefix zero s at t m r l e h = unfold head-from in subst (Prefix s at t m) e (pr
 prefix (suc k) s at t m r l e h =
     by-test (behind-head s at)
     (λ b. subst (Prefix s at t m) (sym (at-end s at t m (suc k) b) ∙ e) (prefix-none s at t m l))
-    (λ b. go b (entry-at s at) refl (λ p x y. prefix k s (at + size 1) (with-task t p) (with-marked m p) r (omega (arith, task-whole s at p x)) (sym (takes s at t m k b p x y) ∙ e) h))
+    (λ b. go b (entry-refusal t x) refl
+    (λ q. prefix k s (at + entry-size x) (with-entry t x) (marked-with m x) r (omega (arith, is-whole s at t x refl q .within, l)) (sym (takes s at t m k b x refl q) ∙ e) h))
   where
-    go-task : behind-head s at ≡ false → (p : TaskParameters) (n : ℕ) → entry-at s at ≡ TaskEntry p → task-refusal t p ≡ n
-        → ((p : TaskParameters) → entry-at s at ≡ TaskEntry p → task-refusal t p ≡ 0 → Prefix s (at + size 1) (with-task t p) (with-marked m p) r) → Prefix s at t m r
-    go-task b p zero x y f = prefix-more s at t m p r b x y (f p x y)
-    go-task b p (suc n) x y f = absurd (unlike r (suc n) at (sym (refuses s at t m k b p (suc n) x y (omega arith)) ∙ e) h)
+    x : Entry
+    x = entry-at s at
 
-    go : behind-head s at ≡ false → (i : Entry) → entry-at s at ≡ i
-        → ((p : TaskParameters) → entry-at s at ≡ TaskEntry p → task-refusal t p ≡ 0 → Prefix s (at + size 1) (with-task t p) (with-marked m p) r) → Prefix s at t m r
-    go b (Malformed n) x f = absurd (unlike r n at (sym (malformed s at t m k b n x) ∙ e) h)
-    go b (ReleaseEntry q) x f = subst (Prefix s at t m) (sym (released s at t m k b q x) ∙ e) (prefix-none s at t m l)
-    go b (TaskEntry p) x f = go-task b p (task-refusal t p) x refl f
+    go : behind-head s at ≡ false → (n : ℕ) → entry-refusal t x ≡ n
+        → (entry-refusal t x ≡ 0 → Prefix s (at + entry-size x) (with-entry t x) (marked-with m x) r) → Prefix s at t m r
+    go b zero q f = prefix-more s at t m x r b refl q (f q)
+    go b (suc n) q f = absurd (unlike r (suc n) at (sym (refuses s at t m k b x refl (suc n) q (omega arith)) ∙ e) h)
 
 -- ---- a file that is accepted has a task
 
@@ -96,6 +95,7 @@ no-release k s at last count rs l e = go (entry-at s at) refl
     go : (i : Entry) → entry-at s at ≡ i → ⊥
     go (Malformed n) x = not-read n (Checking.malformed s at 0 last count k l n x)
     go (TaskEntry p) x = not-read 3 (Checking.task-late s at 0 last count k l p x)
+    go (SpacingEntry p) x = not-read 3 (Checking.spacing-late s at 0 last count k l p x)
     go (ReleaseEntry r) x = not-read 8 (Checking.refuses s at 0 last count k l r 8 x (unknown-first 0 last count r (none (r .task))) (omega arith))
 
 module _ (s : List ℕ) (rs : List Release) (a : Accepted s rs) where

@@ -144,7 +144,7 @@ none-counted counts = from 0 counts
 -- what is kept, with other tasks in its table
 abbrev pub with-tasks : Memory → ℕ → Memory
 with-tasks m tasks = record {
-  table = record { present = tasks; priority = m .table .priority; columns = m .table .columns };
+  table = record { present = tasks; spaced = m .table .spaced; priority = m .table .priority; columns = m .table .columns };
   clock = m .clock;
   arrays = m .arrays;
   waiting = m .waiting;

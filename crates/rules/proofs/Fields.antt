@@ -21,7 +21,7 @@ taken-arrays taken t w a = arrays (stamped taken (original w t) 0 (a .release)) 
 
 -- and the waiting releases after that, with those of another set that wait from now on
 abbrev pub waits-after : ℕ → ℕ → ℕ → WaitingReleases → WaitingReleases
-waits-after taken deferred t w = waits (union (difference (w .tasks) taken) deferred) (stamped deferred (λ k. t) 0 (w .times))
+waits-after taken deferred t w = waits (union (difference (w .tasks) taken) deferred) (stamped deferred (λ k. t) 0 (w .times)) (union (w .before) taken)
 
 abbrev pub taken-memory : ℕ → ℕ → ℕ → Memory → Memory
 taken-memory taken deferred t m = with-kept m (taken-arrays taken t (m .waiting) (m .arrays)) (waits-after taken deferred t (m .waiting))

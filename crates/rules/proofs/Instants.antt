@@ -1,11 +1,13 @@
 -- An instant over lent arrays, step behind step: what each of them leaves, read back, is what the rules say of the instant. Assumes nothing.
+use mathlib.Core.Path.{ap₂}
 use Rattle.rules.specs.Types.{Bool, true, false, List, ℕ, _≡_, refl, sym, ap, _∙_, subst, Interval, Phase, Between, Within, State, Stage, Done, NoJob, Closed, NoInterval, Span, IntervalEntry, Occurred}
 use mathlib.Core.Bool.{false≢true, true≢false}
 use lib.Dec.{eqb}
 use lib.ListN.{getD}
 use Rattle.sets.proofs.Laws.{by-test}
 use Rattle.rules.specs.With.{at-clock}
-use Rattle.rules.specs.Instant.{fresh-stage, over, resting, is-over, promoted, blocks, counted, closed-with, close, entry-with, interval-entry, close-stage, with-candidates, taken, deferred, skipped, released, held-over, step-a, step-b, step-c, step-d, step-e, step-f, step-g, steps-c-d, steps-c-to-e, steps-c-to-f, due, closing, at-a, at-b, at-g, occurred}
+use Rattle.sets.specs.Sets.{union, difference}
+use Rattle.rules.specs.Instant.{fresh-stage, without-done, over, resting, is-over, promoted, blocks, counted, closed-with, close, entry-with, interval-entry, close-stage, with-candidates, last-release, too-soon, passing, taken, deferred, skipped, released, held-over, step-a, step-b, step-c, step-d, step-e, step-f, step-g, steps-c-d, steps-c-to-e, steps-c-to-f, due, closing, at-a, at-b, at-g, occurred}
 use Rattle.rules.specs.Registers.{as-task, processor-in, copyin-in, interval-in, phase-in, state-in}
 use Rattle.rules.specs.Kept.{Kept, kept, Whole, Beside, beside, by-task, registers-in, read, Becomes}
 use Rattle.rules.specs.Steps.{OverAt, PromotedAt, CountsAt, EntryAt, ClosedAt, HeldOverAt, TestedAt, with-counts}
@@ -121,20 +123,53 @@ unfolding step-b close-stage
 once d t taken-now deferred-now (Between next outgoing) e h = absurd (none-some h)
 once d t taken-now deferred-now (Within i) e h = by-test (over i) (λ o. rw o (none-open d i t taken-now deferred-now)) (λ o. absurd (none-some (rw o at h)))
 
+-- ---- steps a and b leave what the spacing is asked by
+
+pub record Asks (d e : State) : Type 0 where
+  pub table-is : e .table ≡ d .table
+  pub release-is : e .jobs .release ≡ d .jobs .release
+  pub waiting-is : e .waiting ≡ d .waiting
+
+asks-a : (d : State) (t : ℕ) (p : Phase) → Asks d (step-a d t p .state)
+unfolding step-a without-done
+asks-a d t (Between next outgoing) = record { table-is = refl; release-is = refl; waiting-is = refl }
+asks-a d t (Within i) = record { table-is = refl; release-is = refl; waiting-is = refl }
+
+asks-b : (s : Stage) (t : ℕ) (p : Phase) → Asks (s .state) (step-b s t p .state)
+unfolding step-b close-stage close closed-with
+asks-b s t (Between next outgoing) = record { table-is = refl; release-is = refl; waiting-is = refl }
+asks-b s t (Within i) =
+    by-test (over i)
+    (λ e. rw e (record { table-is = refl; release-is = refl; waiting-is = refl }))
+    (λ e. rw e (record { table-is = refl; release-is = refl; waiting-is = refl }))
+
+too-soon-alike : (d e : State) (t set : ℕ) → Asks d e → too-soon e t set ≡ too-soon d t set
+unfolding too-soon last-release
+too-soon-alike d e t set h = rw (h .table-is, h .release-is, h .waiting-is)
+
+pub too-soon-b : (d : State) (t set : ℕ) → too-soon (at-b d t .state) t set ≡ too-soon d t set
+unfolding at-b at-a
+too-soon-b d t set =
+    let a : Stage = step-a (at-clock d t) t (d .phase) in
+    too-soon-alike (a .state) (step-b a t (a .state .phase) .state) t set (asks-b a t (a .state .phase))
+    ∙ too-soon-alike (at-clock d t) (a .state) t set (asks-a (at-clock d t) t (d .phase))
+    ∙ too-soon-alike d (at-clock d t) t set (record { table-is = refl; release-is = refl; waiting-is = refl })
+
 -- ---- the states that the steps leave one after the other, and the sets in between
 
-pub record Left (d : State) (t set taken-now deferred-now held : ℕ) (timed a b x f g : State) : Type 0 where
+pub record Left (d : State) (t set soon taken-now deferred-now held : ℕ) (timed a b x f g : State) : Type 0 where
+  pub soon-is : soon ≡ too-soon d t set
   pub timed-is : timed ≡ at-clock d t
   pub a-is : a ≡ step-a timed t (timed .phase) .state
   pub b-is : b ≡ step-f a t .state
-  pub taken-is : taken-now ≡ taken b set
-  pub deferred-is : deferred-now ≡ deferred b set
+  pub taken-is : taken-now ≡ taken b (difference set soon)
+  pub deferred-is : deferred-now ≡ deferred b (difference set soon)
   pub held-is : held ≡ held-over (b .phase) taken-now
   pub x-is : x ≡ steps-c-d b t taken-now deferred-now
   pub f-is : f ≡ step-e-f x t .state
   pub g-is : g ≡ step-g f t held (f .phase)
 
-module _ {taken-now deferred-now held : ℕ} {timed a b x f g : State} (d : State) (t set : ℕ) (h : Left d t set taken-now deferred-now held timed a b x f g) where
+module _ {soon taken-now deferred-now held : ℕ} {timed a b x f g : State} (d : State) (t set : ℕ) (h : Left d t set soon taken-now deferred-now held timed a b x f g) where
   a-at : a ≡ at-a d t .state
   unfolding at-a
   a-at = h .a-is ∙ ap (λ (z : State). step-a z t (z .phase) .state) (h .timed-is)
@@ -155,11 +190,18 @@ module _ {taken-now deferred-now held : ℕ} {timed a b x f g : State} (d : Stat
   unfolding steps-c-to-f steps-c-to-e
   f-at = ap (λ (z : State). step-e-f z t) (h .x-is)
 
+  soon-at : soon ≡ too-soon b t set
+  soon-at = h .soon-is ∙ sym (too-soon-b d t set) ∙ ap (λ (z : State). too-soon z t set) (sym (h .b-is ∙ b-at))
+
+  passing-are : difference set soon ≡ passing b t set
+  unfolding passing
+  passing-are = ap (difference set) soon-at
+
   steps : Steps d t set taken-now deferred-now held b f g
   steps = record {
     b-is = h .b-is ∙ b-at;
-    taken-is = h .taken-is;
-    deferred-is = h .deferred-is;
+    taken-is = h .taken-is ∙ ap (taken b) passing-are;
+    deferred-is = h .deferred-is ∙ ap (deferred b) passing-are;
     f-is = h .f-is ∙ ap (λ (z : Stage). z .state) f-at;
     held-is = h .held-is;
     g-is = h .g-is;
@@ -171,9 +213,9 @@ module _ {taken-now deferred-now held : ℕ} {timed a b x f g : State} (d : Stat
 
   -- what occurred
   pub occurred-by : {out : Occurred} {p q : Closed} → out .done ≡ step-a timed t (timed .phase) .done → p ≡ step-f a t .closed → q ≡ step-e-f x t .closed
-      → out .closed ≡ closing p q → out .skipped ≡ skipped b set → out .due ≡ due (g .phase) → out ≡ occurred d t set
+      → out .closed ≡ closing p q → out .skipped ≡ union soon (skipped b (difference set soon)) → out .due ≡ due (g .phase) → out ≡ occurred d t set
   occurred-by done p q closed skips next =
-      is-occurred d t set steps (done ∙ done-at) (p ∙ closed-before) (q ∙ ap (λ (z : Stage). z .closed) f-at) closed skips next
+      is-occurred d t set steps (done ∙ done-at) (p ∙ closed-before) (q ∙ ap (λ (z : Stage). z .closed) f-at) closed (skips ∙ ap₂ union soon-at (ap (skipped b) passing-are)) next
 
   -- and at most one interval ended
   pub once-here : (e : IntervalEntry) → step-f a t .closed ≡ Span e → step-e-f x t .closed ≡ NoInterval

@@ -31,10 +31,12 @@ by-length zero P f (x ∷ xs) e = absurd (omega (arith, e))
 by-length (suc n) P f [] e = absurd (omega (arith, e))
 by-length (suc n) P f (x ∷ xs) e = by-length n (λ l. P (x ∷ l)) (f x) xs (omega (arith, e))
 
--- the four numbers that are no registers
+-- the six numbers that are no registers
 pub record Rest : Type 0 where
   pub present : ℕ
   pub waiting : ℕ
+  pub spaced : ℕ
+  pub before : ℕ
   pub last : ℕ
   pub timed : ℕ
 
@@ -42,7 +44,7 @@ abbrev pub listed : Registers → Rest → Kept
 listed r y =
     kept
     (r .begin ∷ r .start ∷ r .until ∷ r .outstart ∷ r .outuntil ∷ r .inuntil ∷ y .last ∷ [])
-    (r .marked ∷ r .pending ∷ r .ready ∷ r .candidates ∷ y .present ∷ y .waiting ∷ [])
+    (r .marked ∷ r .pending ∷ r .ready ∷ r .candidates ∷ y .present ∷ y .waiting ∷ y .spaced ∷ y .before ∷ [])
     (r .half ∷ r .work ∷ r .processor ∷ r .task ∷ r .copyout ∷ r .outtask ∷ r .copyin ∷ r .intask ∷ y .timed ∷ [])
 
 -- what holds of all registers, as numbers, holds where they are kept
@@ -50,8 +52,8 @@ pub by-numbers : (P : Kept → Type 0) → ((r : Registers) (y : Rest) → P (li
 unfolding Long
 by-numbers P h k w =
     by-length 7 (λ x. P (kept x (k .sets) (k .codes)))
-    (λ begin start until outstart outuntil inuntil last. by-length 6 (λ y. P (kept (begin ∷ start ∷ until ∷ outstart ∷ outuntil ∷ inuntil ∷ last ∷ []) y (k .codes)))
-    (λ marked pending ready candidates present waiting. by-length 9 (λ z. P (kept (begin ∷ start ∷ until ∷ outstart ∷ outuntil ∷ inuntil ∷ last ∷ []) (marked ∷ pending ∷ ready ∷ candidates ∷ present ∷ waiting ∷ []) z))
+    (λ begin start until outstart outuntil inuntil last. by-length 8 (λ y. P (kept (begin ∷ start ∷ until ∷ outstart ∷ outuntil ∷ inuntil ∷ last ∷ []) y (k .codes)))
+    (λ marked pending ready candidates present waiting spaced before. by-length 9 (λ z. P (kept (begin ∷ start ∷ until ∷ outstart ∷ outuntil ∷ inuntil ∷ last ∷ []) (marked ∷ pending ∷ ready ∷ candidates ∷ present ∷ waiting ∷ spaced ∷ before ∷ []) z))
     (λ half work processor task copyout outtask copyin intask timed. h
     (record {
       marked = marked;
@@ -73,7 +75,7 @@ by-numbers P h k w =
       copyin = copyin;
       intask = intask;
     })
-    (record { present = present; waiting = waiting; last = last; timed = timed }))
+    (record { present = present; waiting = waiting; spaced = spaced; before = before; last = last; timed = timed }))
     (k .codes) (w .codes-whole)) (k .sets) (w .sets-whole)) (k .times) (w .times-whole)
 
 -- the change that is proved is the one that is asked for
@@ -253,23 +255,25 @@ given-at b ready kind =
     })
 
 -- the releases of a set are taken, and those of another wait
-pub releases-taken : (priority columns : List ℕ) (o o' : ByTask) (t taken deferred before waiting pending ready marked candidates : ℕ) (k : Kept) → Whole k
-    → before ≡ difference (getD (k .sets) 5 0) taken → waiting ≡ union before deferred
-    → pending ≡ union (getD (set (k .sets) 5 waiting) 1 0) taken
-    → ready ≡ union (getD (set (set (k .sets) 5 waiting) 1 pending) 2 0) taken
-    → marked ≡ intersection taken (getD (set (set (set (k .sets) 5 waiting) 1 pending) 2 ready) 0 0)
-    → candidates ≡ union (getD (set (set (set (k .sets) 5 waiting) 1 pending) 2 ready) 3 0) marked
-    → o' .release ≡ stamped taken (original (waits (getD (k .sets) 5 0) (o .waits)) t) 0 (o .release)
+pub releases-taken : (priority columns : List ℕ) (o o' : ByTask) (t taken deferred stay waiting before pending ready marked candidates : ℕ) (k : Kept) → Whole k
+    → stay ≡ difference (getD (k .sets) 5 0) taken → waiting ≡ union stay deferred
+    → before ≡ union (getD (set (k .sets) 5 waiting) 7 0) taken
+    → let noted = set (set (k .sets) 5 waiting) 7 before in
+    pending ≡ union (getD noted 1 0) taken
+    → ready ≡ union (getD (set noted 1 pending) 2 0) taken
+    → marked ≡ intersection taken (getD (set (set noted 1 pending) 2 ready) 0 0)
+    → candidates ≡ union (getD (set (set noted 1 pending) 2 ready) 3 0) marked
+    → o' .release ≡ stamped taken (original (waits (getD (k .sets) 5 0) (o .waits) 0) t) 0 (o .release)
     → o' .blocked ≡ stamped taken (λ k. 0) 0 (o .blocked)
     → o' .waits ≡ stamped deferred (λ k. t) 0 (o .waits)
     → Becomes (λ d. step-c d t taken deferred) k (beside priority columns o)
-    (kept (k .times) (set (set (set (set (k .sets) 5 waiting) 1 pending) 2 ready) 3 candidates) (k .codes)) (beside priority columns o')
-releases-taken priority columns o o' t taken deferred before waiting pending ready marked candidates =
-    by-numbers _ (λ r y. λ ed ew ep er em ec x z u. record {
+    (kept (k .times) (set (set (set noted 1 pending) 2 ready) 3 candidates) (k .codes)) (beside priority columns o')
+releases-taken priority columns o o' t taken deferred stay waiting before pending ready marked candidates =
+    by-numbers _ (λ r y. λ ed ew eb ep er em ec x z u. record {
       whole = record { times-whole = refl; sets-whole = refl; codes-whole = refl };
       state = same-memory (memory-in (listed r y) (beside priority columns o))
           (with-sets r pending ready candidates (r .copyin))
-          x z (ew ∙ ap (λ s. union s deferred) ed) u
+          x z (ew ∙ ap (λ s. union s deferred) ed) u eb
           ∙ taken-with (memory-in (listed r y) (beside priority columns o)) r t taken deferred pending ready marked candidates ep er em ec;
     })
 

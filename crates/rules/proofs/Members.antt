@@ -102,3 +102,18 @@ is-task-left h some e = turn h some e refl .task
 -- the measure of such a loop: what lies above the lowest task left
 pub falls : {set left n after : ℕ} → Left set left → (left ≡ 0 → ⊥) → n ≡ lowest left → after ≡ remove (lowest left) left → 32 - lowest after < 32 - lowest left
 falls h some e f = let t = turn h some e f in omega (arith, t .rises, t .lowest-left, t .task)
+
+-- ---- a loop that gathers those that meet a test
+
+-- task a (or not) is passed now, those of b before; c has been gathered of them by d
+pub gathers-one : (a b c d : Bool) → (a ≡ true → d ≡ true) → c ≡ (b && d) → (a || c) ≡ ((a || b) && d)
+gathers-one true b c d h e = sym (h refl)
+gathers-one false b c d h e = e
+
+pub gathers-none : (a b c d : Bool) → (a ≡ true → d ≡ false) → c ≡ (b && d) → c ≡ ((a || b) && d)
+gathers-none true b c d h e = e ∙ rw (h refl) (and-false b)
+  where
+    and-false : (b : Bool) → (b && false) ≡ false
+    and-false true = refl
+    and-false false = refl
+gathers-none false b c d h e = e

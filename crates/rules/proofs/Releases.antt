@@ -97,22 +97,22 @@ difference-none s f =
     (λ e. by-test (member k (difference s 0)) (λ x. clash (member k s) (difference-left s 0 k x) e) (λ x. x ∙ sym e)))
 
 -- the memory after releases, piece by piece
-pub same-memory : {a a′ b b′ u u′ : List ℕ} {w w′ : ℕ} (m : Memory) (r : Registers) → a ≡ a′ → b ≡ b′ → w ≡ w′ → u ≡ u′
-    → state-in (with-kept m (arrays a b) (waits w u)) r ≡ state-in (with-kept m (arrays a′ b′) (waits w′ u′)) r
-same-memory m r e f g h = rw (e, f, g, h)
+pub same-memory : {a a′ b b′ u u′ : List ℕ} {w w′ v v′ : ℕ} (m : Memory) (r : Registers) → a ≡ a′ → b ≡ b′ → w ≡ w′ → u ≡ u′ → v ≡ v′
+    → state-in (with-kept m (arrays a b) (waits w u v)) r ≡ state-in (with-kept m (arrays a′ b′) (waits w′ u′ v′)) r
+same-memory m r e f g h i = rw (e, f, g, h, i)
 
-none-taken : (m : Memory) (r : Registers) (t : ℕ) → r .pending < 2 ^ 32 → r .ready < 2 ^ 32 → r .candidates < 2 ^ 32 → m .waiting .tasks < 2 ^ 32
+none-taken : (m : Memory) (r : Registers) (t : ℕ) → r .pending < 2 ^ 32 → r .ready < 2 ^ 32 → r .candidates < 2 ^ 32 → m .waiting .tasks < 2 ^ 32 → m .waiting .before < 2 ^ 32
     → state-in m r ≡ step-c (state-in m r) t 0 0
-none-taken m r t p q c w =
+none-taken m r t p q c w b =
     sym (same-memory m r (stamped-none (original (m .waiting) t) 0 (m .arrays .release)) (stamped-none (λ k. 0) 0 (m .arrays .blocked))
-    (ap (λ s. union s 0) (difference-none (m .waiting .tasks) w) ∙ union-none (m .waiting .tasks) w) (stamped-none (λ k. t) 0 (m .waiting .times)))
+    (ap (λ s. union s 0) (difference-none (m .waiting .tasks) w) ∙ union-none (m .waiting .tasks) w) (stamped-none (λ k. t) 0 (m .waiting .times)) (union-none (m .waiting .before) b))
     ∙ taken-with m r t 0 0 (r .pending) (r .ready) 0 (r .candidates)
     (sym (union-none (r .pending) p)) (sym (union-none (r .ready) q)) (sym (intersection-none (r .marked))) (sym (union-none (r .candidates) c))
 
-pub none-released : (m : Memory) (r : Registers) (t taken deferred : ℕ) → r .pending < 2 ^ 32 → r .ready < 2 ^ 32 → r .candidates < 2 ^ 32 → m .waiting .tasks < 2 ^ 32
+pub none-released : (m : Memory) (r : Registers) (t taken deferred : ℕ) → r .pending < 2 ^ 32 → r .ready < 2 ^ 32 → r .candidates < 2 ^ 32 → m .waiting .tasks < 2 ^ 32 → m .waiting .before < 2 ^ 32
     → taken ≡ 0 → deferred ≡ 0 → state-in m r ≡ steps-c-d (state-in m r) t taken deferred
-none-released m r t taken deferred p q c w e f =
-    steps (state-in m r) t 0 0 (none-taken m r t p q c w) (none-cancelled (state-in m r) (state-in m r .phase))
+none-released m r t taken deferred p q c w b e f =
+    steps (state-in m r) t 0 0 (none-taken m r t p q c w b) (none-cancelled (state-in m r) (state-in m r .phase))
     ∙ sym (ap₂ (λ x y. steps-c-d (state-in m r) t x y) e f)
 
 -- ---- what becomes of the releases

@@ -32,7 +32,7 @@ opened table marked = record {
   clock = Unset;
   half = 2;
   jobs = record { pending = 0; ready = 0; release = replicate limits.tasks 0; blocked = replicate limits.tasks 0 };
-  waiting = record { tasks = 0; times = replicate limits.tasks 0 };
+  waiting = record { tasks = 0; times = replicate limits.tasks 0; before = 0 };
   phase = Between NoneNext NoneOutgoing;
 }
 

@@ -1,9 +1,9 @@
 -- What happens at one instant, steps a to g, in this order. Where it applies a definition names its rule of R1 to R6.
 use Rattle.rules.specs.Types.{Bool, true, false, cond, not, _&&_, List, [], _∷_, ℕ, suc, _+_, _-_, min, Table, Jobs, WaitingReleases, MaybeTask, NoTask, Task, Processor, Idle, CopyingIn, Executing, Finished, CopyOut, NoCopyOut, CopyingOut, CopiedOut, CopyIn, Unchosen, NoneChosen, Copying, Loaded, Cancelled, Interval, Next, NoneNext, LoadedNext, PromotedNext, Outgoing, NoneOutgoing, AwaitsCopyOut, Phase, Between, Within, State, JobEntry, IntervalEntry, Done, NoJob, Job, Closed, NoInterval, Span, Closing, Unclosed, BeforeReleases, AfterReleases, Due, Never, Tick, Occurred, Stage, ReleaseFates}
-use lib.Dec.{eqb}
+use lib.Dec.{eqb, ltb}
 use lib.ListN.{getD}
-use Rattle.table.specs.Table.{copyin-length, execution-length, copyout-length}
-use Rattle.sets.specs.Sets.{member, union, intersection, difference, insert, remove}
+use Rattle.table.specs.Table.{copyin-length, execution-length, copyout-length, spacing}
+use Rattle.sets.specs.Sets.{member, collect, union, intersection, difference, insert, remove}
 use Rattle.rules.specs.With.{with-jobs, with-phase, with-ready, with-blocked, with-copyin, at-clock, later}
 use Rattle.rules.specs.Order.{highest-of, outranks, higher}
 
@@ -217,6 +217,28 @@ step-b s t (Within i) = close-stage s t i (over i)
 -- ---- c. The releases of this instant are taken, wait or are skipped. Those that are taken belong to the open
 -- interval, else to the one that step g begins.
 
+-- 8/13: "the task's last release taken or set waiting", by its original time: that of the waiting one where one waits, else that of its
+-- last job
+unfoldable pub last-release : State → ℕ → Due
+last-release d n =
+    cond (member n (d .waiting .tasks)) (Tick (getD (d .waiting .times) n 0))
+    (cond (member n (d .waiting .before)) (Tick (getD (d .jobs .release) n 0)) Never)
+
+-- "sooner than the spacing after" it; "a release exactly one spacing later passes"
+abbrev pub comes-sooner : ℕ → ℕ → Due → Bool
+comes-sooner t spacing Never = false
+comes-sooner t spacing (Tick last) = ltb (t - last) spacing
+
+-- of a set, the tasks whose release comes too soon: it "is skipped", before anything else is asked of it. "A task without one is not
+-- tested."
+unfoldable pub too-soon : State → ℕ → ℕ → ℕ
+too-soon d t set =
+    collect (λ n. member n set && (member n (d .table .spaced) && comes-sooner t (spacing (d .table .columns) n) (last-release d n)))
+
+-- the others pass
+unfoldable pub passing : State → ℕ → ℕ → ℕ
+passing d t set = difference set (too-soon d t set)
+
 -- By the tasks with a pending job and those with a waiting release. "At the instant its job completes, step c takes the waiting one
 -- before that instant's own releases": a waiting release of a task with no pending job any more
 abbrev pub resumed : ℕ → ℕ → ℕ
@@ -289,6 +311,7 @@ step-c d t taken deferred = record {
   waiting = record {
     tasks = union (difference (d .waiting .tasks) taken) deferred;
     times = stamped deferred (λ k. t) 0 (d .waiting .times);
+    before = union (d .waiting .before) taken;
   };
   phase = with-candidates d taken (d .phase);
 }
@@ -453,10 +476,13 @@ unfoldable pub at-b : State → ℕ → Stage
 at-b d t = let a : Stage = at-a d t in step-b a t (a .state .phase)
 
 unfoldable pub taken-at : State → ℕ → ℕ → ℕ
-taken-at d t set = taken (at-b d t .state) set
+taken-at d t set = let b : State = at-b d t .state in taken b (passing b t set)
 
 unfoldable pub deferred-at : State → ℕ → ℕ → ℕ
-deferred-at d t set = deferred (at-b d t .state) set
+deferred-at d t set = let b : State = at-b d t .state in deferred b (passing b t set)
+
+unfoldable pub skipped-at : State → ℕ → ℕ → ℕ
+skipped-at d t set = let b : State = at-b d t .state in union (too-soon b t set) (skipped b (passing b t set))
 
 unfoldable pub at-e : State → ℕ → ℕ → State
 unfolding steps-c-to-e
@@ -482,6 +508,6 @@ unfoldable pub occurred : State → ℕ → ℕ → Occurred
 occurred d t set = record {
   done = at-b d t .done;
   closed = closing (at-b d t .closed) (at-f d t set .closed);
-  skipped = skipped (at-b d t .state) set;
+  skipped = skipped-at d t set;
   due = due (at-g d t set .phase);
 }

@@ -19,7 +19,7 @@ kept times sets codes = record { times = times; sets = sets; codes = codes }
 -- as many numbers as each array has
 pub record Whole (k : Kept) : Type 0 where
   pub times-whole : length (k .times) ≡ 7
-  pub sets-whole : length (k .sets) ≡ 6
+  pub sets-whole : length (k .sets) ≡ 8
   pub codes-whole : length (k .codes) ≡ 9
 
 -- the arrays by task that an instant changes: of each task's job the release time and the count of blocked intervals, and the time of its
@@ -72,10 +72,10 @@ clock-in times codes = cond (eqb (getD codes 8 0) 0) Unset (At (getD times 6 0))
 
 abbrev pub memory-in : Kept → Beside → Memory
 memory-in k b = record {
-  table = record { present = getD (k .sets) 4 0; priority = b .priority; columns = b .columns };
+  table = record { present = getD (k .sets) 4 0; spaced = getD (k .sets) 6 0; priority = b .priority; columns = b .columns };
   clock = clock-in (k .times) (k .codes);
   arrays = arrays (b .by-task .release) (b .by-task .blocked);
-  waiting = waits (getD (k .sets) 5 0) (b .by-task .waits);
+  waiting = waits (getD (k .sets) 5 0) (b .by-task .waits) (getD (k .sets) 7 0);
 }
 
 abbrev pub read : Kept → Beside → State

@@ -87,8 +87,8 @@ pub record Memory : Type 0 where
   pub arrays : Arrays
   pub waiting : WaitingReleases
 
-abbrev pub waits : ℕ → List ℕ → WaitingReleases
-waits tasks times = record { tasks = tasks; times = times }
+abbrev pub waits : ℕ → List ℕ → ℕ → WaitingReleases
+waits tasks times before = record { tasks = tasks; times = times; before = before }
 
 -- ---- The state
 

@@ -18,10 +18,12 @@ pub record Jobs : Type 0 where
   pub release : List ℕ
   pub blocked : List ℕ
 
--- 4/13: "Each task now holds one waiting release in the dispatcher's state": the tasks that have one, and its time by task number
+-- 4/13: "Each task now holds one waiting release in the dispatcher's state": the tasks that have one, and its time by task number. 8/13
+-- asks for a task's last release, also where none waits: the tasks that had one taken, whose last job's release time nothing clears
 pub record WaitingReleases : Type 0 where
   pub tasks : ℕ
   pub times : List ℕ
+  pub before : ℕ
 
 -- what the processor does in the open interval, with the task, when its execution started and when its phase ends
 pub data Processor : Type 0 where

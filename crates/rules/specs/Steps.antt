@@ -5,10 +5,11 @@ use mathlib.Core.Logic.{_↔_}
 use lib.Dec.{eqb}
 use lib.ListN.{getD, set}
 use Rattle.sets.specs.Sets.{member}
+use Rattle.table.specs.Table.{spacing}
 use Rattle.rules.specs.With.{at-clock}
 use Rattle.rules.specs.Order.{highest, outranks}
 use Rattle.rules.specs.Blocking.{blockable, CanBlock}
-use Rattle.rules.specs.Instant.{copyin-at, settled, processor-task, copyout-task, copyin-task, copyin-fate, is-over, promoted, resting, awaiting-execution, over, blocks, counted, without-promoted, next-of, awaiting-copyout, processor-at, step-a, step-d, steps-c-d, step-e, begin, step-g, closed-with, entry-with, begin-processor, work-of, wanted, held-over, sooner, copyout-due, copyin-due, due}
+use Rattle.rules.specs.Instant.{copyin-at, settled, processor-task, copyout-task, copyin-task, copyin-fate, is-over, promoted, resting, awaiting-execution, over, blocks, counted, without-promoted, next-of, awaiting-copyout, processor-at, step-a, step-d, steps-c-d, step-e, begin, step-g, closed-with, entry-with, begin-processor, work-of, wanted, last-release, comes-sooner, too-soon, held-over, sooner, copyout-due, copyin-due, due}
 use Rattle.rules.specs.Registers.{as-task, as-next, as-outgoing, as-processor, as-copyout, as-copyin, processor-in, copyin-in, interval-in, phase-in}
 use Rattle.rules.specs.Kept.{Kept, kept, Whole, ByTask, by-task, Beside, beside, registers-in, read, Becomes, Step, StepInOrder, StepAlone, copyout-ends}
 
@@ -166,6 +167,19 @@ CountsWaiting waiting priority sets codes before after =
 
 -- ---- c and d
 
+-- 8/13: whether a release of task n comes too soon, by the task's last one
+abbrev pub SoonAt : ℕ → ℕ → List ℕ → List ℕ → List ℕ → List ℕ → Bool → Type 0
+SoonAt t n sets columns release waits x =
+    (times codes priority blocked : List ℕ)
+    → x ≡ comes-sooner t (spacing columns n)
+    (last-release (read (kept times sets codes) (beside priority columns (by-task release blocked waits))) n)
+
+-- and of a set those that do
+abbrev pub TooSoonAt : ℕ → ℕ → List ℕ → List ℕ → List ℕ → List ℕ → ℕ → Type 0
+TooSoonAt t set sets columns release waits x =
+    (times codes priority blocked : List ℕ)
+    → x ≡ too-soon (read (kept times sets codes) (beside priority columns (by-task release blocked waits))) t set
+
 abbrev pub HeldOverAt : List ℕ → ℕ → ℕ → Type 0
 HeldOverAt codes taken x = (times sets : List ℕ) → x ≡ held-over (phase-in (registers-in (kept times sets codes))) taken
 
@@ -184,6 +198,7 @@ pub record SetsFit (sets : List ℕ) : Type 0 where
   pub ready-fits : getD sets 2 0 < 2 ^ 32
   pub candidates-fit : getD sets 3 0 < 2 ^ 32
   pub waiting-fits : getD sets 5 0 < 2 ^ 32
+  pub before-fits : getD sets 7 0 < 2 ^ 32
 
 abbrev pub TakesAt : ℕ → ℕ → ℕ → List ℕ → List ℕ → List ℕ → ByTask → List ℕ → List ℕ → ByTask → Type 0
 TakesAt t taken deferred priority sets codes o sets' codes' o' =

@@ -20,7 +20,7 @@ pub fn time_of(values: &[u64], n: u8) -> u64
 
 // The time that a job's entry shows: that of the waiting release, if one is taken, else `t`.
 fn original(waiting: u32, waits: &[u64; 32], n: u8, t: u64) -> u64
-    ensures { λ r. ⌜ r ≡ instant.original (waiting-releases waiting (now (waits .entry))) t n ⌝ }
+    ensures { λ r. ⌜ r ≡ instant.original (waiting-releases waiting (now (waits .entry)) 0) t n ⌝ }
 {
     if sets::contains(waiting, n) {
         return time_of(waits, n);
@@ -38,7 +38,7 @@ pub fn take(
     counts: &mut [u8; 32],
 )
     ensures { λ _. ⌜ now (times .exit) ≡
-        instant.stamped set (instant.original (waiting-releases waiting (now (waits .entry))) t) 0 (now (times .entry)) ⌝ }
+        instant.stamped set (instant.original (waiting-releases waiting (now (waits .entry)) 0) t) 0 (now (times .entry)) ⌝ }
     ensures { λ _. ⌜ now (counts .exit) ≡ instant.stamped set (λ k. 0) 0 (now (counts .entry)) ⌝ }
 {
     let mut left = set;

@@ -28,6 +28,11 @@ pub const PRESENT: usize = 4;
 
 pub const WAITING: usize = 5;
 
+// The tasks with a spacing, and those that had a release taken.
+pub const SPACED: usize = 6;
+
+pub const BEFORE: usize = 7;
+
 // The codes: what a unit does, and with which task; the last is 0 before the first instant.
 pub const HALF: usize = 0;
 
@@ -50,6 +55,6 @@ pub const TIMED: usize = 8;
 // The three arrays, each as long as it has numbers.
 pub type Times = [u64; 7];
 
-pub type Sets = [u32; 6];
+pub type Sets = [u32; 8];
 
 pub type Codes = [u8; 9];

@@ -70,6 +70,7 @@ fn sets_fit(sets: &at::Sets)
     fits(sets[at::READY]);
     fits(sets[at::CANDIDATES]);
     fits(sets[at::WAITING]);
+    fits(sets[at::BEFORE]);
 }
 
 // Steps c and d, by what becomes of the releases: some are taken, and some wait. Most instants of a run have no release, and then
@@ -95,9 +96,10 @@ pub fn take_releases(
         sets_fit(sets);
         return;
     }
-    let before = sets[at::WAITING];
-    take(taken, t, before, waits, release, blocked);
-    sets[at::WAITING] = sets::union(sets::difference(before, taken), deferred);
+    let waiting = sets[at::WAITING];
+    take(taken, t, waiting, waits, release, blocked);
+    sets[at::WAITING] = sets::union(sets::difference(waiting, taken), deferred);
+    sets[at::BEFORE] = sets::union(sets[at::BEFORE], taken);
     defer(deferred, t, waits);
     sets[at::PENDING] = sets::union(sets[at::PENDING], taken);
     sets[at::READY] = sets::union(sets[at::READY], taken);

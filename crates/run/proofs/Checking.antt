@@ -9,8 +9,8 @@ use lib.ListN.{length}
 use Rattle.sets.specs.Sets.{member}
 use Rattle.sets.proofs.Laws.{by-test}
 use Rattle.words.specs.Words.{numberAt}
-use Rattle.entries.specs.Entries.{entry-at, task-at}
-use Rattle.run.specs.Types.{TaskParameters, Release, Malformed, TaskEntry, ReleaseEntry, Last, NoneBefore, Before, Head, Refusal, NoRefusal, Alone, AtEntry}
+use Rattle.entries.specs.Entries.{entry-at, task-at, spacing-at}
+use Rattle.run.specs.Types.{TaskParameters, Release, Spacing, Malformed, TaskEntry, ReleaseEntry, SpacingEntry, Last, NoneBefore, Before, Head, Refusal, NoRefusal, Alone, AtEntry}
 use Rattle.run.specs.Files.{Checked, Rejected, Releases, rises, refusal-of, with-release, release-refusal, releases-from, releases-behind, releases-of, head-unless, file-head}
 use Rattle.table.specs.Head.{head-of}
 
@@ -22,13 +22,18 @@ release-whole s at r e =
     (λ a. by-test (leb 16 (length s - at)) (λ b. absurd (task (task-at s at) (rw (a, b) at e))) (λ b. absurd (other 1 (rw (a, b) at e))))
     (λ a. by-test (eqb (numberAt 1 s at) 2)
     (λ b. by-test (leb 10 (length s - at)) (λ d. leb-true 10 (length s - at) d) (λ d. absurd (other 1 (rw (a, b, d) at e))))
-    (λ b. absurd (other 2 (rw (a, b) at e))))
+    (λ b. by-test (eqb (numberAt 1 s at) 3)
+    (λ d. by-test (leb 6 (length s - at)) (λ f. absurd (spacing (spacing-at s at) (rw (a, b, d, f) at e))) (λ f. absurd (other 1 (rw (a, b, d, f) at e))))
+    (λ d. absurd (other 2 (rw (a, b, d) at e)))))
   where
     other : (n : ℕ) → Malformed n ≡ ReleaseEntry r → ⊥
     other n h = let z : _≡_ {A = ℕ} 0 1 = cc in omega arith
 
     task : (p : TaskParameters) → TaskEntry p ≡ ReleaseEntry r → ⊥
     task p h = let z : _≡_ {A = ℕ} 0 1 = cc in omega arith
+
+    spacing : (x : Spacing) → SpacingEntry x ≡ ReleaseEntry r → ⊥
+    spacing x h = let z : _≡_ {A = ℕ} 0 1 = cc in omega arith
 
 module _ (s : List ℕ) (at present : ℕ) (last : Last) (count : ℕ) where
   pub at-end : (k : ℕ) → length s ≤ at → refusal-of (releases-from k s at present last count) ≡ NoRefusal
@@ -44,6 +49,10 @@ module _ (s : List ℕ) (at present : ℕ) (last : Last) (count : ℕ) where
     pub task-late : (p : TaskParameters) → entry-at s at ≡ TaskEntry p → refusal-of (releases-from (suc k) s at present last count) ≡ AtEntry 3 at
     unfolding releases-from
     task-late p e = rw (lt-leb (length s) at more, releases-from, e)
+
+    pub spacing-late : (x : Spacing) → entry-at s at ≡ SpacingEntry x → refusal-of (releases-from (suc k) s at present last count) ≡ AtEntry 3 at
+    unfolding releases-from
+    spacing-late x e = rw (lt-leb (length s) at more, releases-from, e)
 
     pub refuses : (r : Release) (n : ℕ) → entry-at s at ≡ ReleaseEntry r → release-refusal present last count r ≡ n → (n ≡ 0 → ⊥)
         → refusal-of (releases-from (suc k) s at present last count) ≡ AtEntry n at

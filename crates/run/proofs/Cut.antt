@@ -13,10 +13,10 @@ use Rattle.entries.specs.Limits as limits
 use Rattle.entries.proofs.Front.{entry-in-front}
 use Rattle.table.specs.Head.{head-of}
 use Rattle.table.proofs.Front.{head-short, head-in-front, by-length}
-use Rattle.run.specs.Types.{Release, Entry, Malformed, TaskEntry, ReleaseEntry, Last, NoneBefore, Before, Head, Refusal, NoRefusal, Alone, AtEntry}
+use Rattle.run.specs.Types.{Release, Entry, Malformed, TaskEntry, ReleaseEntry, SpacingEntry, Last, NoneBefore, Before, Head, Refusal, NoRefusal, Alone, AtEntry}
 use Rattle.run.specs.Files.{refusal-of, release-refusal, releases-from, releases-behind, releases-of, head-unless, file-head}
 use Rattle.run.specs.Cut.{file-most, ReadFromFront}
-use Rattle.run.proofs.Checking.{malformed, task-late, refuses, takes, passed-on, few, file-behind, file-refused, alone, at-entry}
+use Rattle.run.proofs.Checking.{malformed, task-late, spacing-late, refuses, takes, passed-on, few, file-behind, file-refused, alone, at-entry}
 
 -- so many releases were read, behind the longest head at most
 pub record Counted (at count : ℕ) : Type 0 where
@@ -74,6 +74,7 @@ module _ (present : ℕ) where
         go : (x : Entry) → entry-at s at ≡ x → More → Same
         go (Malformed n) x more = malformed (take e s) at present last count j front n (entry ∙ x) ∙ sym (malformed s at present last count k whole n x)
         go (TaskEntry p) x more = task-late (take e s) at present last count j front p (entry ∙ x) ∙ sym (task-late s at present last count k whole p x)
+        go (SpacingEntry q) x more = spacing-late (take e s) at present last count j front q (entry ∙ x) ∙ sym (spacing-late s at present last count k whole q x)
         go (ReleaseEntry r) x more = go-release r (release-refusal present last count r) x refl more
 
   -- where none is refused the input is no longer
@@ -104,6 +105,7 @@ module _ (present : ℕ) where
       go : (x : Entry) → entry-at s at ≡ x → at < length s → More → Short
       go (Malformed n) x l more = refused n (malformed s at present last count k l n x)
       go (TaskEntry p) x l more = refused 3 (task-late s at present last count k l p x)
+      go (SpacingEntry q) x l more = refused 3 (spacing-late s at present last count k l q x)
       go (ReleaseEntry r) x l more = go-release r (release-refusal present last count r) l x refl more
 
 -- ---- the whole input

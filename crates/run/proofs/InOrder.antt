@@ -7,12 +7,13 @@ use native.Mathlib.Omega.{arith}
 use lib.ListN.{length, length-append, getD}
 use Rattle.entries.specs.Entries.{interval-bytes, entry-bytes, each, record-entry-size}
 use Rattle.entries.proofs.Each.{each-both, each-one, entry-size}
+use Rattle.sets.specs.Sets.{union, difference}
 use Rattle.rules.specs.With.{at-clock}
 use Rattle.rules.specs.Instant.{released, taken, deferred, skipped, step-a, step-f, step-g, steps-c-d, closing, due, sooner, occurred}
 use Rattle.rules.specs.Registers.{state-in}
 use Rattle.rules.specs.Entries.{done-entries, skipped-entries, closed-entries, entries}
 use Rattle.rules.specs.Kept.{Kept, Beside, read, Becomes}
-use Rattle.rules.specs.Steps.{Stands, TestedAt, HeldOverAt}
+use Rattle.rules.specs.Steps.{Stands, TestedAt, TooSoonAt, HeldOverAt}
 use Rattle.rules.specs.declared.ReleaseFates.{ReleaseFates}
 use Rattle.rules.proofs.Instants.{step-e-f, Left, left, occurred-by, once-here}
 use Rattle.run.specs.Types.{State, Stage, Done, NoJob, Job, Closed, NoInterval, Span, Closing, Unclosed, BeforeReleases, AfterReleases, Occurred, JobEntry, IntervalEntry, RecordEntry, JobDone, IntervalEnded, Batch, Advanced}
@@ -49,8 +50,8 @@ in-parts (Span e) z skips g =
     ap (λ (x : List RecordEntry). IntervalEnded e ∷ x) (sym (append-nil skips))
     ∙ ap (λ (w : Closed). IntervalEnded e ∷ (skips ++ span-entries w)) (sym (g e refl))
 
-module _ {new late held : ℕ} {timed a b x f g : State} (d : State) (t set : ℕ) (h : Left d t set new late held timed a b x f g) where
-  in-order : (skips : ℕ) → skips ≡ skipped b set
+module _ {soon new late held : ℕ} {timed a b x f g : State} (d : State) (t set : ℕ) (h : Left d t set soon new late held timed a b x f g) where
+  in-order : (skips : ℕ) → skips ≡ union soon (skipped b (difference set soon))
       → entries t (occurred d t set)
       ≡ done-entries (step-a timed t (timed .phase) .done) ++ (span-entries (step-f a t .closed) ++ (skipped-entries 32 skips t ++ span-entries (step-e-f x t .closed)))
   unfolding entries
@@ -60,7 +61,7 @@ module _ {new late held : ℕ} {timed a b x f g : State} (d : State) (t set : �
       ∙ ap (λ (y : List RecordEntry). done-entries (step-a timed t (timed .phase) .done) ++ y) (in-parts (step-f a t .closed) (step-e-f x t .closed) (skipped-entries 32 skips t) (once-here d t set h))
 
   -- put one behind the other
-  pub all-put : {skips p q r s : ℕ} {out out₁ out₂ out₃ out₄ : List ℕ} → skips ≡ skipped b set
+  pub all-put : {skips p q r s : ℕ} {out out₁ out₂ out₃ out₄ : List ℕ} → skips ≡ union soon (skipped b (difference set soon))
       → Puts 0 (done-entries (step-a timed t (timed .phase) .done)) out p out₁
       → Puts p (span-entries (step-f a t .closed)) out₁ q out₂
       → Puts q (skipped-entries 32 skips t) out₂ r out₃
@@ -72,27 +73,31 @@ module _ {new late held : ℕ} {timed a b x f g : State} (d : State) (t set : �
 
 -- ---- where the state is kept: the steps one behind the other
 
-module _ {kt ko ka kb kx kf kg : Kept} {bb bx bf : Beside} {fates : ReleaseFates} {held p q r s : ℕ} {out out₁ out₂ out₃ out₄ : List ℕ}
+module _ {kt ko ka kb kx kf kg : Kept} {bb bx bf : Beside} {fates : ReleaseFates} {soon pass skips held p q r s : ℕ} {out out₁ out₂ out₃ out₄ : List ℕ}
     (k : Kept) (b : Beside) (t set : ℕ) where
-  pub composed : Becomes (λ d. at-clock d t) k b kt b
+  pub composed : TooSoonAt t set (k .sets) (b .columns) (b .by-task .release) (b .by-task .waits) soon
+      → Becomes (λ d. at-clock d t) k b kt b
       → CopyOutPut t kt ko b out p out₁
       → Becomes (λ d. step-a d t (d .phase) .state) ko b ka b
       → TestPut (step-f (read ka b) t) kb bb p out₁ q out₂
-      → fates ≡ released (getD (kb .sets) 1 0) (getD (kb .sets) 5 0) set
-      → Puts q (skipped-entries 32 (fates .skipped) t) out₂ r out₃
+      → pass ≡ difference set soon
+      → fates ≡ released (getD (kb .sets) 1 0) (getD (kb .sets) 5 0) pass
+      → skips ≡ union soon (fates .skipped)
+      → Puts q (skipped-entries 32 skips t) out₂ r out₃
       → HeldOverAt (kb .codes) (fates .taken) held
       → Becomes (λ d. steps-c-d d t (fates .taken) (fates .deferred)) kb bb kx bx
       → TestPut (step-e-f (read kx bx) t) kf bf r out₃ s out₄
       → Becomes (λ d. step-g d t held (d .phase)) kf bf kg bf
       → Steps t set k b out s kg bf out₄
   unfolding state-in taken deferred skipped
-  composed stamps outs ends tests takes skips holds moves second begins =
-      let fate : (which : ReleaseFates → ℕ) → which fates ≡ which (released (getD (kb .sets) 1 0) (getD (kb .sets) 5 0) set) = λ which. ap which takes in
-      let h : Left (read k b) t set (fates .taken) (fates .deferred) held (read kt b) (read ka b) (read kb bb) (read kx bx) (read kf bf) (read kg bf) =
-      record { timed-is = stamps .state; a-is = ends .state ∙ outs .copies .state; b-is = tests .state; taken-is = fate (λ z. z .taken); deferred-is = fate (λ z. z .deferred); held-is = holds (kb .times) (kb .sets); x-is = moves .state; f-is = second .state; g-is = begins .state } in
+  composed soons stamps outs ends tests passes takes skip skips holds moves second begins =
+      let fate : (which : ReleaseFates → ℕ) → which fates ≡ which (released (getD (kb .sets) 1 0) (getD (kb .sets) 5 0) (difference set soon)) =
+      λ which. ap which (takes ∙ ap (released (getD (kb .sets) 1 0) (getD (kb .sets) 5 0)) passes) in
+      let h : Left (read k b) t set soon (fates .taken) (fates .deferred) held (read kt b) (read ka b) (read kb bb) (read kx bx) (read kf bf) (read kg bf) =
+      record { soon-is = soons (k .times) (k .codes) (b .priority) (b .by-task .blocked); timed-is = stamps .state; a-is = ends .state ∙ outs .copies .state; b-is = tests .state; taken-is = fate (λ z. z .taken); deferred-is = fate (λ z. z .deferred); held-is = holds (kb .times) (kb .sets); x-is = moves .state; f-is = second .state; g-is = begins .state } in
       record {
         state = left (read k b) t set h;
-        puts = all-put (read k b) t set h (fate (λ z. z .skipped)) (outs .puts) (tests .puts) skips (second .puts);
+        puts = all-put (read k b) t set h (skip ∙ ap (union soon) (fate (λ z. z .skipped))) (outs .puts) (tests .puts) skips (second .puts);
       }
 
 -- an instant that is not the last tick, with the releases that were gathered for it

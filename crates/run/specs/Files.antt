@@ -1,6 +1,6 @@
 -- An input's entries, checked entry by entry: its head, then release entries rising strictly by time and then task number, no more of them
 -- than `limits.releases`.
-use Rattle.run.specs.Types.{Bool, true, false, cond, not, _&&_, _||_, List, [], _∷_, ℕ, zero, suc, _+_, Release, Malformed, TaskEntry, ReleaseEntry, Last, NoneBefore, Before, Head, Refusal, NoRefusal, Alone, AtEntry}
+use Rattle.run.specs.Types.{Bool, true, false, cond, not, _&&_, _||_, List, [], _∷_, ℕ, zero, suc, _+_, Release, Malformed, TaskEntry, ReleaseEntry, SpacingEntry, Last, NoneBefore, Before, Head, Refusal, NoRefusal, Alone, AtEntry}
 use lib.Dec.{ltb, leb, eqb}
 use lib.ListN.{length}
 use Rattle.sets.specs.Sets.{member}
@@ -33,7 +33,7 @@ unfoldable pub with-release : Release → Checked → Checked
 with-release r (Rejected n) = Rejected n
 with-release r (Releases rs) = Releases (r ∷ rs)
 
--- the entries from a place on, at most k of them, with the tasks present: 2, 1, then 3 of a task and 8, 10, 9, 11 of a release
+-- the entries from a place on, at most k of them, with the tasks present: 2, 1, then 3 of a task or a spacing and 8, 10, 9, 11 of a release
 unfoldable pub releases-from : ℕ → List ℕ → ℕ → ℕ → Last → ℕ → Checked
 releases-from zero s at present last count = Releases []
 releases-from (suc k) s at present last count =
@@ -42,6 +42,7 @@ releases-from (suc k) s at present last count =
       | false ↦ elim (entry-at s at) [
         | Malformed n ↦ Rejected (AtEntry n at)
         | TaskEntry p ↦ Rejected (AtEntry 3 at)
+        | SpacingEntry x ↦ Rejected (AtEntry 3 at)
         | ReleaseEntry r ↦ elim (release-refusal present last count r) [
           | zero ↦ with-release r (releases-from k s (at + size 2) present (Before r) (count + 1))
           | suc n ↦ Rejected (AtEntry (suc n) at)

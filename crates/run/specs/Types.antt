@@ -12,8 +12,9 @@ pub use Rattle.rules.specs.declared.Answer.the-variants.{Refused, Served}
 pub use Rattle.rules.specs.Calls.{Step}
 pub use Rattle.entries.specs.declared.TaskParameters.{TaskParameters}
 pub use Rattle.entries.specs.declared.Release.{Release}
+pub use Rattle.entries.specs.declared.Spacing.{Spacing}
 pub use Rattle.entries.specs.declared.Entry.{Entry}
-pub use Rattle.entries.specs.declared.Entry.the-variants.{Malformed, TaskEntry, ReleaseEntry}
+pub use Rattle.entries.specs.declared.Entry.the-variants.{Malformed, TaskEntry, ReleaseEntry, SpacingEntry}
 pub use Rattle.run.specs.declared.releases.Batch.{Batch}
 pub use Rattle.run.specs.declared.Last.{Last}
 pub use Rattle.run.specs.declared.Last.the-variants.{NoneBefore, Before}

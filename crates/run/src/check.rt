@@ -1,4 +1,5 @@
-// An input, checked entry by entry: its head, then of the entries behind it 2, 1, then 3 of a task and 8, 10, 9, 11 of a release.
+// An input, checked entry by entry: its head, then of the entries behind it 2, 1, then 3 of a task or a spacing and 8, 10, 9, 11 of a
+// release.
 use crate::Last;
 use entries::Entry;
 use entries::RELEASE_SIZE;
@@ -65,6 +66,9 @@ fn check_releases(s: &[u8], start: usize, present: u32) -> Refusal
                 break 'entries Refusal::AtEntry(n, at);
             }
             Entry::TaskEntry(_) => {
+                break 'entries Refusal::AtEntry(3, at);
+            }
+            Entry::SpacingEntry(_) => {
                 break 'entries Refusal::AtEntry(3, at);
             }
             Entry::ReleaseEntry(r) => {

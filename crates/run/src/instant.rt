@@ -129,12 +129,14 @@ pub fn advance<'a>(
         };
     }
     let batch = gather(rest, t);
+    let soon = rules::too_soon(t, batch.set, sets, columns, release, waits);
     rules::stamp(t, times, sets, codes);
     let done = end_copyout(t, times, sets, codes, release, blocked, out);
     rules::others_end(t, times, codes, columns);
     let first = end_before(t, times, sets, codes, priority, release, blocked, out, done);
-    let r = rules::released(sets[at::PENDING], sets[at::WAITING], batch.set);
-    let skipped = skips_at(out, first, r.skipped, t);
+    let passing = sets::difference(batch.set, soon);
+    let r = rules::released(sets[at::PENDING], sets[at::WAITING], passing);
+    let skipped = skips_at(out, first, sets::union(soon, r.skipped), t);
     let held = rules::held_over(codes, r.taken);
     rules::take_releases(t, r, sets, codes, priority, release, blocked, waits);
     let size = end_after(

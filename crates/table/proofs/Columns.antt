@@ -20,7 +20,7 @@ module _ (columns : List ℕ) (at n v k : ℕ) (room : at + n < length columns) 
       (λ e. rw e (ap (λ (j : ℕ). getD (set columns (at + n) v) (at + j) 0) (eqb-true k n e) ∙ getD-set-same columns (at + n) v 0 room))
       (λ e. rw e (getD-set-other columns (at + n) (at + k) v 0 (λ h. eqb-false k n e (omega arith))))
 
-module _ (columns : List ℕ) (p : TaskParameters) (long : length columns ≡ 96) (small : p .number < 32) (k : ℕ) (task : k < 32) where
+module _ (columns : List ℕ) (p : TaskParameters) (long : length columns ≡ 128) (small : p .number < 32) (k : ℕ) (task : k < 32) where
   abbrev n : ℕ
   n = p .number
 

@@ -2,7 +2,7 @@
 use Prim.Native.Nat.{ℕ}
 use Rattle.table.specs.Types.{Refusal, NoRefusal, Alone, AtEntry}
 
--- an input: 12 returns the number alone, 1 to 11 the place of the entry's kind byte too; the place is 0 where there is none
+-- an input: 12 returns the number alone, 1 to 11, and 19, the place of the entry's kind byte too; the place is 0 where there is none
 abbrev pub refusal-number : Refusal → ℕ
 refusal-number NoRefusal = 0
 refusal-number (Alone n) = n

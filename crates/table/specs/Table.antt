@@ -17,6 +17,10 @@ execution-length columns n = getD columns (limits.tasks + n) 0
 abbrev pub copyout-length : List ℕ → ℕ → ℕ
 copyout-length columns n = getD columns (2 * limits.tasks + n) 0
 
+-- 8/13: the spacing of its releases, where it has one
+abbrev pub spacing : List ℕ → ℕ → ℕ
+spacing columns n = getD columns (3 * limits.tasks + n) 0
+
 -- the columns with one task more
 unfoldable pub with-lengths : List ℕ → TaskParameters → List ℕ
 with-lengths columns p =

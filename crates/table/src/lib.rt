@@ -7,18 +7,22 @@ ghost use Rattle.table.specs.Table as table;
 ghost use Rattle.table.specs.Refusals.{refusal-number, refusal-place};
 ghost use Rattle.table.specs.Head as heads;
 
-// Where the columns of the lengths of execution (C) and copy-out (U) begin; that of copy-in (L) is the first.
+// Where the columns of the lengths of execution (C) and copy-out (U) begin, and that of the spacings (8/13); that of copy-in (L) is the
+// first.
 pub const EXECUTION: usize = limits::TASKS;
 
 pub const COPYOUT: usize = 2 * limits::TASKS;
 
+pub const SPACING: usize = 3 * limits::TASKS;
+
 // What the table has for each task in 32 bits, a column behind the other. They are one array, so that whoever lends them lends one thing,
 // and a further column changes no list of parameters.
-pub type Columns = [u32; 3 * limits::TASKS];
+pub type Columns = [u32; 4 * limits::TASKS];
 
-// The tasks by number: which there are, each one's priority, and the columns.
+// The tasks by number: which there are, which of them have a spacing, each one's priority, and the columns.
 pub struct Table {
     pub present: u32,
+    pub spaced: u32,
     pub priority: [u8; limits::TASKS],
     pub columns: Columns,
 }
@@ -66,8 +70,9 @@ pub fn no_table() -> Table
 {
     Table {
         present: 0,
+        spaced: 0,
         priority: [0; limits::TASKS],
-        columns: [0; 3 * limits::TASKS],
+        columns: [0; 4 * limits::TASKS],
     }
 }
 
@@ -99,6 +104,13 @@ pub fn copyout_length(columns: &[u32], n: u8) -> u32
     ensures { λ r. ⌜ r ≡ table.copyout-length (now (columns .entry)) n ⌝ }
 {
     entry_of(columns, COPYOUT, n)
+}
+
+// The spacing of its releases, where it has one.
+pub fn spacing(columns: &[u32], n: u8) -> u32
+    ensures { λ r. ⌜ r ≡ table.spacing (now (columns .entry)) n ⌝ }
+{
+    entry_of(columns, SPACING, n)
 }
 
 // A head that is refused tells nothing but why.

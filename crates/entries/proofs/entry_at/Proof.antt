@@ -6,12 +6,14 @@ use Prim.Native.Nat.{ℕ, _-_, _≤_, _<_}
 use native.Mathlib.Omega.{arith}
 use borrow.Author.Tests.{ne-eqb, le-leb, lt-leb}
 use borrow.Author.Needs.{needs}
+use mathlib.Core.Bool.{false}
+use lib.Dec.{eqb}
 use lib.ListN.{length}
 use Rattle.words.specs.Words.{numberAt}
 use Rattle.words.proofs.Laws.{past}
-use Rattle.entries.specs.Types.{TaskParameters, Release, Malformed, TaskEntry, ReleaseEntry}
-use Rattle.entries.specs.Entries.{size, entry-at, task-at, release-at}
-use Rattle.entries.proofs.Places.{rest, kind-is, task-is, release-is}
+use Rattle.entries.specs.Types.{TaskParameters, Release, Spacing, Malformed, TaskEntry, ReleaseEntry, SpacingEntry}
+use Rattle.entries.specs.Entries.{size, entry-at, task-at, release-at, spacing-at}
+use Rattle.entries.proofs.Places.{rest, kind-is, task-is, release-is, spacing-is}
 use Rattle.entries.proofs.entry_at.Statement.{statement}
 use Rattle.entries.proofs.entry_at.Tie as tie
 
@@ -32,9 +34,20 @@ module _ (s : List ℕ) (at k : ℕ) (read : k ≡ numberAt 1 (rest s at) 0) whe
   unfolding entry-at
   cut-release e l = rw (kind-is s at 2 (sym read ∙ e), lt-leb 10 (length s - at) l)
 
-  no-kind : (k ≡ 1 → ⊥) → (k ≡ 2 → ⊥) → Malformed 2 ≡ entry-at s at
+  a-spacing : (x : Spacing) → k ≡ 3 → size 3 ≤ length s - at → x ≡ spacing-at (rest s at) 0 → SpacingEntry x ≡ entry-at s at
   unfolding entry-at
-  no-kind a b = rw (ne-eqb (numberAt 1 s at) 1 (λ e. a (sym (kind-is s at k (sym read)) ∙ e)), ne-eqb (numberAt 1 s at) 2 (λ e. b (sym (kind-is s at k (sym read)) ∙ e)))
+  a-spacing x e l f = rw (kind-is s at 3 (sym read ∙ e), le-leb 6 (length s - at) l) (ap SpacingEntry (f ∙ spacing-is s at))
+
+  cut-spacing : k ≡ 3 → length s - at < size 3 → Malformed 1 ≡ entry-at s at
+  unfolding entry-at
+  cut-spacing e l = rw (kind-is s at 3 (sym read ∙ e), lt-leb 6 (length s - at) l)
+
+  no-kind : (k ≡ 1 → ⊥) → (k ≡ 2 → ⊥) → (k ≡ 3 → ⊥) → Malformed 2 ≡ entry-at s at
+  unfolding entry-at
+  no-kind a b d = rw (is-not 1 a, is-not 2 b, is-not 3 d)
+    where
+      is-not : (n : ℕ) → (k ≡ n → ⊥) → eqb (numberAt 1 s at) n ≡ false
+      is-not n h = ne-eqb (numberAt 1 s at) n (λ e. h (sym (kind-is s at k (sym read)) ∙ e))
 
 behind-the-end : (s : List ℕ) (at : ℕ) → length s < at → Malformed 2 ≡ entry-at s at
 unfolding entry-at
@@ -74,7 +87,13 @@ returns-5 : tie.Need-returns-5
 returns-5 c = let a = c .before .before .before .before .before .before .before .args in cut-release (a .s .now) (a .at) _ (c .before .before .before .get-u8 .ensures) (c .before .if4 .taken) (omega (arith, c .if5 .left))
 
 returns-6 : tie.Need-returns-6
-returns-6 c = let a = c .before .before .before .before .before .before .args in no-kind (a .s .now) (a .at) _ (c .before .before .get-u8 .ensures) (c .before .if2 .left) (c .if4 .left)
+returns-6 c = let a = c .before .before .before .before .before .before .before .before .before .args in a-spacing (a .s .now) (a .at) _ (c .before .before .before .before .before .get-u8 .ensures) _ (c .before .before .if6 .taken) (omega (arith, c .before .if7 .taken)) (c .front-spacing .ensures)
+
+returns-7 : tie.Need-returns-7
+returns-7 c = let a = c .before .before .before .before .before .before .before .before .args in cut-spacing (a .s .now) (a .at) _ (c .before .before .before .before .get-u8 .ensures) (c .before .if6 .taken) (omega (arith, c .if7 .left))
+
+returns-8 : tie.Need-returns-8
+returns-8 c = let a = c .before .before .before .before .before .before .before .args in no-kind (a .s .now) (a .at) _ (c .before .before .before .get-u8 .ensures) (c .before .before .if2 .left) (c .before .if4 .left) (c .if6 .left)
 
 pub entry-at-spec : {M : Type 1} → statement M
 entry-at-spec =
@@ -91,4 +110,7 @@ entry-at-spec =
     front-release-requires
     returns-4
     returns-5
-    returns-6)
+    (λ c κs. search needs)
+    returns-6
+    returns-7
+    returns-8)

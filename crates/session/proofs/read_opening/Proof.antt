@@ -13,7 +13,7 @@ slice-relend-prefix-read-sized : tie.Need-slice-relend-prefix-read-sized
 slice-relend-prefix-read-sized c = search needs
 
 slice-aggregate-read-sized-2 : tie.Need-slice-aggregate-read-sized-2
-slice-aggregate-read-sized-2 c = let a = c .before .before .before .before in sym (length-take-le 528 (a .args .input .now) (a .pre))
+slice-aggregate-read-sized-2 c = let a = c .before .before .before .before in sym (length-take-le 720 (a .args .input .now) (a .pre))
 
 read-sized-requires : tie.Need-read-sized-requires
 read-sized-requires c κs = search needs
@@ -27,7 +27,7 @@ same-length-2 c = search needs
 returns : tie.Need-returns
 returns c =
     let a = c .before .before .before .before .before .before .before .before .before .before in
-    omega (arith, c .before .before .before .before .read-sized .ensures .0, length-take-le 528 (a .args .input .now) (a .pre))
+    omega (arith, c .before .before .before .before .read-sized .ensures .0, length-take-le 720 (a .args .input .now) (a .pre))
 
 pub read-opening-spec : {M : Type 1} → statement M
 read-opening-spec =

@@ -13,7 +13,7 @@ use Rattle.rules.proofs.arrays.take.Tie as tie
 
 abbrev Inv-loop : tie.InvT-loop
 Inv-loop set t waiting waits times₀ counts₀ left₀ times counts left =
-    Stored (λ k x. original (waiting-releases waiting waits) t k) set left times₀ times × Stored (λ k x. 0) set left counts₀ counts
+    Stored (λ k x. original (waiting-releases waiting waits 0) t k) set left times₀ times × Stored (λ k x. 0) set left counts₀ counts
 
 abbrev μ-loop : tie.MeasureT-loop
 μ-loop set t waiting waits times₀ counts₀ left₀ times counts left = 32 - lowest left
@@ -56,7 +56,7 @@ loop-again c =
 returns : tie.Need-returns Inv-loop μ-loop
 returns c =
     let s = c .before .before .args in (
-      store-end (c .before .loop .inv .0) (c .loop-test .left) ∙ is-stamped (s .set) (original (waiting-releases (s .waiting) (s .waits .now)) (s .t)) 0 (s .times .now),
+      store-end (c .before .loop .inv .0) (c .loop-test .left) ∙ is-stamped (s .set) (original (waiting-releases (s .waiting) (s .waits .now) 0) (s .t)) 0 (s .times .now),
       store-end (c .before .loop .inv .1) (c .loop-test .left) ∙ is-stamped (s .set) (λ k. 0) 0 (s .counts .now),
     )
 

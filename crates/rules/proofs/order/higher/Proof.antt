@@ -8,6 +8,7 @@ use lib.ListN.{getD}
 use Rattle.sets.specs.Sets.{member, insert, intersection}
 use Rattle.sets.proofs.Laws.{by-test, none, ext, collected, collect-small, inserted, insert-small, intersection-small}
 use Rattle.rules.specs.Order.{higher-than}
+use Rattle.rules.proofs.Members.{gathers-one, gathers-none}
 use Rattle.rules.proofs.order.higher.Statement.{statement}
 use Rattle.rules.proofs.order.higher.Tie as tie
 
@@ -28,18 +29,6 @@ module _ (priority : List ℕ) (limit : ℕ) where
       (λ e. by-test (eqb j k) (λ f. rw (e, f)) (λ f. rw (e, f, lt-ltb j k (omega (arith, ltb-true j (k + 1) e, eqb-false j k f)))))
       (λ e. by-test (eqb j k) (λ f. absurd (omega (arith, ltb-false j (k + 1) e, eqb-true j k f))) (λ f. rw (e, f, le-ltb j k (omega (arith, ltb-false j (k + 1) e)))))
 
-  more : (a b c d : Bool) → (a ≡ true → d ≡ true) → c ≡ (b && d) → (a || c) ≡ ((a || b) && d)
-  more true b c d h e = sym (h refl)
-  more false b c d h e = e
-
-  same : (a b c d : Bool) → (a ≡ true → d ≡ false) → c ≡ (b && d) → c ≡ ((a || b) && d)
-  same true b c d h e = e ∙ rw (h refl) (and-false b)
-    where
-      and-false : (b : Bool) → (b && false) ≡ false
-      and-false true = refl
-      and-false false = refl
-  same false b c d h e = e
-
   module _ {found k : ℕ} (h : Found priority limit found k) (l : k < 32) where
     at-k : (b : Bool) → ltb (getD priority k 0) limit ≡ b → (j : ℕ) → eqb j k ≡ true → ltb (getD priority j 0) limit ≡ b
     at-k b p j e = ap (λ (i : ℕ). ltb (getD priority i 0) limit) (eqb-true j k e) ∙ p
@@ -50,7 +39,7 @@ module _ (priority : List ℕ) (limit : ℕ) where
       passed = omega arith;
       members = λ j m.
           ap (member j) e ∙ inserted k found j m
-          ∙ more (eqb j k) (ltb j k) (member j found) (ltb (getD priority j 0) limit) (at-k true (lt-ltb (getD priority k 0) limit p) j) (h .members j m)
+          ∙ gathers-one (eqb j k) (ltb j k) (member j found) (ltb (getD priority j 0) limit) (at-k true (lt-ltb (getD priority k 0) limit p) j) (h .members j m)
           ∙ ap (λ (b : Bool). b && ltb (getD priority j 0) limit) (sym (next j k));
     }
 
@@ -59,7 +48,7 @@ module _ (priority : List ℕ) (limit : ℕ) where
       small = h .small;
       passed = omega arith;
       members = λ j m.
-          same (eqb j k) (ltb j k) (member j found) (ltb (getD priority j 0) limit) (at-k false (le-ltb (getD priority k 0) limit p) j) (h .members j m)
+          gathers-none (eqb j k) (ltb j k) (member j found) (ltb (getD priority j 0) limit) (at-k false (le-ltb (getD priority k 0) limit p) j) (h .members j m)
           ∙ ap (λ (b : Bool). b && ltb (getD priority j 0) limit) (sym (next j k));
     }
 

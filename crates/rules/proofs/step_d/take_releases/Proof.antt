@@ -19,7 +19,7 @@ returns c times columns w =
     record {
       whole = w;
       state = none-released (memory-in k (beside (a .priority .now) columns (by-task (a .release .now) (a .blocked .now) (a .waits .now)))) (registers-in k) (a .t) (a .r .taken) (a .r .deferred)
-          (s .pending-fits) (s .ready-fits) (s .candidates-fit) (s .waiting-fits) (z .0) (z .1);
+          (s .pending-fits) (s .ready-fits) (s .candidates-fit) (s .waiting-fits) (s .before-fits) (z .0) (z .1);
     }
 
 returns-2 : tie.Need-returns-2
@@ -30,13 +30,14 @@ returns-2 c times columns w =
     let c4 = i .before .before .before in
     let c3 = c4 .before .before in
     let d = c3 .before .before in
-    let c2 = d .before .before in
+    let b = d .before .before in
+    let c2 = b .before .before in
     let e = c2 .before in
     let k = e .before in
     let a = k .before .before .before .before .before .before .before .args in
     let m = releases-taken (a .priority .now) columns (by-task (a .release .now) (a .blocked .now) (a .waits .now)) _ (a .t) (a .r .taken) (a .r .deferred)
-    (e .difference .result) (c2 .union2 .result) (c3 .union3 .result) (c4 .union4 .result) (i .intersection .result) (c5 .union5 .result)
-    (kept times (a .sets .now) (a .codes .now)) w (e .difference .ensures) (c2 .union2 .ensures) (c3 .union3 .ensures) (c4 .union4 .ensures) (i .intersection .ensures) (c5 .union5 .ensures)
+    (e .difference .result) (c2 .union2 .result) (b .union3 .result) (c3 .union4 .result) (c4 .union5 .result) (i .intersection .result) (c5 .union6 .result)
+    (kept times (a .sets .now) (a .codes .now)) w (e .difference .ensures) (c2 .union2 .ensures) (b .union3 .ensures) (c3 .union4 .ensures) (c4 .union5 .ensures) (i .intersection .ensures) (c5 .union6 .ensures)
     (k .take .ensures .0) (k .take .ensures .1) (d .defer .ensures) in
     both m (c .give-way .ensures times columns _ _ (m .whole))
 
@@ -45,7 +46,8 @@ take-releases-spec =
     tie.close
     (tie.spec
     (λ c κs. search needs) (λ c κs. search needs) returns (λ c. search needs) (λ c κs. search needs)
-    (λ c κs. search needs) (λ c κs. search needs) (λ c. search needs) (λ c κs. search needs) (λ c. search needs)
+    (λ c κs. search needs) (λ c κs. search needs) (λ c. search needs) (λ c. search needs) (λ c κs. search needs)
+    (λ c. search needs) (λ c κs. search needs) (λ c. search needs)
     (λ c κs. search needs) (λ c. search needs) (λ c. search needs) (λ c κs. search needs) (λ c. search needs)
     (λ c. search needs) (λ c. search needs) (λ c κs. search needs) (λ c κs. search needs) (λ c. search needs)
     (λ c κs. search needs) returns-2)

@@ -6,7 +6,7 @@ use borrow.Author.Needs.{needs}
 use lib.ListN.{length}
 use Rattle.run.specs.Types.{NoneBefore}
 use Rattle.run.specs.Files.{refusal-of, releases-from}
-use Rattle.run.proofs.Checking.{Rest, release-whole, few, at-end, malformed, task-late, refuses, turn, turn-on}
+use Rattle.run.proofs.Checking.{Rest, release-whole, few, at-end, malformed, task-late, spacing-late, refuses, turn, turn-on}
 use Rattle.run.proofs.check.check_releases.Statement.{statement}
 use Rattle.run.proofs.check.check_releases.Tie as tie
 
@@ -72,6 +72,11 @@ returns-3 c =
 
 returns-4 : tie.Need-returns-4 Inv-entries μ-entries
 returns-4 c =
+    let a = c .before .before .before .before .before .before .args in let s = a .s .now in let v = c .before .before .before .before .entries in
+    turn s (v .at) (a .present) (v .last) (v .count) _ (v .inv .1) (c .before .before .before .if1 .left) _ (λ k. spacing-late s (v .at) (a .present) (v .last) (v .count) k (c .before .before .before .if1 .left) _ (sym (c .before .before .entry-at .ensures) ∙ c .enum-told2 .given .1))
+
+returns-5 : tie.Need-returns-5 Inv-entries μ-entries
+returns-5 c =
     let c6 = c .before .before .before .before .before .before in
     let a = c6 .before .before .before .args in let s = a .s .now in let v = c6 .before .entries in
     let r = sym (c .before .before .before .before .before .entry-at .ensures) ∙ c .before .before .before .entry2 .given .1 in
@@ -88,6 +93,7 @@ check-releases-spec =
     entry-at-requires
     enum-known-entry
     enum-told
+    (λ c. search needs)
     enum-known-entry-2
     release-refusal-requires
     add-count
@@ -97,4 +103,5 @@ check-releases-spec =
     returns
     returns-2
     returns-3
-    returns-4)
+    returns-4
+    returns-5)

@@ -1,11 +1,11 @@
--- `exports_instants::gateway_open_v3` meets its contract: what opening answers, put where it is kept. Assumes nothing.
+-- `exports_instants::gateway_open_v4` meets its contract: what opening answers, put where it is kept. Assumes nothing.
 use mathlib.Core.Path.{sym, ap, ap₂}
 use Rattle.table.specs.Refusals.{refusal-number}
 use Rattle.rules.specs.Kept.{read}
 use Rattle.exports_instants.proofs.Keeping.{opened-at, not-opened-at, is-alone, is-at-entry}
 use borrow.Author.Needs.{needs}
-use Rattle.exports_instants.proofs.gateway_open_v3.Statement.{statement}
-use Rattle.exports_instants.proofs.gateway_open_v3.Tie as tie
+use Rattle.exports_instants.proofs.gateway_open_v4.Statement.{statement}
+use Rattle.exports_instants.proofs.gateway_open_v4.Tie as tie
 
 returns : tie.Need-returns
 returns c =
@@ -25,8 +25,8 @@ returns-3 c =
     let e = c .before .refusal2 .given .1 in
     not-opened-at _ _ _ (c .before .before .before .before .«open» .result) _ _ (c .before .before .before .before .«open» .ensures) (sym (ap refusal-number e)) (is-at-entry _ _ e) (c .before .before .before .place-of .ensures)
 
-pub gateway-open-v3-spec : {M : Type 1} → statement M
-gateway-open-v3-spec =
+pub gateway-open-v4-spec : {M : Type 1} → statement M
+gateway-open-v4-spec =
     tie.close
     (tie.spec
     (λ c κs. search needs) (λ c κs. search needs) (λ c. search needs) (λ c κs. search needs) (λ c κs. search needs)

@@ -1,9 +1,9 @@
--- `exports_instants::gateway_instant_v3` meets its contract: the refusals in their order, then the steps. Assumes nothing.
+-- `exports_instants::gateway_instant_v4` meets its contract: the refusals in their order, then the steps. Assumes nothing.
 use Rattle.rules.specs.Kept.{kept, beside, by-task}
 use Rattle.exports_instants.proofs.Keeping.{refused-at, served-at}
 use borrow.Author.Needs.{needs}
-use Rattle.exports_instants.proofs.gateway_instant_v3.Statement.{statement}
-use Rattle.exports_instants.proofs.gateway_instant_v3.Tie as tie
+use Rattle.exports_instants.proofs.gateway_instant_v4.Statement.{statement}
+use Rattle.exports_instants.proofs.gateway_instant_v4.Tie as tie
 
 returns : tie.Need-returns
 returns c =
@@ -17,7 +17,7 @@ returns-2 c =
     served-at (kept (a .times .now) (a .sets .now) (a .codes .now)) (beside (a .priority .now) (a .columns .now) (by-task (a .release .now) (a .blocked .now) (a .waits .now)))
     (a .time) (a .set) (c8 .before .refusal .ensures _) (c8 .if1 .left) (c .steps .ensures)
 
-pub gateway-instant-v3-spec : {M : Type 1} → statement M
-gateway-instant-v3-spec = tie.close
+pub gateway-instant-v4-spec : {M : Type 1} → statement M
+gateway-instant-v4-spec = tie.close
     (tie.spec
     (λ c κs. search needs) returns (λ c κs. search needs) returns-2)
