@@ -6,16 +6,16 @@ ghost use Rattle.reading.specs.Reading.{reading};
 ghost use Rattle.reading.specs.Acceptance.{Accepts};
 
 // The release entries that made `stored`, a record, in the front of `out`. The answer is the number of the refusal, 0 where there is none;
-// what `told` holds then is the length of the entries, the length needed with 13, or the place of the entry that is refused.
+// what `value` holds then is the length of the entries, the length needed with 13, or the place of the entry that is refused.
 #[no_mangle]
-pub extern "C" fn gateway_read(tasks: &[u8], stored: &[u8], out: &mut [u8], told: &mut usize) -> u8
+pub extern "C" fn gateway_read(tasks: &[u8], stored: &[u8], out: &mut [u8], value: &mut usize) -> u8
     ensures { λ r. ⌜ r ≡ outcome-number (reading (now (tasks .entry)) (now (stored .entry)) (now (out .entry)) .outcome) ⌝ }
-    ensures { λ _. ⌜ now (told .exit) ≡ outcome-value (reading (now (tasks .entry)) (now (stored .entry)) (now (out .entry)) .outcome) ⌝ }
+    ensures { λ _. ⌜ now (value .exit) ≡ outcome-value (reading (now (tasks .entry)) (now (stored .entry)) (now (out .entry)) .outcome) ⌝ }
     ensures { λ _. ⌜ now (out .exit) ≡ reading (now (tasks .entry)) (now (stored .entry)) (now (out .entry)) .memory ⌝ }
     ensures { λ _. ⌜ Accepts (now (tasks .entry)) (now (stored .entry)) (now (out .entry))
         (reading (now (tasks .entry)) (now (stored .entry)) (now (out .entry)) .outcome) (now (out .exit)) ⌝ }
 {
     let outcome = reading::read(tasks, stored, out);
-    *told = record::value_of(outcome);
+    *value = record::value_of(outcome);
     record::number_of(outcome)
 }

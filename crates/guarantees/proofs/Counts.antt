@@ -27,7 +27,7 @@ use Rattle.guarantees.proofs.Places.{Parted, copyin-bit, processor-bit,
 use Rattle.guarantees.proofs.Blocking.{Bounded, bounded-a, bounded-e, bounded-g, bounded-opened, bounded-quiet}
 use Rattle.guarantees.proofs.Tally.{Tally, nothing, tally}
 use Rattle.guarantees.proofs.Knows.{Knows, close-count, higher-is, blocks-is, and-false, not-itself}
-use Rattle.guarantees.proofs.Told.{knows-a, knows-e, knows-after, parted-e}
+use Rattle.guarantees.proofs.Remembered.{knows-a, knows-e, knows-after, parted-e}
 
 module _ (pr : List ℕ) (n : ℕ) (small : n < 32) where
   -- ---- who is pending at an interval's end

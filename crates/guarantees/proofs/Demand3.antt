@@ -23,7 +23,7 @@ use Rattle.guarantees.proofs.Engine.{Free, executed-in, copied-out-so, 
 use Rattle.guarantees.proofs.CopyOuts.{copied-out}
 use Rattle.guarantees.proofs.Processing.{execution-in, started-so, stopped-so, ended-so}
 use Rattle.guarantees.proofs.Executions.{executed}
-use Rattle.guarantees.proofs.Told.{tells}
+use Rattle.guarantees.proofs.Remembered.{tells}
 use Rattle.guarantees.proofs.Closings.{all-done}
 use Rattle.guarantees.proofs.Courses.{proceeds, Follows, courses}
 use Rattle.guarantees.proofs.Known.{AllKnown, begins-known, completes-known, all-known}

@@ -21,7 +21,7 @@ use Rattle.guarantees.proofs.Releases.{is-taken, is-deferred, is-skippe
 use Rattle.guarantees.proofs.Deferred.{at-task, by-rest, waits-in, alone, alone-end}
 use Rattle.guarantees.proofs.Turns.{stands, held-is, some-held}
 use Rattle.guarantees.proofs.LastReleases.{last-b, sooner-than, is-sooner}
-use Rattle.guarantees.proofs.Told.{served-so}
+use Rattle.guarantees.proofs.Remembered.{served-so}
 
 module _ (n : ℕ) (small : n < 32) where
   abbrev F : Fates → List Event → Fates

@@ -28,7 +28,7 @@ pub mod Tally
 pub mod Tallies
 pub mod Knows
 pub mod Closings
-pub mod Told
+pub mod Remembered
 pub mod Counts
 pub mod Deferred
 pub mod Origins

@@ -17,17 +17,17 @@ use Rattle.record.specs.Writing.{Written, Wrote, written, outcome-number}
 use Rattle.record.proofs.Accepted.{Accepted, accepted}
 use Rattle.record.proofs.TasksAlone.{fair}
 use Rattle.reading.specs.Types.{Bool, true, false, List, [], _∷_, ℕ, Release, Refusal, NoRefusal, Alone, AtEntry, Outcome, RefusedInput}
-use Rattle.reading.specs.Told.{told, sorted}
+use Rattle.reading.specs.Attested.{attested, sorted}
 use Rattle.reading.specs.Parts.{AllFit, AllEarly}
-use Rattle.reading.specs.Reading.{list-bytes, input-of, same-bytes, yielded-by, yields, turned-away, listed-if, read-told, read-opened, reading}
+use Rattle.reading.specs.Reading.{list-bytes, input-of, same-bytes, yielded-by, yields, turned-away, listed-if, read-attested, read-opened, reading}
 use Rattle.reading.specs.Acceptance.{Yields, NoList, Accepts}
-use Rattle.reading.proofs.RunTold.{run-told, tally}
+use Rattle.reading.proofs.RunAttested.{run-attested, tally}
 use Rattle.reading.proofs.Noting.{same-releases}
-use Rattle.reading.proofs.Telling.{file-told}
+use Rattle.reading.proofs.Telling.{file-attested}
 use Rattle.reading.proofs.Leaving.{leaves-one}
 use Rattle.reading.proofs.Ordering.{sorted-tally, all-tally, late, past-time, early, none-past, none-late, in-time, ordered}
 use Rattle.reading.proofs.Inputs.{reads-list}
-use Rattle.reading.proofs.Numbers.{Low, RefusalLow, opening-low, CheckedLow, told-low}
+use Rattle.reading.proofs.Numbers.{Low, RefusalLow, opening-low, CheckedLow, attested-low}
 
 -- ---- bytes compared
 
@@ -60,28 +60,28 @@ found s bytes (Releases qs) h = record { qs = qs; releases = refl; its-record = 
 
 -- it tells as many releases of each sort as the input has
 module _ (s : List ℕ) (qs : List Release) (h : releases-of s ≡ Releases qs) (bytes : List ℕ) (e : record-bytes (moments-of s qs) ≡ bytes) where
-  tells : told bytes ≡ Releases (run-told (moments-of s qs))
-  tells = ap told (sym e) ∙ file-told s qs h
+  tells : attested bytes ≡ Releases (run-attested (moments-of s qs))
+  tells = ap attested (sym e) ∙ file-attested s qs h
 
-  as-many : (ps : List Release) → told bytes ≡ Releases ps → (test : Release → Bool) → tally test ps ≡ tally test qs
-  as-many ps f test = ap (tally test) (same-releases ps (run-told (moments-of s qs)) (sym f ∙ tells)) ∙ leaves-one s qs h test
+  as-many : (ps : List Release) → attested bytes ≡ Releases ps → (test : Release → Bool) → tally test ps ≡ tally test qs
+  as-many ps f test = ap (tally test) (same-releases ps (run-attested (moments-of s qs)) (sym f ∙ tells)) ∙ leaves-one s qs h test
 
 -- ---- a list that yields a record
 
 -- the record tells the list's releases
-pub read-back : (tasks : List ℕ) (rs : List Release) (bytes : List ℕ) → Yields tasks rs bytes → (ps : List Release) × (told bytes ≡ Releases ps) × (sorted ps ≡ rs)
+pub read-back : (tasks : List ℕ) (rs : List Release) (bytes : List ℕ) → Yields tasks rs bytes → (ps : List Release) × (attested bytes ≡ Releases ps) × (sorted ps ≡ rs)
 read-back tasks rs bytes y =
     let s : List ℕ = input-of tasks rs in
     let a : Accepted s rs = accepted s rs (y .admissible) in
-    let ps : List Release = run-told (moments-of s rs) in
-    let t : told bytes ≡ Releases ps = tells s rs (y .admissible) bytes (y .its-record) in
+    let ps : List Release = run-attested (moments-of s rs) in
+    let t : attested bytes ≡ Releases ps = tells s rs (y .admissible) bytes (y .its-record) in
     (ps, t, ordered (head-of s .table .present) (fair s rs a .present) ps rs (a .sorted) (as-many s rs (y .admissible) bytes (y .its-record) ps t))
 
 module _ (tasks bytes : List ℕ) (ps : List Release) (h : opening tasks .refusal ≡ NoRefusal) where
   abbrev s : List ℕ
   s = input-of tasks (sorted ps)
 
-  -- what the input of the releases told, in order, is read as
+  -- what the input of the releases attested, in order, is read as
   read-as : tally past-time ps ≡ 0 → (f : Found (input-of tasks (sorted ps)) bytes (releases-of (input-of tasks (sorted ps)))) → f .qs ≡ sorted ps
   read-as small f = reads-list tasks (sorted ps) (f .qs) h (sorted-tally past-time ps ∙ small) (f .releases)
 
@@ -97,7 +97,7 @@ module _ (tasks bytes : List ℕ) (ps : List Release) (h : opening tasks .refusa
           (omega (arith, a .few, ap length e, all-tally (sorted ps), all-tally ps, sorted-tally (λ r. true) ps))
 
   -- they yield the record, if its bytes are those of their run
-  yielded : told bytes ≡ Releases ps → yields (input-of tasks (sorted ps)) bytes ≡ true → Yields tasks (sorted ps) bytes
+  yielded : attested bytes ≡ Releases ps → yields (input-of tasks (sorted ps)) bytes ≡ true → Yields tasks (sorted ps) bytes
   yielded t b =
       let f : Found s bytes (releases-of s) = found s bytes (releases-of s) b in
       let a : Accepted s (f .qs) = accepted s (f .qs) (f .releases) in
@@ -112,9 +112,9 @@ module _ (tasks bytes : List ℕ) (ps : List Release) (h : opening tasks .refusa
 -- ---- what is read
 
 module _ (tasks bytes lent : List ℕ) where
-  told-list : (ps : List Release) → opening tasks .refusal ≡ NoRefusal → told bytes ≡ Releases ps → reading tasks bytes lent ≡ listed-if tasks bytes lent (sorted ps)
+  attested-list : (ps : List Release) → opening tasks .refusal ≡ NoRefusal → attested bytes ≡ Releases ps → reading tasks bytes lent ≡ listed-if tasks bytes lent (sorted ps)
   unfolding reading
-  told-list ps h t = ap (read-opened tasks bytes lent) h ∙ ap (read-told tasks bytes lent) t
+  attested-list ps h t = ap (read-opened tasks bytes lent) h ∙ ap (read-attested tasks bytes lent) t
 
   listed : (rs : List Release) → yields (input-of tasks rs) bytes ≡ true → listed-if tasks bytes lent rs ≡ written (list-bytes rs) lent
   unfolding listed-if
@@ -130,26 +130,26 @@ module _ (tasks bytes lent : List ℕ) where
   reads rs y =
       let s : List ℕ = input-of tasks rs in
       let b = read-back tasks rs bytes y in
-      told-list (b .0) (y .opens) (b .1) ∙ ap (listed-if tasks bytes lent) (b .2)
+      attested-list (b .0) (y .opens) (b .1) ∙ ap (listed-if tasks bytes lent) (b .2)
       ∙ listed rs (ap (yielded-by s bytes) (y .admissible) ∙ ap (same-bytes (record-bytes (moments-of s rs))) (sym (y .its-record)) ∙ same (record-bytes (moments-of s rs)))
 
   -- by whether an entry is refused, a list yields the record, or none does
   read-cases : (P : Written → Type 0) → ((r : Refusal) → Low (refusal-number r) → P (turned-away r lent))
       → ((rs : List Release) → Yields tasks rs bytes → P (written (list-bytes rs) lent))
-      → (opening tasks .refusal ≡ NoRefusal → (ps : List Release) → told bytes ≡ Releases ps → yields (input-of tasks (sorted ps)) bytes ≡ false → P (turned-away (Alone 18) lent))
+      → (opening tasks .refusal ≡ NoRefusal → (ps : List Release) → attested bytes ≡ Releases ps → yields (input-of tasks (sorted ps)) bytes ≡ false → P (turned-away (Alone 18) lent))
       → P (reading tasks bytes lent)
   unfolding reading
   read-cases P away some none = go (opening tasks .refusal) refl (opening-low tasks)
     where
-      go-told : opening tasks .refusal ≡ NoRefusal → (c : Checked) → told bytes ≡ c → CheckedLow c → P (read-told tasks bytes lent c)
-      go-told h (Rejected r) t l = away r l
-      go-told h (Releases ps) t l =
+      go-attested : opening tasks .refusal ≡ NoRefusal → (c : Checked) → attested bytes ≡ c → CheckedLow c → P (read-attested tasks bytes lent c)
+      go-attested h (Rejected r) t l = away r l
+      go-attested h (Releases ps) t l =
           by-test (yields (input-of tasks (sorted ps)) bytes)
           (λ b. subst P (sym (listed (sorted ps) b)) (some (sorted ps) (yielded tasks bytes ps h t b)))
           (λ b. subst P (sym (not-listed (sorted ps) b)) (none h ps t b))
 
       go : (r : Refusal) → opening tasks .refusal ≡ r → RefusalLow r → P (read-opened tasks bytes lent r)
-      go NoRefusal h l = go-told h (told bytes) refl (told-low bytes)
+      go NoRefusal h l = go-attested h (attested bytes) refl (attested-low bytes)
       go (Alone n) h l = away (Alone n) l
       go (AtEntry n at) h l = away (AtEntry n at) l
 
@@ -181,7 +181,7 @@ accepts tasks bytes before = record {
       let t = n .whole .1 in
       by-test (yields (input-of tasks (sorted ps)) bytes)
       (λ b. absurd (n .none (sorted ps) (yielded tasks bytes ps (n .opens) t b)))
-      (λ b. ap (λ (w : Written). outcome-number (w .outcome)) (told-list tasks bytes before ps (n .opens) t ∙ not-listed tasks bytes before (sorted ps) b));
+      (λ b. ap (λ (w : Written). outcome-number (w .outcome)) (attested-list tasks bytes before ps (n .opens) t ∙ not-listed tasks bytes before (sorted ps) b));
   none-if = λ e.
       read-cases tasks bytes before (λ (w : Written). outcome-number (w .outcome) ≡ 18 → NoList tasks bytes)
       (λ r l x. absurd (omega arith))

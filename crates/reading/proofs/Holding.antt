@@ -52,19 +52,19 @@ pub same-false : (a b : List ℕ) → (a ≡ b → ⊥) → false ≡ same-bytes
 same-false a b f = by-test (same-bytes a b) (λ e. absurd (f (true-same a b e))) (λ e. sym e)
 
 -- one byte after the other: those passed are the same or not
-pub told-none : (a b : List ℕ) → Tells true (take 0 a) (take 0 b)
-told-none a b = record { same = λ e. refl; told = λ e. refl }
+pub alike-none : (a b : List ℕ) → Tells true (take 0 a) (take 0 b)
+alike-none a b = record { same = λ e. refl; shows = λ e. refl }
 
-pub told-more : (a b : List ℕ) (i : ℕ) (x y : Bool) → i < length a → length a ≡ length b → Tells x (take i a) (take i b) → y ≡ (x && eqb (getD a i 0) (getD b i 0))
+pub alike-more : (a b : List ℕ) (i : ℕ) (x y : Bool) → i < length a → length a ≡ length b → Tells x (take i a) (take i b) → y ≡ (x && eqb (getD a i 0) (getD b i 0))
     → Tells y (take (i + 1) a) (take (i + 1) b)
-told-more a b i x y l n h e = record {
+alike-more a b i x y l n h e = record {
   same = λ t.
       let both : (x && eqb (getD a i 0) (getD b i 0)) ≡ true = sym e ∙ t in
       one a l ∙ ap₂ (λ (f : List ℕ) (v : ℕ). f ++ (v ∷ [])) (h .same (left x _ both)) (eqb-true (getD a i 0) (getD b i 0) (right x _ both)) ∙ sym (one b (omega arith));
-  told = λ t.
+  shows = λ t.
       let d : take i a ++ (getD a i 0 ∷ []) ≡ take i b ++ (getD b i 0 ∷ []) = sym (one a l) ∙ t ∙ one b (omega arith) in
       let size : length (take i a) ≡ length (take i b) = length-take-le i a (omega arith) ∙ sym (length-take-le i b (omega arith)) in
-      e ∙ rw (h .told (front (take i a) (take i b) (getD a i 0) (getD b i 0) size d), eq-eqb (getD a i 0) (getD b i 0) (last (take i a) (take i b) (getD a i 0) (getD b i 0) size d));
+      e ∙ rw (h .shows (front (take i a) (take i b) (getD a i 0) (getD b i 0) size d), eq-eqb (getD a i 0) (getD b i 0) (last (take i a) (take i b) (getD a i 0) (getD b i 0) size d));
 }
   where
     one : (s : List ℕ) → i < length s → take (i + 1) s ≡ take i s ++ (getD s i 0 ∷ [])
@@ -81,7 +81,7 @@ told-more a b i x y l n h e = record {
 pub too-few : (s : List ℕ) (at : ℕ) (made : List ℕ) (n : ℕ) → n ≤ length made → length s - at < n → Tells false (take n (drop at s)) (take n made)
 too-few s at made n l m = record {
   same = λ e. absurd (true≢false (sym e));
-  told = λ e. absurd (omega (arith, ap length e, length-take-le n made l, length-take n (drop at s), length-drop at s));
+  shows = λ e. absurd (omega (arith, ap length e, length-take-le n made l, length-take n (drop at s), length-drop at s));
 }
 
 -- a front, and the next bytes behind it

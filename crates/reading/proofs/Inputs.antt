@@ -32,7 +32,7 @@ use Rattle.record.proofs.TasksAlone.{unlike}
 use Rattle.reading.specs.Types.{true, false, List, [], _∷_, _++_, ℕ, suc, _+_, Release, NoRefusal, Alone}
 use Rattle.reading.specs.Reading.{list-bytes, input-of}
 use Rattle.reading.specs.Parts.{ReadHead, Opened}
-use Rattle.reading.proofs.RunTold.{tally}
+use Rattle.reading.proofs.RunAttested.{tally}
 use Rattle.reading.proofs.Noting.{same-releases}
 use Rattle.reading.proofs.Ordering.{first-none, past-time}
 

@@ -9,7 +9,7 @@ use lib.Dec.{eqb}
 use Rattle.sets.specs.Sets.{member, insert, remove, bit, count}
 use Rattle.sets.proofs.Laws.{by-test, none, count-sum, count-none, inserted, removed}
 use Rattle.reading.specs.Types.{Bool, true, false, cond, List, [], _∷_, _++_, ℕ, zero, suc, _+_, Release}
-use Rattle.reading.proofs.RunTold.{tally, skips-told}
+use Rattle.reading.proofs.RunAttested.{tally, skips-attested}
 
 -- ---- how many tasks pass a test
 
@@ -82,17 +82,17 @@ module _ (test : Release → Bool) where
   tally-append (x ∷ xs) ys = omega (arith, tally-append xs ys)
 
   -- the releases skipped are those of their set
-  skips-counted : (j set t : ℕ) → tally test (skips-told j set t) ≡ count j (λ n. member n set && hits t n)
-  unfolding tally skips-told count
+  skips-counted : (j set t : ℕ) → tally test (skips-attested j set t) ≡ count j (λ n. member n set && hits t n)
+  unfolding tally skips-attested count
   skips-counted zero set t = refl
   skips-counted (suc j) set t =
-      tally-append (skips-told j set t) (cond (member j set) (record { task = j; time = t } ∷ []) [])
+      tally-append (skips-attested j set t) (cond (member j set) (record { task = j; time = t } ∷ []) [])
       ∙ omega (arith, skips-counted j set t, go (member j set))
     where
       go : (b : Bool) → tally test (cond b (record { task = j; time = t } ∷ []) []) ≡ bit (b && hits t j)
       go true = omega arith
       go false = refl
 
-  pub skips-tally : (set t : ℕ) → tally test (skips-told 32 set t) ≡ among set (λ n. t)
+  pub skips-tally : (set t : ℕ) → tally test (skips-attested 32 set t) ≡ among set (λ n. t)
   unfolding among
   skips-tally set t = skips-counted 32 set t

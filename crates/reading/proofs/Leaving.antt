@@ -34,7 +34,7 @@ use Rattle.record.proofs.TasksAlone.{fair}
 use Rattle.record.proofs.Feeding.{Fit, state-is, step-is, fit-next}
 use Rattle.record.proofs.FileClaim.{fit, fed-file, demand-3-files}
 use Rattle.reading.specs.Types.{Release}
-use Rattle.reading.proofs.RunTold.{done-told, skips-told, moment-told, run-told, tally}
+use Rattle.reading.proofs.RunAttested.{done-attested, skips-attested, moment-attested, run-attested, tally}
 use Rattle.reading.proofs.Keys.{count-threes, hits, among, among-none, among-removed, among-inserted, tally-append, skips-tally}
 
 -- ---- what is pending and what waits, with the times of the releases
@@ -114,7 +114,7 @@ module _ (test : Release → Bool) where
 
   -- a: a job that is done was pending
   a-jobs : (j : Jobs) (t : ℕ) (o : CopyOut) → ((n start until : ℕ) → o ≡ CopyingOut n start until → (n < 32) × (member n (j .pending) ≡ true))
-      → tally test (done-told (completed j t o)) + among test (after-done (j .pending) (completed j t o)) (λ n. getD (j .release) n 0)
+      → tally test (done-attested (completed j t o)) + among test (after-done (j .pending) (completed j t o)) (λ n. getD (j .release) n 0)
       ≡ among test (j .pending) (λ n. getD (j .release) n 0)
   unfolding completed tally
   a-jobs j t NoCopyOut h = omega arith
@@ -125,7 +125,7 @@ module _ (test : Release → Bool) where
   a-jobs j t (CopiedOut n) h = omega arith
 
   a-leaves : (present : ℕ) (tasks : present < 2 ^ 32) (d : State) (t : ℕ) (p : Phase) → Parted present tasks d p
-      → tally test (done-told (step-a d t p .done)) + held-with (held (step-a d t p .state)) ≡ held-with (held d)
+      → tally test (done-attested (step-a d t p .done)) + held-with (held (step-a d t p .state)) ≡ held-with (held d)
   unfolding step-a without-done held-with tally
   a-leaves present tasks d t (Between next outgoing) h = omega arith
   a-leaves present tasks d t (Within i) h = omega (arith, a-jobs (d .jobs) t (i .copyout) there)
@@ -217,20 +217,20 @@ module _ (test : Release → Bool) where
 
   -- an instant
   instant-leaves : (present : ℕ) (tasks : present < 2 ^ 32) (d : State) (t set : ℕ) → Parted present tasks d (d .phase) → Long (held d)
-      → tally test (moment-told (moment d t set)) + held-with (held (at-g d t set)) ≡ held-with (held d) + among test set (λ n. t)
-  unfolding moment-told occurred taken-at deferred-at skipped-at
+      → tally test (moment-attested (moment d t set)) + held-with (held (at-g d t set)) ≡ held-with (held d) + among test set (λ n. t)
+  unfolding moment-attested occurred taken-at deferred-at skipped-at
   instant-leaves present tasks d t set h long =
       let a : Stage = at-a d t in
       let b : State = at-b d t .state in
-      let from-a : tally test (done-told (a .done)) + held-with (held (a .state)) ≡ held-with (held d) =
+      let from-a : tally test (done-attested (a .done)) + held-with (held (a .state)) ≡ held-with (held d) =
       unfold at-a in a-leaves present tasks (at-clock d t) t (d .phase) (record { few = h .few; marks = h .marks; pending = h .pending; ready = h .ready; waits = h .waits; known = h .known; parts = h .parts }) in
       omega (
         arith,
-        tally-append test (done-told (at-b d t .done)) (skips-told 32 (union (too-soon b t set) (skipped b (passing b t set))) t),
+        tally-append test (done-attested (at-b d t .done)) (skips-attested 32 (union (too-soon b t set) (skipped b (passing b t set))) t),
         skips-tally test (union (too-soon b t set) (skipped b (passing b t set))) t,
         skipped-apart b t set,
         passing-apart b t set,
-        ap (λ (o : Done). tally test (done-told o)) (done-so d t set),
+        ap (λ (o : Done). tally test (done-attested o)) (done-so d t set),
         c-leaves b t (passing b t set) (b-long d t long),
         ap held-with (held-b d t),
         ap held-with (held-g d t set),
@@ -265,8 +265,8 @@ module _ (test : Release → Bool) where
   -- along the calls that feed a file
   module _ (table : Table) (marks : ℕ) (fair : Fair table marks) where
     feed-leaves : (cs : List Call) (d : State) (rs : List Release) → Fit table marks fair d rs → Long (held d) → Feeds d rs cs
-        → tally test (run-told (answers d cs)) + held-with (held (after-calls d cs)) ≡ held-with (held d) + tally test rs
-    unfolding Feeds answers after-calls run-told tally
+        → tally test (run-attested (answers d cs)) + held-with (held (after-calls d cs)) ≡ held-with (held d) + tally test rs
+    unfolding Feeds answers after-calls run-attested tally
     feed-leaves [] d rs fit long feeds = rw (feeds .0) (omega arith)
     feed-leaves (c ∷ cs) d rs fit long feeds =
         let t : ℕ = feeds .0 in
@@ -282,9 +282,9 @@ module _ (test : Release → Bool) where
         ∙ ap (λ (x : State). m ∷ answers x cs) (state-is table marks fair d rs t fit (feeds .1)) in
         omega (
           arith,
-          ap (λ (ms : List Moment). tally test (run-told ms)) gives,
+          ap (λ (ms : List Moment). tally test (run-attested ms)) gives,
           ap (λ (x : State). held-with (held x)) last,
-          tally-append test (moment-told m) (run-told (answers g cs)),
+          tally-append test (moment-attested m) (run-attested (answers g cs)),
           instant-leaves (table .present) (fair .present) d t set (fit .good .parted) long,
           feed-leaves cs g rest (fit-next table marks fair d rs t fit (feeds .1)) (g-long d t set long) (subst (λ (x : State). Feeds x rest cs) state (feeds .3)),
           releases-apart (table .present) (fair .present) t 0 rs (fit .sorted) (none-under t rs),
@@ -294,19 +294,19 @@ module _ (test : Release → Bool) where
 -- ---- the file's run
 
 -- of each test the run has as many entries that pass it as the input has releases
-pub leaves-one : (s : List ℕ) (rs : List Release) → releases-of s ≡ Releases rs → (test : Release → Bool) → tally test (run-told (moments-of s rs)) ≡ tally test rs
+pub leaves-one : (s : List ℕ) (rs : List Release) → releases-of s ≡ Releases rs → (test : Release → Bool) → tally test (run-attested (moments-of s rs)) ≡ tally test rs
 unfolding Demand3Files
 leaves-one s rs h test =
     let a : Accepted s rs = accepted s rs h in
     let d : State = opened (head-of s .table) (head-of s .marked) in
     let f = fed-file s rs h in
     let claim = demand-3-files s rs h .of-the-feed (f .calls) (f .feeds) in
-    let fed : tally test (run-told (answers d (f .calls))) + held-with test (held (after-calls d (f .calls))) ≡ held-with test (held d) + tally test rs =
+    let fed : tally test (run-attested (answers d (f .calls))) + held-with test (held (after-calls d (f .calls))) ≡ held-with test (held d) + tally test rs =
     feed-leaves test (head-of s .table) (head-of s .marked) (fair s rs a) (f .calls) d rs (fit s rs a) (unfold opened in record { release = refl; times = refl }) (f .feeds) in
     omega (
       arith,
       fed,
-      ap (λ (ms : List Moment). tally test (run-told ms)) (f .gives),
+      ap (λ (ms : List Moment). tally test (run-attested ms)) (f .gives),
       none-held test (after-calls d (f .calls)) (claim .nothing-pending) (claim .nothing-waits),
       none-held test d (unfold opened in refl) (unfold opened in refl),
     )

@@ -1,7 +1,7 @@
 pub mod Sorting
 pub mod Noting
 pub mod Onward
-pub mod RunTold
+pub mod RunAttested
 pub mod Telling
 pub mod Keys
 pub mod Leaving

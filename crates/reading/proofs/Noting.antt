@@ -20,8 +20,8 @@ use Rattle.reading.specs.Types.{Release, Refusal, NoRefusal, AtEntry, Re
 use Rattle.reading.specs.declared.collecting.Decoded.the-variants.{Faulty, Whole}
 use Rattle.reading.specs.declared.collecting.Noted.{Noted}
 use Rattle.reading.specs.declared.collecting.Telling.{Telling}
-use Rattle.reading.specs.Told.{key, told, told-by, told-from}
-use Rattle.reading.specs.Parts.{decoded, fault, keys-of, AllFit, AllEarly, Notes, NotesMore, told-release, none-noted, Collects}
+use Rattle.reading.specs.Attested.{key, attested, attested-by, attested-from}
+use Rattle.reading.specs.Parts.{decoded, fault, keys-of, AllFit, AllEarly, Notes, NotesMore, attested-release, none-noted, Collects}
 use Rattle.reading.specs.Pieces.{Front, front-by, front-from, front}
 
 -- ---- one release more
@@ -113,7 +113,7 @@ module _ (n : Noted) (t : Telling) (keys : List ℕ) where
 
 -- ---- the entries from a place on
 
--- releases in front of what is told behind them
+-- releases in front of what is attested behind them
 unfoldable pub in-front : List Release → Checked → Checked
 in-front [] c = c
 in-front (r ∷ rs) c = with-release r (in-front rs c)
@@ -138,7 +138,7 @@ pub record Collecting (s : List ℕ) (n₀ : Noted) (before : List ℕ) (at : �
   pub rs : List Release
   pub fuel : ℕ
   pub enough : length s - at ≤ fuel
-  pub rest : in-front rs (told-from fuel s at) ≡ told s
+  pub rest : in-front rs (attested-from fuel s at) ≡ attested s
   pub fronts : rs ++ front-from fuel s at .releases ≡ front s .releases
   pub within : n₀ .count ≤ length before → n .count ≤ length keys
   pub notes : (qs : List Release) → Notes qs n₀ before → Notes (qs ++ rs) n keys
@@ -166,15 +166,15 @@ unfolding front-from front-by record-entry-at
 front-none zero s at l = refl
 front-none (suc k) s at l = rw (past 1 s at l)
 
-pub told-none : (k : ℕ) (s : List ℕ) (at : ℕ) → length s ≤ at → told-from k s at ≡ Releases []
-unfolding told-from
-told-none zero s at l = refl
-told-none (suc k) s at l = rw (le-leb (length s) at l, told-from)
+pub attested-none : (k : ℕ) (s : List ℕ) (at : ℕ) → length s ≤ at → attested-from k s at ≡ Releases []
+unfolding attested-from
+attested-none zero s at l = refl
+attested-none (suc k) s at l = rw (le-leb (length s) at l, attested-from)
 
-pub told-one : (k : ℕ) (s : List ℕ) (at : ℕ) → at < length s
-    → told-from (suc k) s at ≡ told-by (record-entry-at s at) at (told-from k s (at + record-entry-size (record-entry-at s at)))
-unfolding told-from
-told-one k s at l = rw (lt-leb (length s) at l, told-from)
+pub attested-one : (k : ℕ) (s : List ℕ) (at : ℕ) → at < length s
+    → attested-from (suc k) s at ≡ attested-by (record-entry-at s at) at (attested-from k s (at + record-entry-size (record-entry-at s at)))
+unfolding attested-from
+attested-one k s at l = rw (lt-leb (length s) at l, attested-from)
 
 whole-is : (a b : Telling) → Whole a ≡ Whole b → a ≡ b
 whole-is a b e = cc
@@ -184,17 +184,17 @@ same-releases qs rs e = cc
 
 -- a whole entry, and what it tells
 pub record Says (at : ℕ) (e : RecordEntry) (c : Checked) (f : Front) (t : Telling) : Type 0 where
-  pub told : told-by e at c ≡ in-front (told-release t (t .counts)) c
-  pub front : front-by e at f .releases ≡ told-release t (t .counts) ++ f .releases
+  pub attested : attested-by e at c ≡ in-front (attested-release t (t .counts)) c
+  pub front : front-by e at f .releases ≡ attested-release t (t .counts) ++ f .releases
   pub size : t .size ≡ record-entry-size e
   pub some : 0 < t .size
 
 says : (at : ℕ) (e : RecordEntry) (c : Checked) (f : Front) (t : Telling) → decoded e ≡ Whole t → Says at e c f t
-unfolding told-by front-by in-front
+unfolding attested-by front-by in-front
 says at (MalformedRecord x) c f t d = absurd (let z : _≡_ {A = ℕ} 0 1 = cc in omega arith)
-says at (JobDone x) c f t d = subst (Says at (JobDone x) c f) (whole-is _ t d) (record { told = refl; front = refl; size = refl; some = omega arith })
-says at (IntervalEnded x) c f t d = subst (Says at (IntervalEnded x) c f) (whole-is _ t d) (record { told = refl; front = refl; size = refl; some = omega arith })
-says at (ReleaseSkipped x) c f t d = subst (Says at (ReleaseSkipped x) c f) (whole-is _ t d) (record { told = refl; front = refl; size = refl; some = omega arith })
+says at (JobDone x) c f t d = subst (Says at (JobDone x) c f) (whole-is _ t d) (record { attested = refl; front = refl; size = refl; some = omega arith })
+says at (IntervalEnded x) c f t d = subst (Says at (IntervalEnded x) c f) (whole-is _ t d) (record { attested = refl; front = refl; size = refl; some = omega arith })
+says at (ReleaseSkipped x) c f t d = subst (Says at (ReleaseSkipped x) c f) (whole-is _ t d) (record { attested = refl; front = refl; size = refl; some = omega arith })
 
 pub whole-size : (e : RecordEntry) (t : Telling) → decoded e ≡ Whole t → (t .size ≡ record-entry-size e) × (0 < t .size)
 whole-size e t d = let w = says 0 e (Releases []) (front []) t d in (w .size, w .some)
@@ -210,8 +210,8 @@ module _ {s : List ℕ} {n₀ : Noted} {before : List ℕ} {at : ℕ} {n : Noted
   -- nothing is left
   pub ends : length s ≤ at → Collects s n₀ before (record { noted = n; refusal = NoRefusal }) keys
   ends l =
-      let all : Releases (h .rs) ≡ told s =
-      ap Releases (sym (append-nil (h .rs))) ∙ sym (front-all (h .rs) []) ∙ ap (in-front (h .rs)) (sym (told-none (h .fuel) s at l)) ∙ h .rest in
+      let all : Releases (h .rs) ≡ attested s =
+      ap Releases (sym (append-nil (h .rs))) ∙ sym (front-all (h .rs) []) ∙ ap (in-front (h .rs)) (sym (attested-none (h .fuel) s at l)) ∙ h .rest in
       let same-front : h .rs ≡ front s .releases = stops (front-none (h .fuel) s at l) in
       record {
         same-length = same;
@@ -223,8 +223,8 @@ module _ {s : List ℕ} {n₀ : Noted} {before : List ℕ} {at : ℕ} {n : Noted
 
   module _ (l : at < length s) where
     turned : (k : ℕ) → h .fuel ≡ suc k
-        → in-front (h .rs) (told-by (record-entry-at s at) at (told-from k s (at + record-entry-size (record-entry-at s at)))) ≡ told s
-    turned k e = ap (in-front (h .rs)) (sym (told-one k s at l) ∙ ap (λ (x : ℕ). told-from x s at) (sym e)) ∙ h .rest
+        → in-front (h .rs) (attested-by (record-entry-at s at) at (attested-from k s (at + record-entry-size (record-entry-at s at)))) ≡ attested s
+    turned k e = ap (in-front (h .rs)) (sym (attested-one k s at l) ∙ ap (λ (x : ℕ). attested-from x s at) (sym e)) ∙ h .rest
 
     fronted : (k : ℕ) → h .fuel ≡ suc k
         → h .rs ++ front-by (record-entry-at s at) at (front-from k s (at + record-entry-size (record-entry-at s at))) .releases ≡ front s .releases
@@ -234,11 +234,11 @@ module _ {s : List ℕ} {n₀ : Noted} {before : List ℕ} {at : ℕ} {n : Noted
     -- an entry that is refused
     pub faulty : (e : RecordEntry) → record-entry-at s at ≡ e → decoded e ≡ Faulty
         → Collects s n₀ before (record { noted = n; refusal = AtEntry (fault e) at }) keys
-    unfolding told-by front-by
+    unfolding attested-by front-by
     faulty (MalformedRecord x) a d = go (h .fuel) refl
       where
-        refused : (k : ℕ) → h .fuel ≡ suc k → Rejected (AtEntry x at) ≡ told s
-        refused k f = sym (front-refused (h .rs) (AtEntry x at)) ∙ subst (λ (y : RecordEntry). in-front (h .rs) (told-by y at (told-from k s (at + record-entry-size y))) ≡ told s) a (turned k f)
+        refused : (k : ℕ) → h .fuel ≡ suc k → Rejected (AtEntry x at) ≡ attested s
+        refused k f = sym (front-refused (h .rs) (AtEntry x at)) ∙ subst (λ (y : RecordEntry). in-front (h .rs) (attested-by y at (attested-from k s (at + record-entry-size y))) ≡ attested s) a (turned k f)
 
         here : (k : ℕ) → h .fuel ≡ suc k → h .rs ≡ front s .releases
         here k f = sym (append-nil (h .rs)) ∙ subst (λ (y : RecordEntry). h .rs ++ front-by y at (front-from k s (at + record-entry-size y)) .releases ≡ front s .releases) a (fronted k f)
@@ -261,20 +261,20 @@ module _ {s : List ℕ} {n₀ : Noted} {before : List ℕ} {at : ℕ} {n : Noted
     goes-on t m after d more = go (h .fuel) refl
       where
         tells : List Release
-        tells = told-release t (t .counts)
+        tells = attested-release t (t .counts)
 
         go : (k : ℕ) → h .fuel ≡ k → Collecting s n₀ before (at + t .size) m after
         go zero f = absurd (omega (arith, h .enough))
         go (suc k) f =
             let next : ℕ = at + record-entry-size (record-entry-at s at) in
-            let w = says at (record-entry-at s at) (told-from k s next) (front-from k s next) t d in
+            let w = says at (record-entry-at s at) (attested-from k s next) (front-from k s next) t d in
             record {
               rs = h .rs ++ tells;
               fuel = k;
               enough = omega (arith, h .enough, w .some);
-              rest = sym (front-more (h .rs) tells (told-from k s (at + t .size)))
-                  ∙ ap (λ (x : ℕ). in-front (h .rs) (in-front tells (told-from k s (at + x)))) (w .size)
-                  ∙ ap (in-front (h .rs)) (sym (w .told)) ∙ turned k f;
+              rest = sym (front-more (h .rs) tells (attested-from k s (at + t .size)))
+                  ∙ ap (λ (x : ℕ). in-front (h .rs) (in-front tells (attested-from k s (at + x)))) (w .size)
+                  ∙ ap (in-front (h .rs)) (sym (w .attested)) ∙ turned k f;
               fronts = append-assoc (h .rs) tells (front-from k s (at + t .size) .releases)
                   ∙ ap (λ (x : ℕ). h .rs ++ (tells ++ front-from k s (at + x) .releases)) (w .size)
                   ∙ ap (λ (l : List Release). h .rs ++ l) (sym (w .front)) ∙ fronted k f;
@@ -286,20 +286,20 @@ module _ {s : List ℕ} {n₀ : Noted} {before : List ℕ} {at : ℕ} {n : Noted
 
 -- no entry that tells of one has fewer bytes than 10
 entry-few : (k : ℕ) (s : List ℕ) (at : ℕ) (rs : List Release) (x : RecordEntry) → record-entry-size x ≤ length s - at
-    → told-by x at (told-from k s (at + record-entry-size x)) ≡ Releases rs
-    → ((n : ℕ) (qs : List Release) → told-from k s (at + n) ≡ Releases qs → 10 * length qs ≤ length s - (at + n)) → 10 * length rs ≤ length s - at
-unfolding told-by
+    → attested-by x at (attested-from k s (at + record-entry-size x)) ≡ Releases rs
+    → ((n : ℕ) (qs : List Release) → attested-from k s (at + n) ≡ Releases qs → 10 * length qs ≤ length s - (at + n)) → 10 * length rs ≤ length s - at
+unfolding attested-by
 entry-few k s at rs (MalformedRecord n) l h f = absurd (let z : _≡_ {A = ℕ} 0 1 = cc in omega arith)
 entry-few k s at rs (IntervalEnded y) l h f = omega (arith, f 24 rs h)
 entry-few k s at rs (JobDone y) l h f = let w = with-first _ _ rs h in omega (arith, f 27 (w .0) (w .1), ap length (w .2))
 entry-few k s at rs (ReleaseSkipped y) l h f = let w = with-first _ _ rs h in omega (arith, f 10 (w .0) (w .1), ap length (w .2))
 
-told-few : (k : ℕ) (s : List ℕ) (at : ℕ) (rs : List Release) → told-from k s at ≡ Releases rs → 10 * length rs ≤ length s - at
-told-few zero s at rs e = unfold told-from in subst (λ (x : List Release). 10 * length x ≤ length s - at) (same-releases [] rs e) (omega arith)
-told-few (suc k) s at rs e =
+attested-few : (k : ℕ) (s : List ℕ) (at : ℕ) (rs : List Release) → attested-from k s at ≡ Releases rs → 10 * length rs ≤ length s - at
+attested-few zero s at rs e = unfold attested-from in subst (λ (x : List Release). 10 * length x ≤ length s - at) (same-releases [] rs e) (omega arith)
+attested-few (suc k) s at rs e =
     by-test (leb (length s) at)
-    (λ l. subst (λ (x : List Release). 10 * length x ≤ length s - at) (same-releases [] rs (sym (told-none (suc k) s at (leb-true (length s) at l)) ∙ e)) (omega arith))
-    (λ l. entry-few k s at rs (record-entry-at s at) (entry-within s at) (sym (told-one k s at (leb-false (length s) at l)) ∙ e) (λ n qs x. told-few k s (at + n) qs x))
+    (λ l. subst (λ (x : List Release). 10 * length x ≤ length s - at) (same-releases [] rs (sym (attested-none (suc k) s at (leb-true (length s) at l)) ∙ e)) (omega arith))
+    (λ l. entry-few k s at rs (record-entry-at s at) (entry-within s at) (sym (attested-one k s at (leb-false (length s) at l)) ∙ e) (λ n qs x. attested-few k s (at + n) qs x))
 
-pub told-short : (s : List ℕ) (rs : List Release) → told s ≡ Releases rs → 10 * length rs ≤ length s
-told-short s rs e = omega (arith, told-few (length s) s 0 rs e)
+pub attested-short : (s : List ℕ) (rs : List Release) → attested s ≡ Releases rs → 10 * length rs ≤ length s
+attested-short s rs e = omega (arith, attested-few (length s) s 0 rs e)

@@ -17,7 +17,7 @@ use Rattle.guarantees.specs.Types.{Table, Head}
 use Rattle.run.specs.Files.{Checked, Rejected, Releases, with-release}
 use Rattle.record.specs.Types.{TaskParameters, Spacing, Entry, Malformed, TaskEntry, ReleaseEntry, SpacingEntry}
 use Rattle.reading.specs.Types.{Bool, true, false, cond, List, [], ℕ, zero, suc, _+_, Release, Refusal, NoRefusal, Alone, AtEntry, RecordEntry, MalformedRecord, JobDone, IntervalEnded, ReleaseSkipped}
-use Rattle.reading.specs.Told.{release-of, told-by, told-from, told}
+use Rattle.reading.specs.Attested.{release-of, attested-by, attested-from, attested}
 
 -- neither 13 nor 18
 abbrev Other : ℕ → Type 0
@@ -126,18 +126,18 @@ unfolding with-release
 with-low r (Rejected n) l = l
 with-low r (Releases rs) l = tt
 
-entries-low : (k : ℕ) (s : List ℕ) (at : ℕ) → CheckedLow (told-from k s at)
-unfolding told-from told-by
+entries-low : (k : ℕ) (s : List ℕ) (at : ℕ) → CheckedLow (attested-from k s at)
+unfolding attested-from attested-by
 entries-low zero s at = tt
 entries-low (suc k) s at = go (leb (length s) at) (record-entry-at s at) (record-low s at) (λ n. entries-low k s (at + n))
   where
-    go : (b : Bool) (e : RecordEntry) → RecordLow e → ((n : ℕ) → CheckedLow (told-from k s (at + n)))
-        → CheckedLow (elim b [ true ↦ Releases [] | false ↦ told-by e at (told-from k s (at + record-entry-size e)) ])
+    go : (b : Bool) (e : RecordEntry) → RecordLow e → ((n : ℕ) → CheckedLow (attested-from k s (at + n)))
+        → CheckedLow (elim b [ true ↦ Releases [] | false ↦ attested-by e at (attested-from k s (at + record-entry-size e)) ])
     go true e l more = tt
     go false (MalformedRecord n) l more = l
-    go false (JobDone e) l more = with-low (release-of e) (told-from k s (at + 27)) (more 27)
+    go false (JobDone e) l more = with-low (release-of e) (attested-from k s (at + 27)) (more 27)
     go false (IntervalEnded e) l more = more 24
-    go false (ReleaseSkipped r) l more = with-low r (told-from k s (at + 10)) (more 10)
+    go false (ReleaseSkipped r) l more = with-low r (attested-from k s (at + 10)) (more 10)
 
-pub told-low : (s : List ℕ) → CheckedLow (told s)
-told-low s = entries-low (length s) s 0
+pub attested-low : (s : List ℕ) → CheckedLow (attested s)
+attested-low s = entries-low (length s) s 0

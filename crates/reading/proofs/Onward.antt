@@ -1,4 +1,4 @@
--- Pieces of a record one after the other: a whole entry stays what it is where bytes come behind it, and what is told behind a place is told of the
+-- Pieces of a record one after the other: a whole entry stays what it is where bytes come behind it, and what is attested behind a place is attested of the
 -- bytes from there on. Assumes nothing.
 use mathlib.Core.Path.{_≡_, refl, sym, ap, _∙_, subst}
 use mathlib.Core.Bool.{Bool, true, false, _&&_, cond}
@@ -18,10 +18,10 @@ use Rattle.entries.proofs.Places.{entry-behind, entry-within}
 use Rattle.run.specs.Files.{Checked, Rejected, Releases, with-release}
 use Rattle.rules.specs.Calls.{opening}
 use Rattle.reading.specs.Types.{Release, Refusal, NoRefusal, Alone, AtEntry, RecordEntry, MalformedRecord, JobDone, IntervalEnded, ReleaseSkipped}
-use Rattle.reading.specs.Told.{told, told-by, told-from, release-of}
-use Rattle.reading.specs.Reading.{same-bytes, read-told, read-opened, reading}
+use Rattle.reading.specs.Attested.{attested, attested-by, attested-from, release-of}
+use Rattle.reading.specs.Reading.{same-bytes, read-attested, read-opened, reading}
 use Rattle.reading.specs.Pieces.{Front, front-by, front-from, front, Going, at-start, go-on, gone, joined, moved, behind, at-end, TellInPieces, opened-in-pieces, ReadInPieces, SameInPieces}
-use Rattle.reading.proofs.Noting.{told-none, told-one}
+use Rattle.reading.proofs.Noting.{attested-none, attested-one}
 
 -- ---- Bytes that come behind
 
@@ -89,28 +89,28 @@ module _ (a b : List ℕ) (at : ℕ) where
       none : (n : ℕ) → record-entry-at a at ≡ MalformedRecord n → record-entry-at (a ++ b) at ≡ record-entry-at a at
       none n e = absurd (omega (arith, h, ap record-entry-size e))
 
--- ---- What is told from a place on
+-- ---- What is attested from a place on
 
 -- behind an entry that is refused nothing counts
-by-alike : (e : RecordEntry) (at : ℕ) (c d : Checked) → (0 < record-entry-size e → c ≡ d) → told-by e at c ≡ told-by e at d
-unfolding told-by
+by-alike : (e : RecordEntry) (at : ℕ) (c d : Checked) → (0 < record-entry-size e → c ≡ d) → attested-by e at c ≡ attested-by e at d
+unfolding attested-by
 by-alike (MalformedRecord n) at c d h = refl
 by-alike (JobDone x) at c d h = ap (with-release (release-of x)) (h (omega arith))
 by-alike (IntervalEnded x) at c d h = h (omega arith)
 by-alike (ReleaseSkipped r) at c d h = ap (with-release r) (h (omega arith))
 
 -- a longer count tells the same
-told-fuel : (k j : ℕ) (s : List ℕ) (at : ℕ) → length s - at ≤ k → length s - at ≤ j → told-from k s at ≡ told-from j s at
-told-fuel zero j s at l m = told-none zero s at (omega arith) ∙ sym (told-none j s at (omega arith))
-told-fuel (suc k) zero s at l m = told-none (suc k) s at (omega arith) ∙ sym (told-none zero s at (omega arith))
-told-fuel (suc k) (suc j) s at l m =
+attested-fuel : (k j : ℕ) (s : List ℕ) (at : ℕ) → length s - at ≤ k → length s - at ≤ j → attested-from k s at ≡ attested-from j s at
+attested-fuel zero j s at l m = attested-none zero s at (omega arith) ∙ sym (attested-none j s at (omega arith))
+attested-fuel (suc k) zero s at l m = attested-none (suc k) s at (omega arith) ∙ sym (attested-none zero s at (omega arith))
+attested-fuel (suc k) (suc j) s at l m =
     by-test (leb (length s) at)
-    (λ e. told-none (suc k) s at (leb-true (length s) at e) ∙ sym (told-none (suc j) s at (leb-true (length s) at e)))
+    (λ e. attested-none (suc k) s at (leb-true (length s) at e) ∙ sym (attested-none (suc j) s at (leb-true (length s) at e)))
     (λ e.
     let n : at < length s = leb-false (length s) at e in
-    told-one k s at n
-    ∙ by-alike (record-entry-at s at) at _ _ (λ p. told-fuel k j s (at + record-entry-size (record-entry-at s at)) (omega arith) (omega arith))
-    ∙ sym (told-one j s at n))
+    attested-one k s at n
+    ∙ by-alike (record-entry-at s at) at _ _ (λ p. attested-fuel k j s (at + record-entry-size (record-entry-at s at)) (omega arith) (omega arith))
+    ∙ sym (attested-one j s at n))
 
 with-behind : (r : Release) (rs : List Release) (n : ℕ) (c : Checked) → with-release r (behind rs n c) ≡ behind (r ∷ rs) n c
 unfolding with-release
@@ -122,71 +122,71 @@ unfolding with-release
 behind-with r n (Rejected x) = refl
 behind-with r n (Releases qs) = refl
 
-by-moved : (e : RecordEntry) (n at : ℕ) (c : Checked) → told-by e (n + at) (behind [] n c) ≡ behind [] n (told-by e at c)
-unfolding told-by
+by-moved : (e : RecordEntry) (n at : ℕ) (c : Checked) → attested-by e (n + at) (behind [] n c) ≡ behind [] n (attested-by e at c)
+unfolding attested-by
 by-moved (MalformedRecord x) n at c = refl
 by-moved (JobDone x) n at c = behind-with (release-of x) n c
 by-moved (IntervalEnded x) n at c = refl
 by-moved (ReleaseSkipped r) n at c = behind-with r n c
 
 -- bytes in front move the places
-told-moved : (k : ℕ) (f s : List ℕ) (at : ℕ) → told-from k (f ++ s) (length f + at) ≡ behind [] (length f) (told-from k s at)
-told-moved zero f s at = unfold told-from in refl
-told-moved (suc k) f s at =
+attested-moved : (k : ℕ) (f s : List ℕ) (at : ℕ) → attested-from k (f ++ s) (length f + at) ≡ behind [] (length f) (attested-from k s at)
+attested-moved zero f s at = unfold attested-from in refl
+attested-moved (suc k) f s at =
     by-test (leb (length s) at)
-    (λ e. told-none (suc k) (f ++ s) (length f + at) (omega (arith, leb-true (length s) at e, length-append f s))
-    ∙ ap (behind [] (length f)) (sym (told-none (suc k) s at (leb-true (length s) at e))))
+    (λ e. attested-none (suc k) (f ++ s) (length f + at) (omega (arith, leb-true (length s) at e, length-append f s))
+    ∙ ap (behind [] (length f)) (sym (attested-none (suc k) s at (leb-true (length s) at e))))
     (λ e.
     let l : at < length s = leb-false (length s) at e in
     let x : RecordEntry = record-entry-at s at in
-    told-one k (f ++ s) (length f + at) (omega (arith, length-append f s))
-    ∙ ap (λ (y : RecordEntry). told-by y (length f + at) (told-from k (f ++ s) (length f + at + record-entry-size y))) (entry-behind f s at)
-    ∙ ap (λ (p : ℕ). told-by x (length f + at) (told-from k (f ++ s) p)) (add-assoc (length f) at (record-entry-size x))
-    ∙ ap (told-by x (length f + at)) (told-moved k f s (at + record-entry-size x))
-    ∙ by-moved x (length f) at (told-from k s (at + record-entry-size x))
-    ∙ ap (behind [] (length f)) (sym (told-one k s at l)))
+    attested-one k (f ++ s) (length f + at) (omega (arith, length-append f s))
+    ∙ ap (λ (y : RecordEntry). attested-by y (length f + at) (attested-from k (f ++ s) (length f + at + record-entry-size y))) (entry-behind f s at)
+    ∙ ap (λ (p : ℕ). attested-by x (length f + at) (attested-from k (f ++ s) p)) (add-assoc (length f) at (record-entry-size x))
+    ∙ ap (attested-by x (length f + at)) (attested-moved k f s (at + record-entry-size x))
+    ∙ by-moved x (length f) at (attested-from k s (at + record-entry-size x))
+    ∙ ap (behind [] (length f)) (sym (attested-one k s at l)))
 
 -- from a place on, what the bytes from there on tell
-from-rest : (k : ℕ) (a b : List ℕ) (at : ℕ) → at ≤ length a → length (a ++ b) - at ≤ k → told-from k (a ++ b) at ≡ behind [] at (told (drop at a ++ b))
+from-rest : (k : ℕ) (a b : List ℕ) (at : ℕ) → at ≤ length a → length (a ++ b) - at ≤ k → attested-from k (a ++ b) at ≡ behind [] at (attested (drop at a ++ b))
 from-rest k a b at l m =
     let n : length (take at a) ≡ at = length-take-le at a l in
     let rest : List ℕ = drop at a ++ b in
     let whole : take at a ++ rest ≡ a ++ b = sym (append-assoc (take at a) (drop at a) b) ∙ ap (λ (s : List ℕ). s ++ b) (take-append-drop at a) in
-    sym (ap (λ (s : List ℕ). told-from k s (length (take at a) + 0)) whole ∙ ap (told-from k (a ++ b)) (add-zero (length (take at a)) ∙ n))
-    ∙ told-moved k (take at a) rest 0
-    ∙ ap (λ (p : ℕ). behind [] p (told-from k rest 0)) n
-    ∙ ap (behind [] at) (told-fuel k (length rest) rest 0 (omega (arith, length-append (drop at a) b, length-drop at a, length-append a b)) (omega arith))
+    sym (ap (λ (s : List ℕ). attested-from k s (length (take at a) + 0)) whole ∙ ap (attested-from k (a ++ b)) (add-zero (length (take at a)) ∙ n))
+    ∙ attested-moved k (take at a) rest 0
+    ∙ ap (λ (p : ℕ). behind [] p (attested-from k rest 0)) n
+    ∙ ap (behind [] at) (attested-fuel k (length rest) rest 0 (omega (arith, length-append (drop at a) b, length-drop at a, length-append a b)) (omega arith))
 
--- a whole entry of a piece, and what is told behind it
+-- a whole entry of a piece, and what is attested behind it
 one : (k : ℕ) (a b : List ℕ) (at : ℕ) (e : RecordEntry) (c : Checked) → record-entry-at a at ≡ e → 0 < record-entry-size e → length (a ++ b) - at ≤ k
-    → (at + record-entry-size e ≤ length a → (j : ℕ) → length (a ++ b) - (at + record-entry-size e) ≤ j → told-from j (a ++ b) (at + record-entry-size e) ≡ c)
-    → told-from k (a ++ b) at ≡ told-by e at c
+    → (at + record-entry-size e ≤ length a → (j : ℕ) → length (a ++ b) - (at + record-entry-size e) ≤ j → attested-from j (a ++ b) (at + record-entry-size e) ≡ c)
+    → attested-from k (a ++ b) at ≡ attested-by e at c
 one zero a b at e c is p m h = absurd (omega (arith, entry-within a at, ap record-entry-size is, length-append a b))
 one (suc k) a b at e c is p m h =
     let within : at + record-entry-size e ≤ length a = omega (arith, entry-within a at, ap record-entry-size is) in
-    told-one k (a ++ b) at (omega (arith, within, length-append a b))
-    ∙ ap (λ (x : RecordEntry). told-by x at (told-from k (a ++ b) (at + record-entry-size x))) (entry-on a b at (omega (arith, p, ap record-entry-size is)) ∙ is)
-    ∙ ap (told-by e at) (h within k (omega arith))
+    attested-one k (a ++ b) at (omega (arith, within, length-append a b))
+    ∙ ap (λ (x : RecordEntry). attested-by x at (attested-from k (a ++ b) (at + record-entry-size x))) (entry-on a b at (omega (arith, p, ap record-entry-size is)) ∙ is)
+    ∙ ap (attested-by e at) (h within k (omega arith))
 
 -- behind a front, what the rest of the piece tells with the bytes that come
 abbrev Goes : ℕ → List ℕ → List ℕ → ℕ → Front → Type 0
-Goes k a b at f = told-from k (a ++ b) at ≡ behind (f .releases) (f .end) (told (drop (f .end) a ++ b))
+Goes k a b at f = attested-from k (a ++ b) at ≡ behind (f .releases) (f .end) (attested (drop (f .end) a ++ b))
 
 by-front : (k : ℕ) (a b : List ℕ) (at : ℕ) (f : ℕ → Front) (e : RecordEntry) → record-entry-at a at ≡ e → at ≤ length a → length (a ++ b) - at ≤ k
     → ((n : ℕ) → at + n ≤ length a → (j : ℕ) → length (a ++ b) - (at + n) ≤ j → Goes j a b (at + n) (f (at + n)))
     → Goes k a b at (front-by e at (f (at + record-entry-size e)))
-unfolding front-by told-by
+unfolding front-by attested-by
 by-front k a b at f (MalformedRecord n) is l m h = from-rest k a b at l m
 by-front k a b at f (JobDone x) is l m h =
     let g : Front = f (at + 27) in
-    let c : Checked = told (drop (g .end) a ++ b) in
+    let c : Checked = attested (drop (g .end) a ++ b) in
     one k a b at (JobDone x) (behind (g .releases) (g .end) c) is (omega arith) m (h 27) ∙ with-behind (release-of x) (g .releases) (g .end) c
 by-front k a b at f (IntervalEnded x) is l m h =
     let g : Front = f (at + 24) in
-    one k a b at (IntervalEnded x) (behind (g .releases) (g .end) (told (drop (g .end) a ++ b))) is (omega arith) m (h 24)
+    one k a b at (IntervalEnded x) (behind (g .releases) (g .end) (attested (drop (g .end) a ++ b))) is (omega arith) m (h 24)
 by-front k a b at f (ReleaseSkipped r) is l m h =
     let g : Front = f (at + 10) in
-    let c : Checked = told (drop (g .end) a ++ b) in
+    let c : Checked = attested (drop (g .end) a ++ b) in
     one k a b at (ReleaseSkipped r) (behind (g .releases) (g .end) c) is (omega arith) m (h 10) ∙ with-behind r (g .releases) (g .end) c
 
 onward : (j k : ℕ) (a b : List ℕ) (at : ℕ) → at ≤ length a → length (a ++ b) - at ≤ k → Goes k a b at (front-from j a at)
@@ -194,8 +194,8 @@ unfolding front-from
 onward zero k a b at l m = from-rest k a b at l m
 onward (suc j) k a b at l m = by-front k a b at (front-from j a) (record-entry-at a at) refl l m (λ n w i x. onward j i a b (at + n) w x)
 
-pub told-onward : (a b : List ℕ) → told (a ++ b) ≡ behind (front a .releases) (front a .end) (told (drop (front a .end) a ++ b))
-told-onward a b = onward (length a) (length (a ++ b)) a b 0 (omega arith) (omega arith)
+pub attested-onward : (a b : List ℕ) → attested (a ++ b) ≡ behind (front a .releases) (front a .end) (attested (drop (front a .end) a ++ b))
+attested-onward a b = onward (length a) (length (a ++ b)) a b 0 (omega arith) (omega arith)
 
 -- ---- Piece by piece
 
@@ -211,25 +211,25 @@ behind-none (Rejected (Alone x)) = refl
 behind-none (Rejected (AtEntry x at)) = ap (λ (p : ℕ). Rejected (AtEntry x p)) (zero-add at)
 behind-none (Releases qs) = refl
 
-all-told : (g : Going) (ps : List (List ℕ)) → at-end (gone g ps) ≡ behind (g .releases) (g .place) (told (g .carried ++ joined ps))
+all-attested : (g : Going) (ps : List (List ℕ)) → at-end (gone g ps) ≡ behind (g .releases) (g .place) (attested (g .carried ++ joined ps))
 unfolding gone joined
-all-told g [] = ap (λ (s : List ℕ). behind (g .releases) (g .place) (told s)) (sym (append-nil (g .carried)))
-all-told g (p ∷ ps) =
+all-attested g [] = ap (λ (s : List ℕ). behind (g .releases) (g .place) (attested s)) (sym (append-nil (g .carried)))
+all-attested g (p ∷ ps) =
     let s : List ℕ = g .carried ++ p in
-    all-told (go-on g p) ps
-    ∙ sym (behind-both (g .releases) (front s .releases) (g .place) (front s .end) (told (drop (front s .end) s ++ joined ps)))
-    ∙ ap (behind (g .releases) (g .place)) (sym (told-onward s (joined ps)) ∙ ap told (append-assoc (g .carried) p (joined ps)))
+    all-attested (go-on g p) ps
+    ∙ sym (behind-both (g .releases) (front s .releases) (g .place) (front s .end) (attested (drop (front s .end) s ++ joined ps)))
+    ∙ ap (behind (g .releases) (g .place)) (sym (attested-onward s (joined ps)) ∙ ap attested (append-assoc (g .carried) p (joined ps)))
 
 pub tell-in-pieces : TellInPieces
 unfolding TellInPieces
-tell-in-pieces pieces = all-told at-start pieces ∙ behind-none (told (joined pieces))
+tell-in-pieces pieces = all-attested at-start pieces ∙ behind-none (attested (joined pieces))
 
 pub read-in-pieces : ReadInPieces
 unfolding ReadInPieces TellInPieces reading
 read-in-pieces tasks pieces lent = go (opening tasks .refusal)
   where
     go : (r : Refusal) → opened-in-pieces tasks pieces lent r ≡ read-opened tasks (joined pieces) lent r
-    go NoRefusal = ap (read-told tasks (joined pieces) lent) (tell-in-pieces pieces)
+    go NoRefusal = ap (read-attested tasks (joined pieces) lent) (tell-in-pieces pieces)
     go (Alone n) = refl
     go (AtEntry n at) = refl
 

@@ -12,13 +12,13 @@ use Rattle.run.specs.Files.{Checked, Rejected, Releases, refusal-of}
 use Rattle.record.specs.Writing.{Wrote, written}
 use Rattle.reading.specs.Types.{Release, Refusal, NoRefusal, Alone, AtEntry, Outcome, RefusedInput}
 use Rattle.reading.specs.declared.collecting.Collected.{Collected}
-use Rattle.reading.specs.Told.{told, sorted}
-use Rattle.reading.specs.Reading.{list-bytes, input-of, yields, listed-if, read-told, read-opened, reading}
+use Rattle.reading.specs.Attested.{attested, sorted}
+use Rattle.reading.specs.Reading.{list-bytes, input-of, yields, listed-if, read-attested, read-opened, reading}
 use Rattle.reading.specs.Acceptance.{Accepts}
 use Rattle.reading.specs.Sorting.{Sorts}
 use Rattle.reading.specs.Parts.{releases-in, Notes, none-noted, Collects, Lent}
 use Rattle.reading.specs.Pieces.{front}
-use Rattle.reading.proofs.Noting.{told-short, notes-begin}
+use Rattle.reading.proofs.Noting.{attested-short, notes-begin}
 use Rattle.reading.proofs.Laying.{Rebuilt}
 use Rattle.reading.proofs.Ordering.{keys-sorted}
 use Rattle.reading.proofs.Acceptance.{unlistable, accepts}
@@ -73,10 +73,10 @@ module _ (tasks keys stored lent : List ℕ) {before : List ℕ} {size : ℕ} {a
 
 module _ (tasks stored lent keys : List ℕ) {x : Collected} {after : List ℕ} (h : Collects stored none-noted keys x after) where
   -- an entry is refused
-  pub entry-refused : (x .refusal ≡ NoRefusal → ⊥) → Wrote (read-told tasks stored lent (told stored)) (RefusedInput (x .refusal)) lent
-  entry-refused n = go (told stored) (h .refusal-is)
+  pub entry-refused : (x .refusal ≡ NoRefusal → ⊥) → Wrote (read-attested tasks stored lent (attested stored)) (RefusedInput (x .refusal)) lent
+  entry-refused n = go (attested stored) (h .refusal-is)
     where
-      go : (c : Checked) → x .refusal ≡ refusal-of c → Wrote (read-told tasks stored lent c) (RefusedInput (x .refusal)) lent
+      go : (c : Checked) → x .refusal ≡ refusal-of c → Wrote (read-attested tasks stored lent c) (RefusedInput (x .refusal)) lent
       go (Rejected r) e = record { outcome-is = ap RefusedInput e; holds = refl }
       go (Releases rs) e = absurd (n e)
 
@@ -89,21 +89,21 @@ module _ (tasks stored lent keys : List ℕ) {x : Collected} {after : List ℕ} 
 
     -- no list can have them
     pub impossible : {input : List ℕ} → Lent tasks stored keys input → x .noted .possible ≡ false
-        → Wrote (read-told tasks stored lent (told stored)) (RefusedInput (Alone 18)) lent
+        → Wrote (read-attested tasks stored lent (attested stored)) (RefusedInput (Alone 18)) lent
     impossible o p =
-        subst (λ (c : Checked). Wrote (read-told tasks stored lent c) (RefusedInput (Alone 18)) lent) (sym (h .whole e))
+        subst (λ (c : Checked). Wrote (read-attested tasks stored lent c) (RefusedInput (Alone 18)) lent) (sym (h .whole e))
         (not-listed tasks stored lent (sorted rs) (unlistable tasks stored rs (o .opens) (noted .fit) (λ early few. noted .not p early (many (o .enough) few))))
       where
         many : (4096 ≤ length keys) ⊎ (length stored ≤ 10 * length keys) → length (front stored .releases) ≤ 4096 → length (front stored .releases) ≤ length after
         many (inl m) few = omega (arith, h .same-length)
-        many (inr m) few = omega (arith, h .same-length, told-short stored (front stored .releases) (h .whole e))
+        many (inr m) few = omega (arith, h .same-length, attested-short stored (front stored .releases) (h .whole e))
 
     -- the numbers in their order stand for the list
     pub possible : (ks lent-keys : List ℕ) {outcome : Outcome} {out : List ℕ} → x .noted .possible ≡ true → Sorts (take (x .noted .count) after) ks → lent-keys ≡ ks
-        → Wrote (listed-if tasks stored lent (releases-in lent-keys)) outcome out → Wrote (read-told tasks stored lent (told stored)) outcome out
+        → Wrote (listed-if tasks stored lent (releases-in lent-keys)) outcome out → Wrote (read-attested tasks stored lent (attested stored)) outcome out
     possible ks lent-keys {outcome} {out} p s same w =
         let is : releases-in ks ≡ sorted rs = keys-sorted rs ks (noted .fit) (subst (λ (y : List ℕ). Sorts y ks) (noted .noted p .0) s) in
-        subst (λ (c : Checked). Wrote (read-told tasks stored lent c) outcome out) (sym (h .whole e))
+        subst (λ (c : Checked). Wrote (read-attested tasks stored lent c) outcome out) (sym (h .whole e))
         (subst (λ (qs : List Release). Wrote (listed-if tasks stored lent qs) outcome out) (ap releases-in same ∙ is) w)
 
 -- the numbers in their order, put back where they stood
@@ -133,7 +133,7 @@ module _ (tasks stored lent : List ℕ) (r : Refusal) (e : r ≡ opening tasks .
       go (AtEntry x at) n = record { outcome-is = refl; holds = refl }
 
   -- task entries that open
-  pub opened : {outcome : Outcome} {out : List ℕ} → r ≡ NoRefusal → Wrote (read-told tasks stored lent (told stored)) outcome out → Wrote (reading tasks stored lent) outcome out
+  pub opened : {outcome : Outcome} {out : List ℕ} → r ≡ NoRefusal → Wrote (read-attested tasks stored lent (attested stored)) outcome out → Wrote (reading tasks stored lent) outcome out
   unfolding reading
   opened {outcome} {out} n w = subst (λ (q : Refusal). Wrote (read-opened tasks stored lent q) outcome out) (sym n ∙ e) w
 

@@ -9,7 +9,7 @@ use Rattle.run.specs.Files.{Releases, releases-of}
 use Rattle.run.specs.Run.{record-bytes, moments-of}
 use Rattle.record.specs.Writing.{Wrote, written, file, outcome-number, outcome-value}
 use Rattle.reading.specs.Types.{List, ℕ, Release, NoRefusal, Outcome, Recorded}
-use Rattle.reading.specs.Told.{told}
+use Rattle.reading.specs.Attested.{attested}
 use Rattle.reading.specs.Reading.{list-bytes, input-of, reading}
 
 -- a list yields a record: the task entries open a dispatcher; with the list's release entries behind them they are an input that is
@@ -22,7 +22,7 @@ pub record Yields (tasks : List ℕ) (rs : List Release) (bytes : List ℕ) : Ty
 -- "the bytes are whole entries of kinds 16 to 18 but no list yields them", where the task entries open a dispatcher
 pub record NoList (tasks bytes : List ℕ) : Type 0 where
   pub opens : opening tasks .refusal ≡ NoRefusal
-  pub whole : (ps : List Release) × (told bytes ≡ Releases ps)
+  pub whole : (ps : List Release) × (attested bytes ≡ Releases ps)
   pub none : (rs : List Release) → Yields tasks rs bytes → ⊥
 
 -- what comes of the task entries, a record and a lent slice

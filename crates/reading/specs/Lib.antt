@@ -1,5 +1,5 @@
 pub mod Types
-pub mod Told
+pub mod Attested
 pub mod Reading
 pub mod Acceptance
 pub mod Sorting

@@ -15,7 +15,7 @@ use Rattle.reading.specs.declared.collecting.Decoded.the-variants.{Fault
 use Rattle.reading.specs.declared.collecting.Noted.{Noted}
 use Rattle.reading.specs.declared.collecting.Collected.{Collected}
 use Rattle.reading.specs.declared.collecting.Telling.{Telling}
-use Rattle.reading.specs.Told.{release-of, told, key}
+use Rattle.reading.specs.Attested.{release-of, attested, key}
 use Rattle.reading.specs.Pieces.{front}
 
 -- ---- An entry taken apart
@@ -67,14 +67,14 @@ pub record Notes (rs : List Release) (n : Noted) (keys : List ℕ) : Type 0 wher
   pub noted : n .possible ≡ true → (take (n .count) keys ≡ keys-of rs) × AllEarly rs
   pub not : n .possible ≡ false → AllEarly rs → length rs ≤ length keys → ⊥
 
-abbrev pub told-release : Telling → Bool → List Release
-told-release t true = t .release ∷ []
-told-release t false = []
+abbrev pub attested-release : Telling → Bool → List Release
+attested-release t true = t .release ∷ []
+attested-release t false = []
 
 pub record NotesMore (n : Noted) (t : Telling) (before : List ℕ) (x : Noted) (after : List ℕ) : Type 0 where
   pub same-length : length after ≡ length before
   pub within : n .count ≤ length before → x .count ≤ length after
-  pub more : (rs : List Release) → Notes rs n before → Notes (rs ++ told-release t (t .counts)) x after
+  pub more : (rs : List Release) → Notes rs n before → Notes (rs ++ attested-release t (t .counts)) x after
 
 -- none yet
 abbrev pub none-noted : Noted
@@ -84,8 +84,8 @@ none-noted = record { count = 0; possible = true }
 pub record Collects (s : List ℕ) (n : Noted) (before : List ℕ) (x : Collected) (after : List ℕ) : Type 0 where
   pub same-length : length after ≡ length before
   pub within : n .count ≤ length before → x .noted .count ≤ length after
-  pub refusal-is : x .refusal ≡ refusal-of (told s)
-  pub whole : x .refusal ≡ NoRefusal → told s ≡ Releases (front s .releases)
+  pub refusal-is : x .refusal ≡ refusal-of (attested s)
+  pub whole : x .refusal ≡ NoRefusal → attested s ≡ Releases (front s .releases)
   pub notes : (rs : List Release) → Notes rs n before → Notes (rs ++ front s .releases) (x .noted) after
 
 -- ---- Bytes held against others
@@ -93,7 +93,7 @@ pub record Collects (s : List ℕ) (n : Noted) (before : List ℕ) (x : Collecte
 -- whether two lists are the same
 pub record Tells (x : Bool) (a b : List ℕ) : Type 0 where
   pub same : x ≡ true → a ≡ b
-  pub told : a ≡ b → x ≡ true
+  pub shows : a ≡ b → x ≡ true
 
 -- ---- The input that the numbers make
 

@@ -7,8 +7,8 @@ use Rattle.rules.specs.Calls.{opening}
 use Rattle.run.specs.Files.{Checked, Rejected, Releases}
 use Rattle.record.specs.Writing.{Written}
 use Rattle.reading.specs.Types.{List, [], _∷_, _++_, ℕ, zero, suc, _+_, Release, Refusal, NoRefusal, Alone, AtEntry, RecordEntry, MalformedRecord, JobDone, IntervalEnded, ReleaseSkipped}
-use Rattle.reading.specs.Told.{release-of, told}
-use Rattle.reading.specs.Reading.{same-bytes, turned-away, read-told, reading}
+use Rattle.reading.specs.Attested.{release-of, attested}
+use Rattle.reading.specs.Reading.{same-bytes, turned-away, read-attested, reading}
 
 -- ---- The whole entries at the front of some bytes
 
@@ -62,23 +62,23 @@ moved n NoRefusal = NoRefusal
 moved n (Alone x) = Alone x
 moved n (AtEntry x at) = AtEntry x (n + at)
 
--- what is told behind some releases and a place
+-- what is attested behind some releases and a place
 abbrev pub behind : List Release → ℕ → Checked → Checked
 behind rs n (Rejected r) = Rejected (moved n r)
 behind rs n (Releases qs) = Releases (rs ++ qs)
 
--- what is told where no more pieces come
+-- what is attested where no more pieces come
 abbrev pub at-end : Going → Checked
-at-end g = behind (g .releases) (g .place) (told (g .carried))
+at-end g = behind (g .releases) (g .place) (attested (g .carried))
 
 -- the pieces tell what the record tells
 unfoldable pub TellInPieces : Type 0
-TellInPieces = (pieces : List (List ℕ)) → at-end (gone at-start pieces) ≡ told (joined pieces)
+TellInPieces = (pieces : List (List ℕ)) → at-end (gone at-start pieces) ≡ attested (joined pieces)
 
 -- ---- The outcome
 
 abbrev pub opened-in-pieces : List ℕ → List (List ℕ) → List ℕ → Refusal → Written
-opened-in-pieces tasks pieces lent NoRefusal = read-told tasks (joined pieces) lent (at-end (gone at-start pieces))
+opened-in-pieces tasks pieces lent NoRefusal = read-attested tasks (joined pieces) lent (at-end (gone at-start pieces))
 opened-in-pieces tasks pieces lent (Alone n) = turned-away (Alone n) lent
 opened-in-pieces tasks pieces lent (AtEntry n at) = turned-away (AtEntry n at) lent
 

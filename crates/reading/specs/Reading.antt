@@ -6,7 +6,7 @@ use Rattle.run.specs.Files.{Checked, Rejected, Releases, releases-of}
 use Rattle.run.specs.Run.{record-bytes, moments-of}
 use Rattle.record.specs.Writing.{Written, written}
 use Rattle.reading.specs.Types.{Bool, true, false, cond, List, [], _∷_, _++_, ℕ, Release, Refusal, NoRefusal, Alone, AtEntry, RefusedInput}
-use Rattle.reading.specs.Told.{told, sorted}
+use Rattle.reading.specs.Attested.{attested, sorted}
 
 -- the release entries of a list
 unfoldable pub list-bytes : List Release → List ℕ
@@ -36,16 +36,16 @@ yields s bytes = yielded-by s bytes (releases-of s)
 abbrev pub turned-away : Refusal → List ℕ → Written
 turned-away r lent = record { outcome = RefusedInput r; memory = lent }
 
--- each release leaves one entry: the list can be no other than that of the releases told, in their order
+-- each release leaves one entry: the list can be no other than that of the releases attested, in their order
 unfoldable pub listed-if : List ℕ → List ℕ → List ℕ → List Release → Written
 listed-if tasks bytes lent rs = cond (yields (input-of tasks rs) bytes) (written (list-bytes rs) lent) (turned-away (Alone 18) lent)
 
-abbrev pub read-told : List ℕ → List ℕ → List ℕ → Checked → Written
-read-told tasks bytes lent (Rejected r) = turned-away r lent
-read-told tasks bytes lent (Releases rs) = listed-if tasks bytes lent (sorted rs)
+abbrev pub read-attested : List ℕ → List ℕ → List ℕ → Checked → Written
+read-attested tasks bytes lent (Rejected r) = turned-away r lent
+read-attested tasks bytes lent (Releases rs) = listed-if tasks bytes lent (sorted rs)
 
 abbrev pub read-opened : List ℕ → List ℕ → List ℕ → Refusal → Written
-read-opened tasks bytes lent NoRefusal = read-told tasks bytes lent (told bytes)
+read-opened tasks bytes lent NoRefusal = read-attested tasks bytes lent (attested bytes)
 read-opened tasks bytes lent (Alone n) = turned-away (Alone n) lent
 read-opened tasks bytes lent (AtEntry n at) = turned-away (AtEntry n at) lent
 

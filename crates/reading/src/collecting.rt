@@ -69,14 +69,14 @@ fn fault_of(entry: RecordEntry) -> u8
 }
 
 // One release more, where the entry tells of one.
-fn note(keys: &mut [u64], n: Noted, told: Telling) -> Noted
-    ensures { λ r. ⌜ NotesMore n told (now (keys .entry)) r (now (keys .exit)) ⌝ }
+fn note(keys: &mut [u64], n: Noted, attested: Telling) -> Noted
+    ensures { λ r. ⌜ NotesMore n attested (now (keys .entry)) r (now (keys .exit)) ⌝ }
 {
-    if !told.counts {
+    if !attested.counts {
         return n;
     }
     let count = n.count;
-    let release = told.release;
+    let release = attested.release;
     let task = release.task;
     let time = release.time;
     if keys.len() <= count {
@@ -107,14 +107,14 @@ pub fn collect(stored: &[u8], before: Noted, keys: &mut [u64]) -> Collected
     let mut noted = before;
     while at < stored.len() {
         let entry = entries::record_entry_at(stored, at);
-        let Decoded::Whole(told) = decode(entry) else {
+        let Decoded::Whole(attested) = decode(entry) else {
             return Collected {
                 noted,
                 refusal: Refusal::AtEntry(fault_of(entry), at),
             };
         };
-        noted = note(keys, noted, told);
-        at += told.size;
+        noted = note(keys, noted, attested);
+        at += attested.size;
     }
     Collected {
         noted,

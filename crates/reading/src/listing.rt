@@ -14,8 +14,8 @@ ghost use Prim.Native.Nat.{_+_, _*_, _≤_};
 ghost use lib.ListN.{length};
 ghost use Rattle.entries.specs.Entries.{size};
 ghost use Rattle.record.specs.Writing.{Wrote, written};
-ghost use Rattle.reading.specs.Told.{told};
-ghost use Rattle.reading.specs.Reading.{listed-if, read-told, reading};
+ghost use Rattle.reading.specs.Attested.{attested};
+ghost use Rattle.reading.specs.Reading.{listed-if, read-attested, reading};
 ghost use Rattle.reading.specs.Parts.{releases-in, few, some, Opened, Lent};
 ghost use Rattle.reading.specs.Acceptance.{ReadWithClaim};
 
@@ -70,7 +70,7 @@ fn read_record(
 ) -> Outcome
     requires { ⌜ Opened (now tasks) head ⌝ }
     requires { ⌜ Lent (now tasks) (now stored) (now keys) (now input) ⌝ }
-    ensures { λ r. ⌜ Wrote (read-told (now (tasks .entry)) (now (stored .entry)) (now (out .entry)) (told (now (stored .entry))))
+    ensures { λ r. ⌜ Wrote (read-attested (now (tasks .entry)) (now (stored .entry)) (now (out .entry)) (attested (now (stored .entry))))
         r (now (out .exit)) ⌝ }
 {
     let none = Noted {
@@ -97,7 +97,7 @@ fn read_record(
 fn read_few(tasks: &[u8], head: Head, stored: &[u8], out: &mut [u8]) -> Outcome
     requires { ⌜ Opened (now tasks) head ⌝ }
     requires { ⌜ length (now stored) ≤ few * size 2 ⌝ }
-    ensures { λ r. ⌜ Wrote (read-told (now (tasks .entry)) (now (stored .entry)) (now (out .entry)) (told (now (stored .entry))))
+    ensures { λ r. ⌜ Wrote (read-attested (now (tasks .entry)) (now (stored .entry)) (now (out .entry)) (attested (now (stored .entry))))
         r (now (out .exit)) ⌝ }
 {
     let mut keys = [0u64; FEW];
@@ -108,7 +108,7 @@ fn read_few(tasks: &[u8], head: Head, stored: &[u8], out: &mut [u8]) -> Outcome
 fn read_some(tasks: &[u8], head: Head, stored: &[u8], out: &mut [u8]) -> Outcome
     requires { ⌜ Opened (now tasks) head ⌝ }
     requires { ⌜ length (now stored) ≤ some * size 2 ⌝ }
-    ensures { λ r. ⌜ Wrote (read-told (now (tasks .entry)) (now (stored .entry)) (now (out .entry)) (told (now (stored .entry))))
+    ensures { λ r. ⌜ Wrote (read-attested (now (tasks .entry)) (now (stored .entry)) (now (out .entry)) (attested (now (stored .entry))))
         r (now (out .exit)) ⌝ }
 {
     let mut keys = [0u64; SOME];
@@ -118,7 +118,7 @@ fn read_some(tasks: &[u8], head: Head, stored: &[u8], out: &mut [u8]) -> Outcome
 
 fn read_any(tasks: &[u8], head: Head, stored: &[u8], out: &mut [u8]) -> Outcome
     requires { ⌜ Opened (now tasks) head ⌝ }
-    ensures { λ r. ⌜ Wrote (read-told (now (tasks .entry)) (now (stored .entry)) (now (out .entry)) (told (now (stored .entry))))
+    ensures { λ r. ⌜ Wrote (read-attested (now (tasks .entry)) (now (stored .entry)) (now (out .entry)) (attested (now (stored .entry))))
         r (now (out .exit)) ⌝ }
 {
     let mut keys = [0u64; limits::RELEASES];
@@ -129,7 +129,7 @@ fn read_any(tasks: &[u8], head: Head, stored: &[u8], out: &mut [u8]) -> Outcome
 // With as much memory as the record asks for.
 fn read_opened(tasks: &[u8], head: Head, stored: &[u8], out: &mut [u8]) -> Outcome
     requires { ⌜ Opened (now tasks) head ⌝ }
-    ensures { λ r. ⌜ Wrote (read-told (now (tasks .entry)) (now (stored .entry)) (now (out .entry)) (told (now (stored .entry))))
+    ensures { λ r. ⌜ Wrote (read-attested (now (tasks .entry)) (now (stored .entry)) (now (out .entry)) (attested (now (stored .entry))))
         r (now (out .exit)) ⌝ }
 {
     if stored.len() <= FEW * RELEASE_SIZE {

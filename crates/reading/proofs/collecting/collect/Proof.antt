@@ -27,8 +27,8 @@ record-entry-at-requires c κs = search needs
 decode-requires : tie.Need-decode-requires Inv-loop μ-loop
 decode-requires c κs = search needs
 
-enum-known-told : tie.Need-enum-known-told Inv-loop μ-loop
-enum-known-told c = search needs
+enum-known-attested : tie.Need-enum-known-attested Inv-loop μ-loop
+enum-known-attested c = search needs
 
 enum-told : tie.Need-enum-told Inv-loop μ-loop
 enum-told c = search needs
@@ -54,23 +54,23 @@ add-at : tie.Need-add-at Inv-loop μ-loop
 add-at c =
     let v = c .before .before .before .before .before .before .before .before .before .before .before .loop in
     let entry = c .before .before .before .before .before .before .before .before .before .record-entry-at in
-    let w = whole-size (entry .result) (c .before .before .before .before .before .before .told .given .0 .0) (sym (c .before .before .before .before .before .before .before .before .decode .ensures) ∙ c .before .before .before .before .before .before .told .given .1) in
+    let w = whole-size (entry .result) (c .before .before .before .before .before .before .attested .given .0 .0) (sym (c .before .before .before .before .before .before .before .before .decode .ensures) ∙ c .before .before .before .before .before .before .attested .given .1) in
     omega (arith, w .0, w .1, ap record-entry-size (entry .ensures), entry-within (c .before .before .before .before .before .before .before .before .before .before .before .before .before .before .args .stored .now) (v .at))
 
 loop-less : tie.Need-loop-less Inv-loop μ-loop
 loop-less c =
     let v = c .before .before .before .before .before .before .before .before .before .before .before .loop in
     let entry = c .before .before .before .before .before .before .before .before .before .record-entry-at in
-    let w = whole-size (entry .result) (c .before .before .before .before .before .before .told .given .0 .0) (sym (c .before .before .before .before .before .before .before .before .decode .ensures) ∙ c .before .before .before .before .before .before .told .given .1) in
+    let w = whole-size (entry .result) (c .before .before .before .before .before .before .attested .given .0 .0) (sym (c .before .before .before .before .before .before .before .before .decode .ensures) ∙ c .before .before .before .before .before .before .attested .given .1) in
     omega (arith, w .0, w .1, ap record-entry-size (entry .ensures), entry-within (c .before .before .before .before .before .before .before .before .before .before .before .before .before .before .args .stored .now) (v .at))
 
 loop-again : tie.Need-loop-again Inv-loop μ-loop
 loop-again c =
     let v = c .before .before .before .before .before .before .before .before .before .before .before .loop in
     let entry = c .before .before .before .before .before .before .before .before .before .record-entry-at in
-    let told = c .before .before .before .before .before .before .told .given in
-    let is = ap decoded (sym (entry .ensures)) ∙ sym (c .before .before .before .before .before .before .before .before .decode .ensures) ∙ told .1 in (
-      goes-on (v .inv .0) (v .inv .1) (c .before .before .before .before .before .before .before .before .before .before .loop-test .taken) (told .0 .0) _ _ is (c .before .before .before .note .ensures),
+    let attested = c .before .before .before .before .before .before .attested .given in
+    let is = ap decoded (sym (entry .ensures)) ∙ sym (c .before .before .before .before .before .before .before .before .decode .ensures) ∙ attested .1 in (
+      goes-on (v .inv .0) (v .inv .1) (c .before .before .before .before .before .before .before .before .before .before .loop-test .taken) (attested .0 .0) _ _ is (c .before .before .before .note .ensures),
       c .before .before .before .note .ensures .same-length ∙ v .inv .1,
     )
 
@@ -89,7 +89,7 @@ collect-spec =
     loop-holds
     record-entry-at-requires
     decode-requires
-    enum-known-told
+    enum-known-attested
     enum-told
     fault-of-requires
     same-length

@@ -88,10 +88,10 @@ returns-2 : tie.Need-returns-2
 returns-2 c =
     let h = c .before .before .before .before .before .before .before .before .before .before .before .before .before .before .before .before .before .before .before .collect .ensures in
     let a = c .before .before .before .before .before .before .before .before .before .before .before .before .before .before .before .before .before .before .before .before .before .before .before .before .before .before in
-    let told = c .before .before .before .before .before .before .before .before .before .before .before .before .before .before .enum-told .given .1 in
-    let w = noted (a .args .tasks .now) (a .args .stored .now) (a .args .out .now) _ h told .within in
+    let attested = c .before .before .before .before .before .before .before .before .before .before .before .before .before .before .enum-told .given .1 in
+    let w = noted (a .args .tasks .now) (a .args .stored .now) (a .args .out .now) _ h attested .within in
     let s = c .before .before .before .before .before .before .before .before .before .before .sort in
-    possible (a .args .tasks .now) (a .args .stored .now) (a .args .out .now) _ h told (s .last .0) _ (not-false _ (c .before .before .before .before .before .before .before .before .before .before .before .before .if1 .left)) (s .ensures)
+    possible (a .args .tasks .now) (a .args .stored .now) (a .args .out .now) _ h attested (s .last .0) _ (not-false _ (c .before .before .before .before .before .before .before .before .before .before .before .before .if1 .left)) (s .ensures)
     (front-is _ _ (s .last .0) _ (s .ensures) w) (c .before .before .before .before .read-listed .ensures)
 
 same-length-5 : tie.Need-same-length-5

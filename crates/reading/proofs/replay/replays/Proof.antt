@@ -43,7 +43,7 @@ returns c =
     let v = c .before .before .before .before .before .before .before .before .loop in let f = c .before .before .before .before .before .before .before .before .before .before .before .before .before in let d = c .before .before .before .before .before .before .before .before .before .opened in
     let x = c .before .goes-on-with in
     as-started (f .args .s .now) (f .args .stored .now) (f .args .head) (f .args .budget) (d .result) (d .ensures)
-    (differs (v .d) (v .inv .0) (c .before .before .before .before .next-piece .ensures) (λ e. clash (x .result) (x .ensures .told e) (not-true _ (c .if1 .taken))))
+    (differs (v .d) (v .inv .0) (c .before .before .before .before .next-piece .ensures) (λ e. clash (x .result) (x .ensures .shows e) (not-true _ (c .if1 .taken))))
 
 add-size : tie.Need-add-size Inv-loop μ-loop
 add-size c =
