@@ -177,4 +177,4 @@ OF_RUNS = {
     "refusal": (3, lambda d, t, tasks: refusal(at(d, listed([("Instant", t, tasks)])))),
     "mark-refusal": (3, lambda d, n, mark: refusal(at(d, listed([("Mark", n, mark)])))),
     "instant": (3, lambda d, t, tasks: {"answer": d.run.answers[d.at]}),
-    "last-release": (2, lambda d, n: ("Tick", d.passed[n]) if n in d.passed else ("Never",))}
+    "previous-release": (2, lambda d, n: ("Tick", d.passed[n]) if n in d.passed else ("Never",))}

@@ -8,7 +8,7 @@ use lib.Dec.{eqb}
 use Rattle.sets.specs.Sets.{member, bit}
 use Rattle.sets.proofs.Laws.{by-test, both, left, right, one-of, clash, same-task}
 use Rattle.table.specs.Table.{spacing}
-use Rattle.rules.specs.Instant.{last-release, comes-sooner, at-b, at-e, at-f, at-g, taken-at, deferred-at, skipped-at, occurred}
+use Rattle.rules.specs.Instant.{previous-release, comes-sooner, at-b, at-e, at-f, at-g, taken-at, deferred-at, skipped-at, occurred}
 use Rattle.rules.specs.Calls.{refusal, instant, served as served-step, after-call}
 use Rattle.guarantees.specs.History.{Event, Takes, Defers, happens, by-call, history, after-calls, take-events, defer-events, giving-events-in, end-events, begin-events, start-events}
 use Rattle.guarantees.specs.Queries.{after, first, taking, waiting, last-released}
@@ -263,7 +263,7 @@ module _ (n : ℕ) (small : n < 32) where
 
   -- the state that the calls left has the table that it was opened with, whose spacings are none of 0 ticks, and the history's last release
   module _ (d : State) (cs : List Call) (unheld : member n (d .waiting .tasks) ≡ false) (table : Table) (some : member n (table .spaced) ≡ true → 1 ≤ spacing (table .columns) n)
-      (of-table : after-calls d cs .table ≡ table) (last-is : last-release (after-calls d cs) n ≡ last-released n (history d cs)) (t set : ℕ) where
+      (of-table : after-calls d cs .table ≡ table) (last-is : previous-release (after-calls d cs) n ≡ last-released n (history d cs)) (t set : ℕ) where
     abbrev G : State
     G = after-calls d cs
 

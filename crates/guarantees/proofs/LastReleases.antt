@@ -9,7 +9,7 @@ use lib.ListN.{getD, length}
 use Rattle.table.specs.Table.{spacing}
 use Rattle.sets.specs.Sets.{member, difference}
 use Rattle.sets.proofs.Laws.{by-test, both, right, none, same-task, united, difference-member}
-use Rattle.rules.specs.Instant.{last-release, comes-sooner, step-c, original as stamps, at-b, at-g, taken-at, deferred-at}
+use Rattle.rules.specs.Instant.{previous-release, comes-sooner, step-c, original as stamps, at-b, at-g, taken-at, deferred-at}
 use Rattle.rules.specs.Calls.{opened}
 use Rattle.guarantees.specs.History.{Event, Comes, Starts, Stops, Finishes, Completes, Ends, Takes, Defers, GivesWay, Begins, take-events, defer-events, happens, history, after-calls}
 use Rattle.guarantees.specs.Queries.{details, takes, defers, after, waiting, LastRelease, no-last, last-by, last-released}
@@ -202,12 +202,12 @@ module _ (n : ℕ) where
         (c-last (at-b d t .state) t (taken-at d t set) (deferred-at d t set) x (rw (release-b d t, waiting-b d t) h))
 
     -- the last one of the state is that of the walk, also after steps a and b
-    pub last-is : (d : State) (x : LastRelease) → LastIs x (d .jobs .release) (d .waiting) → last-release d n ≡ x .tick
-    unfolding last-release
+    pub last-is : (d : State) (x : LastRelease) → LastIs x (d .jobs .release) (d .waiting) → previous-release d n ≡ x .tick
+    unfolding previous-release
     last-is d x h = sym (h .tick-is)
 
-    pub last-b : (d : State) (t : ℕ) → last-release (at-b d t .state) n ≡ last-release d n
-    unfolding last-release
+    pub last-b : (d : State) (t : ℕ) → previous-release (at-b d t .state) n ≡ previous-release d n
+    unfolding previous-release
     last-b d t = rw (release-b d t, waiting-b d t)
 
     -- ---- what passes at an instant comes late enough
@@ -222,9 +222,9 @@ module _ (n : ℕ) where
     module _ (d : State) (t set : ℕ) (x : LastRelease) (gap : Gap (d .table)) (h : LastIs x (d .jobs .release) (d .waiting)) where
       passed-far : member n (passed d t set) ≡ true → FarFrom (d .table) (x .tick) t
       passed-far m s u e =
-          passes-after t (spacing (d .table .columns) n) u (last-release (at-b d t .state) n) (gap s)
-          (not-soon (member n (d .table .spaced)) (comes-sooner t (spacing (d .table .columns) n) (last-release (at-b d t .state) n)) s
-          (subst (λ (y : Table). not (member n (y .spaced) && comes-sooner t (spacing (y .columns) n) (last-release (at-b d t .state) n)) ≡ true) (table-b d t)
+          passes-after t (spacing (d .table .columns) n) u (previous-release (at-b d t .state) n) (gap s)
+          (not-soon (member n (d .table .spaced)) (comes-sooner t (spacing (d .table .columns) n) (previous-release (at-b d t .state) n)) s
+          (subst (λ (y : Table). not (member n (y .spaced) && comes-sooner t (spacing (y .columns) n) (previous-release (at-b d t .state) n)) ≡ true) (table-b d t)
           (right (member n set) (not (soon-at (at-b d t .state) t n)) (sym (passing-member (at-b d t .state) t set n small) ∙ m))))
           (last-b d t ∙ last-is d x h ∙ e)
         where
@@ -345,7 +345,7 @@ module _ (table : Table) (marks : ℕ) (fair : Fair table marks) (n : ℕ) (smal
   all-apart : Apart n (FarFrom n small table) (λ y. LastIs n y (g .jobs .release) (g .waiting)) no-last (history d calls)
   all-apart = apart n small table (λ s. fair .spacings n s .0) calls d opened-table no-last (opened-last table marks n small)
 
-  pub last-releases : last-release g n ≡ last-released n (history d calls)
+  pub last-releases : previous-release g n ≡ last-released n (history d calls)
   last-releases =
       last-is n small g (after (last-by n) no-last (history d calls))
       (apart-end n (FarFrom n small table) (λ y. LastIs n y (g .jobs .release) (g .waiting)) (history d calls) no-last all-apart)

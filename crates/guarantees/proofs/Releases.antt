@@ -6,7 +6,7 @@ use native.Mathlib.Omega.{arith}
 use Rattle.sets.specs.Sets.{member, union, intersection, difference, bit, count, size}
 use Rattle.sets.proofs.Laws.{united, intersection-member, intersection-left, difference-member, difference-left, difference-right, collected, member-task, union-small, difference-small, count-none, count-sum, size-union-apart}
 use Rattle.table.specs.Table.{spacing}
-use Rattle.rules.specs.Instant.{last-release, comes-sooner, too-soon, passing, resumed, found-pending, found-waiting, taken, deferred, skipped, step-c, at-b, at-g, taken-at, deferred-at, skipped-at}
+use Rattle.rules.specs.Instant.{previous-release, comes-sooner, too-soon, passing, resumed, found-pending, found-waiting, taken, deferred, skipped, step-c, at-b, at-g, taken-at, deferred-at, skipped-at}
 use Rattle.guarantees.proofs.Steps.{Sub}
 use Rattle.guarantees.proofs.Frames.{waiting-b, waiting-g, pending-g}
 
@@ -218,7 +218,7 @@ taken-none d set h behind k l =
 
 -- a release of task k at t would come too soon
 abbrev pub soon-at : State → ℕ → ℕ → Bool
-soon-at d t k = member k (d .table .spaced) && comes-sooner t (spacing (d .table .columns) k) (last-release d k)
+soon-at d t k = member k (d .table .spaced) && comes-sooner t (spacing (d .table .columns) k) (previous-release d k)
 
 -- a set without some of its members, as a formula
 left-over : (s x : Bool) → (s && not (s && x)) ≡ (s && not x)
@@ -228,7 +228,7 @@ left-over false x = refl
 module _ (d : State) (t set k : ℕ) (l : k < 32) where
   pub too-soon-member : member k (too-soon d t set) ≡ (member k set && soon-at d t k)
   unfolding too-soon
-  too-soon-member = collected (λ n. member n set && (member n (d .table .spaced) && comes-sooner t (spacing (d .table .columns) n) (last-release d n))) k l
+  too-soon-member = collected (λ n. member n set && (member n (d .table .spaced) && comes-sooner t (spacing (d .table .columns) n) (previous-release d n))) k l
 
   pub passing-member : member k (passing d t set) ≡ (member k set && not (soon-at d t k))
   unfolding passing

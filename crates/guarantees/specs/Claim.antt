@@ -6,7 +6,7 @@ use lib.ListN.{getD, length}
 use Rattle.sets.specs.Sets.{member, size}
 use Rattle.table.specs.Table.{copyin-length, execution-length, copyout-length}
 use Rattle.table.specs.Refusals.{refusal-number, refusal-place}
-use Rattle.rules.specs.Instant.{last-release}
+use Rattle.rules.specs.Instant.{previous-release}
 use Rattle.rules.specs.Calls.{opening, refusal}
 use Rattle.dispatcher.specs.declared.Opening.{Opening}
 use Rattle.dispatcher.specs.Dispatcher.{state-of, opening-of}
@@ -172,7 +172,7 @@ pub record Claim (d : State) (calls : List Call) : Type 0 where
   -- and no time and no count of that state comes near the end of its type
   pub plain : PlainState (after-calls d calls)
   -- 8/13: what that state has as a task's last release is the last of the history that was taken or set waiting
-  pub last-releases : (n : ℕ) → n < 32 → last-release (after-calls d calls) n ≡ last-released n (history d calls)
+  pub last-releases : (n : ℕ) → n < 32 → previous-release (after-calls d calls) n ≡ last-released n (history d calls)
   -- 6/13: at each instant of the list that is served the engine chooses the first of the ready jobs, by the history's original times
   pub first-come : (before after : List Call) (t set : ℕ) → calls ≡ before ++ (Instant t set ∷ after)
       → refusal (after-calls d before) t set ≡ 0

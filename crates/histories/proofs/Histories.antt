@@ -42,7 +42,7 @@ unfoldable computed : Unit {0}
 unfolding Words.numberAt Sets.member Sets.below Sets.collect Sets.union Sets.intersection Sets.difference Sets.insert Sets.remove Entries.task-at Entries.release-at Entries.spacing-at Entries.entry-at
     Head.outside Head.number-refused Head.mark-or-length-refusal Head.task-refusal Head.with-task Head.with-marked Head.ticks-refused Head.spacing-refusal Head.with-spacing Head.entry-refusal Head.with-entry Head.marked-with Head.behind-head Head.head-from Head.head-of Head.head-alone Order.better
     Order.highest-below Order.highest Order.higher-than Instant.processor-at Instant.copyout-at Instant.ended Instant.completed Instant.without-done Instant.step-a Instant.promoted Instant.blocks
-    Instant.counted Instant.close Instant.interval-entry Instant.close-stage Instant.step-b Instant.last-release Instant.too-soon Instant.passing Instant.taken Instant.deferred Instant.skipped Instant.stamped Instant.with-candidates Instant.step-c
+    Instant.counted Instant.close Instant.interval-entry Instant.close-stage Instant.step-b Instant.previous-release Instant.too-soon Instant.passing Instant.taken Instant.deferred Instant.skipped Instant.stamped Instant.with-candidates Instant.step-c
     Instant.cancel Instant.cancel-by Instant.step-d Instant.choose Instant.choose-if Instant.step-e Instant.begin Instant.step-g Instant.sooner Instant.due Instant.at-a Instant.at-b Instant.taken-at
     Instant.deferred-at Instant.skipped-at Instant.at-e Instant.at-f Instant.at-g Instant.occurred Calls.opened Calls.opening Calls.unknown Calls.refusal Calls.served Calls.instant History.processor-events
     History.processor-events-in History.finish-events History.finish-events-in History.completion-events History.end-events History.take-events History.defer-events History.giving-events

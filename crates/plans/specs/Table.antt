@@ -47,7 +47,7 @@ unfolding Words.bytesOf Words.numberAt Words.room Words.written Sets.member Sets
     Head.spacing-refusal Head.with-spacing Head.entry-refusal Head.with-entry Head.marked-with Head.head-from Head.head-of Head.head-alone
     Order.better Order.highest-below Order.highest Order.higher-than Instant.processor-at Instant.copyout-at Instant.ended
     Instant.completed Instant.without-done Instant.step-a Instant.promoted Instant.blocks Instant.counted Instant.closed-with
-    Instant.close Instant.entry-with Instant.interval-entry Instant.close-stage Instant.step-b Instant.last-release Instant.too-soon
+    Instant.close Instant.entry-with Instant.interval-entry Instant.close-stage Instant.step-b Instant.previous-release Instant.too-soon
     Instant.passing Instant.released Instant.taken Instant.deferred Instant.skipped Instant.stamped Instant.with-candidates Instant.step-c
     Instant.cancel Instant.cancel-by Instant.step-d Instant.choose Instant.choose-if Instant.step-e Instant.begin Instant.step-g
     Instant.sooner Instant.due Instant.at-a Instant.at-b Instant.taken-at Instant.deferred-at Instant.skipped-at Instant.steps-c-d

@@ -7,7 +7,7 @@ use lib.ListN.{getD}
 use Rattle.sets.proofs.Laws.{by-test}
 use Rattle.rules.specs.With.{at-clock}
 use Rattle.sets.specs.Sets.{union, difference}
-use Rattle.rules.specs.Instant.{fresh-stage, without-done, over, resting, is-over, promoted, blocks, counted, closed-with, close, entry-with, interval-entry, close-stage, with-candidates, last-release, too-soon, passing, taken, deferred, skipped, released, held-over, step-a, step-b, step-c, step-d, step-e, step-f, step-g, steps-c-d, steps-c-to-e, steps-c-to-f, due, closing, at-a, at-b, at-g, occurred}
+use Rattle.rules.specs.Instant.{fresh-stage, without-done, over, resting, is-over, promoted, blocks, counted, closed-with, close, entry-with, interval-entry, close-stage, with-candidates, previous-release, too-soon, passing, taken, deferred, skipped, released, held-over, step-a, step-b, step-c, step-d, step-e, step-f, step-g, steps-c-d, steps-c-to-e, steps-c-to-f, due, closing, at-a, at-b, at-g, occurred}
 use Rattle.rules.specs.Registers.{as-task, processor-in, copyin-in, interval-in, phase-in, state-in}
 use Rattle.rules.specs.Kept.{Kept, kept, Whole, Beside, beside, by-task, registers-in, read, Becomes}
 use Rattle.rules.specs.Steps.{OverAt, PromotedAt, CountsAt, EntryAt, ClosedAt, HeldOverAt, TestedAt, with-counts}
@@ -144,7 +144,7 @@ asks-b s t (Within i) =
     (λ e. rw e (record { table-is = refl; release-is = refl; waiting-is = refl }))
 
 too-soon-alike : (d e : State) (t set : ℕ) → Asks d e → too-soon e t set ≡ too-soon d t set
-unfolding too-soon last-release
+unfolding too-soon previous-release
 too-soon-alike d e t set h = rw (h .table-is, h .release-is, h .waiting-is)
 
 pub too-soon-b : (d : State) (t set : ℕ) → too-soon (at-b d t .state) t set ≡ too-soon d t set

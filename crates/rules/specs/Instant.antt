@@ -219,8 +219,8 @@ step-b s t (Within i) = close-stage s t i (over i)
 
 -- 8/13: "the task's last release taken or set waiting", by its original time: that of the waiting one where one waits, else that of its
 -- last job
-unfoldable pub last-release : State → ℕ → Due
-last-release d n =
+unfoldable pub previous-release : State → ℕ → Due
+previous-release d n =
     cond (member n (d .waiting .tasks)) (Tick (getD (d .waiting .times) n 0))
     (cond (member n (d .waiting .before)) (Tick (getD (d .jobs .release) n 0)) Never)
 
@@ -233,7 +233,7 @@ comes-sooner t spacing (Tick last) = ltb (t - last) spacing
 -- tested."
 unfoldable pub too-soon : State → ℕ → ℕ → ℕ
 too-soon d t set =
-    collect (λ n. member n set && (member n (d .table .spaced) && comes-sooner t (spacing (d .table .columns) n) (last-release d n)))
+    collect (λ n. member n set && (member n (d .table .spaced) && comes-sooner t (spacing (d .table .columns) n) (previous-release d n)))
 
 -- the others pass
 unfoldable pub passing : State → ℕ → ℕ → ℕ

@@ -9,7 +9,7 @@ use Rattle.table.specs.Table.{spacing}
 use Rattle.rules.specs.With.{at-clock}
 use Rattle.rules.specs.Order.{highest, outranks}
 use Rattle.rules.specs.Blocking.{blockable, CanBlock}
-use Rattle.rules.specs.Instant.{copyin-at, settled, processor-task, copyout-task, copyin-task, copyin-fate, is-over, promoted, resting, awaiting-execution, over, blocks, counted, without-promoted, next-of, awaiting-copyout, processor-at, step-a, step-d, steps-c-d, step-e, begin, step-g, closed-with, entry-with, begin-processor, work-of, wanted, last-release, comes-sooner, too-soon, held-over, sooner, copyout-due, copyin-due, due}
+use Rattle.rules.specs.Instant.{copyin-at, settled, processor-task, copyout-task, copyin-task, copyin-fate, is-over, promoted, resting, awaiting-execution, over, blocks, counted, without-promoted, next-of, awaiting-copyout, processor-at, step-a, step-d, steps-c-d, step-e, begin, step-g, closed-with, entry-with, begin-processor, work-of, wanted, previous-release, comes-sooner, too-soon, held-over, sooner, copyout-due, copyin-due, due}
 use Rattle.rules.specs.Registers.{as-task, as-next, as-outgoing, as-processor, as-copyout, as-copyin, processor-in, copyin-in, interval-in, phase-in}
 use Rattle.rules.specs.Kept.{Kept, kept, Whole, ByTask, by-task, Beside, beside, registers-in, read, Becomes, Step, StepInOrder, StepAlone, copyout-ends}
 
@@ -172,7 +172,7 @@ abbrev pub SoonAt : ℕ → ℕ → List ℕ → List ℕ → List ℕ → List 
 SoonAt t n sets columns release waits x =
     (times codes priority blocked : List ℕ)
     → x ≡ comes-sooner t (spacing columns n)
-    (last-release (read (kept times sets codes) (beside priority columns (by-task release blocked waits))) n)
+    (previous-release (read (kept times sets codes) (beside priority columns (by-task release blocked waits))) n)
 
 -- and of a set those that do
 abbrev pub TooSoonAt : ℕ → ℕ → List ℕ → List ℕ → List ℕ → List ℕ → ℕ → Type 0

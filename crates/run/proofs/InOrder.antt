@@ -94,7 +94,19 @@ module _ {kt ko ka kb kx kf kg : Kept} {bb bx bf : Beside} {fates : ReleaseFates
       let fate : (which : ReleaseFates → ℕ) → which fates ≡ which (released (getD (kb .sets) 1 0) (getD (kb .sets) 5 0) (difference set soon)) =
       λ which. ap which (takes ∙ ap (released (getD (kb .sets) 1 0) (getD (kb .sets) 5 0)) passes) in
       let h : Left (read k b) t set soon (fates .taken) (fates .deferred) held (read kt b) (read ka b) (read kb bb) (read kx bx) (read kf bf) (read kg bf) =
-      record { soon-is = soons (k .times) (k .codes) (b .priority) (b .by-task .blocked); timed-is = stamps .state; a-is = ends .state ∙ outs .copies .state; b-is = tests .state; taken-is = fate (λ z. z .taken); deferred-is = fate (λ z. z .deferred); held-is = holds (kb .times) (kb .sets); x-is = moves .state; f-is = second .state; g-is = begins .state } in
+      record {
+        soon-is = soons (k .times) (k .codes) (b .priority) (b .by-task .blocked);
+        timed-is = stamps .state;
+        a-is = ends .state ∙ outs .copies .state;
+        b-is = tests .state;
+        taken-is = fate (λ z. z .taken);
+        deferred-is = fate (λ z. z .deferred);
+        held-is = holds (kb .times)
+            (kb .sets);
+        x-is = moves .state;
+        f-is = second .state;
+        g-is = begins .state;
+      } in
       record {
         state = left (read k b) t set h;
         puts = all-put (read k b) t set h (skip ∙ ap (union soon) (fate (λ z. z .skipped))) (outs .puts) (tests .puts) skips (second .puts);

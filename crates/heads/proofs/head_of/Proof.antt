@@ -94,13 +94,19 @@ entries-again c =
     )
 
 add-t-3 : tie.Need-add-t-3 Inv-entries μ-entries
-add-t-3 c = let small = member-task _ _ (c .before .before .before .before .before .before .before .before .before .before .before .entries .inv .2) (spacing-taken (c .before .before .before .before .before .before .before .before .before .before .before .entries .t) _ (sym (c .before .before .before .spacing-refusal .ensures) ∙ c .before .before .if4 .left) .known) in search needs
+add-t-3 c =
+    let small = member-task _ _ (c .before .before .before .before .before .before .before .before .before .before .before .entries .inv .2)
+    (spacing-taken (c .before .before .before .before .before .before .before .before .before .before .before .entries .t) _ (sym (c .before .before .before .spacing-refusal .ensures) ∙ c .before .before .if4 .left) .known) in search needs
 
 mul-t-4 : tie.Need-mul-t-4 Inv-entries μ-entries
-mul-t-4 c = let small = member-task _ _ (c .before .before .before .before .before .before .before .before .before .before .before .entries .inv .2) (spacing-taken (c .before .before .before .before .before .before .before .before .before .before .before .entries .t) _ (sym (c .before .before .before .spacing-refusal .ensures) ∙ c .before .before .if4 .left) .known) in search needs
+mul-t-4 c =
+    let small = member-task _ _ (c .before .before .before .before .before .before .before .before .before .before .before .entries .inv .2)
+    (spacing-taken (c .before .before .before .before .before .before .before .before .before .before .before .entries .t) _ (sym (c .before .before .before .spacing-refusal .ensures) ∙ c .before .before .if4 .left) .known) in search needs
 
 element-write-t-5 : tie.Need-element-write-t-5 Inv-entries μ-entries
-element-write-t-5 c = let small = member-task _ _ (c .before .before .before .before .before .before .before .before .before .before .before .entries .inv .2) (spacing-taken (c .before .before .before .before .before .before .before .before .before .before .before .entries .t) _ (sym (c .before .before .before .spacing-refusal .ensures) ∙ c .before .before .if4 .left) .known) in search needs
+element-write-t-5 c =
+    let small = member-task _ _ (c .before .before .before .before .before .before .before .before .before .before .before .entries .inv .2)
+    (spacing-taken (c .before .before .before .before .before .before .before .before .before .before .before .entries .t) _ (sym (c .before .before .before .spacing-refusal .ensures) ∙ c .before .before .if4 .left) .known) in search needs
 
 entries-again-2 : tie.Need-entries-again-2 Inv-entries μ-entries
 unfolding entry-refusal with-entry marked-with with-spacing
@@ -153,7 +159,8 @@ returns-5 c =
     let v = c9 .before .entries in let s = c9 .before .before .before .before .args .s .now in
     let e = sym (c .before .before .before .before .before .before .entry-at .ensures) ∙ c .before .before .before .before .entry2 .given .1 in
     c .refused-at3 .ensures
-    ∙ refused s (v .at) (v .t) (v .marked) (v .inv .3) (c9 .if1 .left) (sym (c .before .before .before .before .before .before .before .before .is-release .ensures) ∙ c .before .before .before .before .before .before .before .if2 .left) _ e _ (sym (c .before .before .task-refusal .ensures)) (c .before .if3 .taken)
+    ∙ refused s (v .at) (v .t) (v .marked) (v .inv .3) (c9 .if1 .left) (sym (c .before .before .before .before .before .before .before .before .is-release .ensures) ∙ c .before .before .before .before .before .before .before .if2 .left) _ e _
+    (sym (c .before .before .task-refusal .ensures)) (c .before .if3 .taken)
 
 returns-6 : tie.Need-returns-6 Inv-entries μ-entries
 unfolding entry-refusal
@@ -162,7 +169,8 @@ returns-6 c =
     let v = c9 .before .entries in let s = c9 .before .before .before .before .args .s .now in
     let e = sym (c .before .before .before .before .before .before .entry-at .ensures) ∙ c .before .before .before .before .entry3 .given .1 in
     c .refused-at4 .ensures
-    ∙ refused s (v .at) (v .t) (v .marked) (v .inv .3) (c9 .if1 .left) (sym (c .before .before .before .before .before .before .before .before .is-release .ensures) ∙ c .before .before .before .before .before .before .before .if2 .left) _ e _ (sym (c .before .before .spacing-refusal .ensures)) (c .before .if4 .taken)
+    ∙ refused s (v .at) (v .t) (v .marked) (v .inv .3) (c9 .if1 .left) (sym (c .before .before .before .before .before .before .before .before .is-release .ensures) ∙ c .before .before .before .before .before .before .before .if2 .left) _ e _
+    (sym (c .before .before .spacing-refusal .ensures)) (c .before .if4 .taken)
 
 pub head-of-spec : {M : Type 1} → statement M
 head-of-spec =

@@ -4,7 +4,7 @@ use borrow.Author.Needs.{needs}
 use lib.ListN.{getD}
 use Rattle.sets.specs.Sets.{member}
 use Rattle.table.specs.Table.{spacing}
-use Rattle.rules.specs.Instant.{last-release, comes-sooner}
+use Rattle.rules.specs.Instant.{previous-release, comes-sooner}
 use Rattle.rules.specs.Registers.{state-in}
 use Rattle.rules.specs.Kept.{kept, by-task, beside, read}
 use Rattle.rules.proofs.spacing.is_too_soon.Statement.{statement}
@@ -12,18 +12,18 @@ use Rattle.rules.proofs.spacing.is_too_soon.Tie as tie
 
 module _ (t n : ℕ) (times sets codes priority columns release blocked waits : List ℕ) where
   Soon : Bool → Type 0
-  Soon x = x ≡ comes-sooner t (spacing columns n) (last-release (read (kept times sets codes) (beside priority columns (by-task release blocked waits))) n)
+  Soon x = x ≡ comes-sooner t (spacing columns n) (previous-release (read (kept times sets codes) (beside priority columns (by-task release blocked waits))) n)
 
   by-waiting : {x : Bool} {s last : ℕ} → member n (getD sets 5 0) ≡ true → s ≡ spacing columns n → last ≡ getD waits n 0 → x ≡ comes-sooner t s (Tick last) → Soon x
-  unfolding Soon last-release state-in
+  unfolding Soon previous-release state-in
   by-waiting w s l e = e ∙ rw (w, s, l)
 
   by-job : {x : Bool} {s last : ℕ} → member n (getD sets 5 0) ≡ false → member n (getD sets 7 0) ≡ true → s ≡ spacing columns n → last ≡ getD release n 0 → x ≡ comes-sooner t s (Tick last) → Soon x
-  unfolding Soon last-release state-in
+  unfolding Soon previous-release state-in
   by-job w b s l e = e ∙ rw (w, b, s, l)
 
   by-none : member n (getD sets 5 0) ≡ false → member n (getD sets 7 0) ≡ false → Soon false
-  unfolding Soon last-release state-in
+  unfolding Soon previous-release state-in
   by-none w b = rw (w, b)
 
 returns : tie.Need-returns

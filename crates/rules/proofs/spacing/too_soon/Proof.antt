@@ -8,7 +8,7 @@ use lib.ListN.{getD}
 use Rattle.sets.specs.Sets.{member, collect, insert, intersection, lowest}
 use Rattle.sets.proofs.Laws.{by-test, none, ext, collected, collect-small, inserted, insert-small, intersection-small, intersection-member}
 use Rattle.table.specs.Table.{spacing}
-use Rattle.rules.specs.Instant.{last-release, comes-sooner, too-soon}
+use Rattle.rules.specs.Instant.{previous-release, comes-sooner, too-soon}
 use Rattle.rules.specs.Registers.{state-in}
 use Rattle.rules.specs.Kept.{kept, by-task, beside, read}
 use Rattle.rules.proofs.Members.{Left, passed, Turn, start, turn, falls, at-start, at-end, gathers-one, gathers-none}
@@ -57,7 +57,7 @@ soon-by t sets columns release waits n =
 all-gathered : (t set : ℕ) (times sets codes priority columns release blocked waits : List ℕ) (all left soon : ℕ) → all ≡ intersection set (getD sets 6 0)
     → Gathered (soon-by t sets columns release waits) all left soon → left ≡ 0
     → soon ≡ too-soon (read (kept times sets codes) (beside priority columns (by-task release blocked waits))) t set
-unfolding too-soon last-release state-in
+unfolding too-soon previous-release state-in
 all-gathered t set times sets codes priority columns release blocked waits all left soon e h z =
     let test : ℕ → Bool = soon-by t sets columns release waits in
     let p : ℕ → Bool = λ j. member j set && (member j (getD sets 6 0) && test j) in
@@ -86,7 +86,7 @@ loop-less : tie.Need-loop-less Inv-loop μ-loop
 loop-less c = falls (c .before .before .before .before .before .loop .inv .tasks) (c .before .before .before .before .loop-test .taken) (c .before .before .before .lowest .ensures) (c .rest .ensures)
 
 loop-again : tie.Need-loop-again Inv-loop μ-loop
-unfolding last-release state-in
+unfolding previous-release state-in
 loop-again c =
     let w = c .before .before .before .before .before .loop in
     let u = turn (w .inv .tasks) (c .before .before .before .before .loop-test .taken) (c .before .before .before .lowest .ensures) (c .rest .ensures) in

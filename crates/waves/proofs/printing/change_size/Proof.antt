@@ -23,16 +23,36 @@ add-result : tie.Need-add-result
 add-result c = omega (arith, c .number-size .ensures, short 19 (c .before .before .before .before .before .before .before .args .t) (omega arith))
 
 add-result-2 : tie.Need-add-result-2
-add-result-2 c = omega (arith, few (c .before .before .before .before .before .before .before .args .t) (omega arith) (c .number-size .ensures) (c .before .before .before .before .new-size .ensures .1) (c .before .before .before .new-size2 .ensures .1) (c .before .before .new-size3 .ensures .1) (c .before .new-size4 .ensures .1))
+add-result-2 c =
+    omega (
+      arith,
+      few (c .before .before .before .before .before .before .before .args .t) (omega arith) (c .number-size .ensures) (c .before .before .before .before .new-size .ensures .1) (c .before .before .before .new-size2 .ensures .1)
+          (c .before .before .new-size3 .ensures .1) (c .before .new-size4 .ensures .1),
+    )
 
 add-result-3 : tie.Need-add-result-3
-add-result-3 c = omega (arith, few (c .before .before .before .before .before .before .before .args .t) (omega arith) (c .number-size .ensures) (c .before .before .before .before .new-size .ensures .1) (c .before .before .before .new-size2 .ensures .1) (c .before .before .new-size3 .ensures .1) (c .before .new-size4 .ensures .1))
+add-result-3 c =
+    omega (
+      arith,
+      few (c .before .before .before .before .before .before .before .args .t) (omega arith) (c .number-size .ensures) (c .before .before .before .before .new-size .ensures .1) (c .before .before .before .new-size2 .ensures .1)
+          (c .before .before .new-size3 .ensures .1) (c .before .new-size4 .ensures .1),
+    )
 
 add-result-4 : tie.Need-add-result-4
-add-result-4 c = omega (arith, few (c .before .before .before .before .before .before .before .args .t) (omega arith) (c .number-size .ensures) (c .before .before .before .before .new-size .ensures .1) (c .before .before .before .new-size2 .ensures .1) (c .before .before .new-size3 .ensures .1) (c .before .new-size4 .ensures .1))
+add-result-4 c =
+    omega (
+      arith,
+      few (c .before .before .before .before .before .before .before .args .t) (omega arith) (c .number-size .ensures) (c .before .before .before .before .new-size .ensures .1) (c .before .before .before .new-size2 .ensures .1)
+          (c .before .before .new-size3 .ensures .1) (c .before .new-size4 .ensures .1),
+    )
 
 add-result-5 : tie.Need-add-result-5
-add-result-5 c = omega (arith, few (c .before .before .before .before .before .before .before .args .t) (omega arith) (c .number-size .ensures) (c .before .before .before .before .new-size .ensures .1) (c .before .before .before .new-size2 .ensures .1) (c .before .before .new-size3 .ensures .1) (c .before .new-size4 .ensures .1))
+add-result-5 c =
+    omega (
+      arith,
+      few (c .before .before .before .before .before .before .before .args .t) (omega arith) (c .number-size .ensures) (c .before .before .before .before .new-size .ensures .1) (c .before .before .before .new-size2 .ensures .1)
+          (c .before .before .new-size3 .ensures .1) (c .before .new-size4 .ensures .1),
+    )
 
 returns-2 : tie.Need-returns-2
 returns-2 c =

@@ -36,7 +36,8 @@ unfolding changed
 put-new-requires c κs =
     let f = c .before .before .before .before .before .before .before .before in
     let e = change-is (f .args .v) (f .args .t) (f .args .w) (sym (c .before .before .before .before .before .before .same .ensures) ∙ c .before .before .before .before .before .if1 .left) in
-    first-room (if-new (f .args .v .processor) (f .args .w .processor) (wires 97 (f .args .w .processor))) (behind-first (f .args .v) (f .args .w)) (next-room (changed (f .args .v) (f .args .w)) (c .before .before .before .put-mark .ensures) (subst (λ l. Room (f .args .at) l (f .args .out .now)) e (f .pre .1)))
+    first-room (if-new (f .args .v .processor) (f .args .w .processor) (wires 97 (f .args .w .processor))) (behind-first (f .args .v) (f .args .w))
+    (next-room (changed (f .args .v) (f .args .w)) (c .before .before .before .put-mark .ensures) (subst (λ l. Room (f .args .at) l (f .args .out .now)) e (f .pre .1)))
 
 -- src/printing.rt:163:9
 put-new-requires-2 : tie.Need-put-new-requires-2
@@ -53,7 +54,8 @@ put-new-requires-3 : tie.Need-put-new-requires-3
 unfolding changed
 put-new-requires-3 c κs =
     let f = c .before .before .before .before .before .before .before .before .before .before .before .before .before .before .before .before in
-    let e = change-is (f .args .v) (f .args .t) (f .args .w) (sym (c .before .before .before .before .before .before .before .before .before .before .before .before .before .before .same .ensures) ∙ c .before .before .before .before .before .before .before .before .before .before .before .before .before .if1 .left) in
+    let e = change-is (f .args .v) (f .args .t) (f .args .w) (sym (c .before .before .before .before .before .before .before .before .before .before .before .before .before .before .same .ensures)
+    ∙ c .before .before .before .before .before .before .before .before .before .before .before .before .before .if1 .left) in
     let r = next-room (changed (f .args .v) (f .args .w)) (c .before .before .before .before .before .before .before .before .before .before .before .put-mark .ensures) (subst (λ l. Room (f .args .at) l (f .args .out .now)) e (f .pre .1)) in
     first-room (if-new (f .args .v .copyout) (f .args .w .copyout) (wires 99 (f .args .w .copyout))) (if-new (f .args .v .half) (f .args .w .half) (wire 100 (f .args .w .half)))
     (next-room (behind-second (f .args .v) (f .args .w)) (c .before .before .before .put-new2 .ensures) (next-room (behind-first (f .args .v) (f .args .w)) (c .before .before .before .before .before .before .before .put-new .ensures) r))
@@ -63,11 +65,13 @@ put-new-half-requires : tie.Need-put-new-half-requires
 unfolding changed
 put-new-half-requires c κs =
     let f = c .before .before .before .before .before .before .before .before .before .before .before .before .before .before .before .before .before .before .before .before in
-    let e = change-is (f .args .v) (f .args .t) (f .args .w) (sym (c .before .before .before .before .before .before .before .before .before .before .before .before .before .before .before .before .before .before .same .ensures) ∙ c .before .before .before .before .before .before .before .before .before .before .before .before .before .before .before .before .before .if1 .left) in
+    let e = change-is (f .args .v) (f .args .t) (f .args .w) (sym (c .before .before .before .before .before .before .before .before .before .before .before .before .before .before .before .before .before .before .same .ensures)
+    ∙ c .before .before .before .before .before .before .before .before .before .before .before .before .before .before .before .before .before .if1 .left) in
     let r = next-room (changed (f .args .v) (f .args .w)) (c .before .before .before .before .before .before .before .before .before .before .before .before .before .before .before .put-mark .ensures) (subst (λ l. Room (f .args .at) l (f .args .out .now)) e (f .pre .1)) in (
       f .pre .0,
       next-room (if-new (f .args .v .half) (f .args .w .half) (wire 100 (f .args .w .half))) (c .before .before .before .put-new3 .ensures)
-          (next-room (behind-second (f .args .v) (f .args .w)) (c .before .before .before .before .before .before .before .put-new2 .ensures) (next-room (behind-first (f .args .v) (f .args .w)) (c .before .before .before .before .before .before .before .before .before .before .before .put-new .ensures) r)),
+          (next-room (behind-second (f .args .v) (f .args .w)) (c .before .before .before .before .before .before .before .put-new2 .ensures)
+          (next-room (behind-first (f .args .v) (f .args .w)) (c .before .before .before .before .before .before .before .before .before .before .before .put-new .ensures) r)),
     )
 
 -- src/printing.rt:153:1

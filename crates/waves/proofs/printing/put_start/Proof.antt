@@ -29,7 +29,12 @@ unfolding all
 put-wires-requires-2 c κs =
     let f = c .before .before .before .before .before .before .before .before .before .before in
     let r = next-room (all (f .args .w)) (c .before .before .before .before .before .before .before .put-mark .ensures) (f .pre .1) in
-    omega (arith, first-room (wires 98 (f .args .w .copyin)) (wires 99 (f .args .w .copyout) ++ wire 100 (f .args .w .half)) (next-room (wires 98 (f .args .w .copyin) ++ (wires 99 (f .args .w .copyout) ++ wire 100 (f .args .w .half))) (c .before .before .before .put-wires .ensures) r) .fits, wires-size 98 (f .args .w .copyin))
+    omega (
+      arith,
+      first-room (wires 98 (f .args .w .copyin)) (wires 99 (f .args .w .copyout) ++ wire 100 (f .args .w .half))
+          (next-room (wires 98 (f .args .w .copyin) ++ (wires 99 (f .args .w .copyout) ++ wire 100 (f .args .w .half))) (c .before .before .before .put-wires .ensures) r) .fits,
+      wires-size 98 (f .args .w .copyin),
+    )
 
 -- src/printing.rt:111:9
 put-wires-requires-3 : tie.Need-put-wires-requires-3
@@ -37,15 +42,29 @@ unfolding all
 put-wires-requires-3 c κs =
     let f = c .before .before .before .before .before .before .before .before .before .before .before .before .before .before in
     let r = next-room (all (f .args .w)) (c .before .before .before .before .before .before .before .before .before .before .before .put-mark .ensures) (f .pre .1) in
-    omega (arith, first-room (wires 99 (f .args .w .copyout)) (wire 100 (f .args .w .half)) (next-room (wires 99 (f .args .w .copyout) ++ wire 100 (f .args .w .half)) (c .before .before .before .put-wires2 .ensures) (next-room (wires 98 (f .args .w .copyin) ++ (wires 99 (f .args .w .copyout) ++ wire 100 (f .args .w .half))) (c .before .before .before .before .before .before .before .put-wires .ensures) r)) .fits, wires-size 99 (f .args .w .copyout))
+    omega (
+      arith,
+      first-room (wires 99 (f .args .w .copyout)) (wire 100 (f .args .w .half))
+          (next-room (wires 99 (f .args .w .copyout) ++ wire 100 (f .args .w .half)) (c .before .before .before .put-wires2 .ensures)
+          (next-room (wires 98 (f .args .w .copyin) ++ (wires 99 (f .args .w .copyout) ++ wire 100 (f .args .w .half))) (c .before .before .before .before .before .before .before .put-wires .ensures) r)) .fits,
+      wires-size 99 (f .args .w .copyout),
+    )
 
 -- src/printing.rt:112:5
 put-wire-requires : tie.Need-put-wire-requires
 unfolding all
 put-wire-requires c κs =
     let f = c .before .before .before .before .before .before .before .before .before .before .before .before .before .before .before .before .before .before in
-    let r = next-room (all (f .args .w)) (c .before .before .before .before .before .before .before .before .before .before .before .before .before .before .before .put-mark .ensures) (f .pre .1) in
-    (f .pre .0, omega (arith, next-room (wire 100 (f .args .w .half)) (c .before .before .before .put-wires3 .ensures) (next-room (wires 99 (f .args .w .copyout) ++ wire 100 (f .args .w .half)) (c .before .before .before .before .before .before .before .put-wires2 .ensures) (next-room (wires 98 (f .args .w .copyin) ++ (wires 99 (f .args .w .copyout) ++ wire 100 (f .args .w .half))) (c .before .before .before .before .before .before .before .before .before .before .before .put-wires .ensures) r)) .fits, wire-size 100 (f .args .w .half)))
+    let r = next-room (all (f .args .w)) (c .before .before .before .before .before .before .before .before .before .before .before .before .before .before .before .put-mark .ensures) (f .pre .1) in (
+      f .pre .0,
+      omega (
+        arith,
+        next-room (wire 100 (f .args .w .half)) (c .before .before .before .put-wires3 .ensures)
+            (next-room (wires 99 (f .args .w .copyout) ++ wire 100 (f .args .w .half)) (c .before .before .before .before .before .before .before .put-wires2 .ensures)
+            (next-room (wires 98 (f .args .w .copyin) ++ (wires 99 (f .args .w .copyout) ++ wire 100 (f .args .w .half))) (c .before .before .before .before .before .before .before .before .before .before .before .put-wires .ensures) r)) .fits,
+        wire-size 100 (f .args .w .half),
+      ),
+    )
 
 -- src/printing.rt:103:1
 same-length : tie.Need-same-length
