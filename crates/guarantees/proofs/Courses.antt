@@ -625,7 +625,7 @@ module _ (pr : List ℕ) where
 
   -- ---- d, e
 
-  gives-same : (p : Phase) → giving-events-in p p ≡ []
+  pub gives-same : (p : Phase) → giving-events-in p p ≡ []
   unfolding giving-events-in
   gives-same (Between next outgoing) = refl
   gives-same (Within i) = go (given-way (i .copyin))
@@ -634,7 +634,7 @@ module _ (pr : List ℕ) where
       go NoTask = unfold giving-events in refl
       go (Task n) = unfold giving-events in refl
 
-  c-gives : (d : State) (taken : ℕ) (p q : Phase) → giving-events-in (with-candidates d taken p) q ≡ giving-events-in p q
+  pub c-gives : (d : State) (taken : ℕ) (p q : Phase) → giving-events-in (with-candidates d taken p) q ≡ giving-events-in p q
   unfolding giving-events-in with-candidates
   c-gives d taken (Between next outgoing) q = refl
   c-gives d taken (Within i) (Between next outgoing) = refl
@@ -744,7 +744,7 @@ module _ (pr : List ℕ) where
       go true b l = omega arith
       go false b l = omega arith
 
-  choose-gives : (d : State) (t : ℕ) (i : Interval) (q : MaybeTask) (p : Phase) → i .copyin ≡ Unchosen → giving-events-in p (choose d t i q .phase) ≡ giving-events-in p (Within i)
+  pub choose-gives : (d : State) (t : ℕ) (i : Interval) (q : MaybeTask) (p : Phase) → i .copyin ≡ Unchosen → giving-events-in p (choose d t i q .phase) ≡ giving-events-in p (Within i)
   unfolding choose giving-events-in
   choose-gives d t i NoTask (Between next outgoing) e = refl
   choose-gives d t i NoTask (Within j) e = ap (λ (c : CopyIn). giving-events (given-way (j .copyin)) (given-way c)) (sym e)

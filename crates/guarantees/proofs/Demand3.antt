@@ -5,9 +5,9 @@ use lib.ListN.{getD}
 use Rattle.sets.specs.Sets.{member, size}
 use Rattle.sets.proofs.Laws.{none, same-task, member-task, size-none}
 use Rattle.rules.specs.Instant.{due}
-use Rattle.rules.specs.Calls.{opened, opening}
+use Rattle.rules.specs.Calls.{opened, opening, mark-refusal}
 use Rattle.guarantees.specs.History.{Event, Completes, Takes, Defers, history, after-calls, EmptySets}
-use Rattle.guarantees.specs.Queries.{Situation, NoneOpen, situation, intervals, total, is-take, taking, met}
+use Rattle.guarantees.specs.Queries.{Situation, NoneOpen, situation, intervals, total, is-take, taking, waiting, met}
 use Rattle.guarantees.specs.Pending.{OneAtATime}
 use Rattle.guarantees.specs.Intervals.{no-course}
 use Rattle.guarantees.specs.Entries.{all-occurred, closed}
@@ -26,11 +26,12 @@ use Rattle.guarantees.proofs.Executions.{executed}
 use Rattle.guarantees.proofs.Remembered.{tells}
 use Rattle.guarantees.proofs.Closings.{all-done}
 use Rattle.guarantees.proofs.Courses.{proceeds, Follows, courses}
+use Rattle.guarantees.proofs.Causes.{cause}
 use Rattle.guarantees.proofs.Known.{AllKnown, begins-known, completes-known, all-known}
 use Rattle.guarantees.proofs.Serving.{all-served-jobs}
 use Rattle.guarantees.proofs.Deferred.{taken-small, deferred-small, taken-later}
-use Rattle.guarantees.proofs.Marks.{taken-marked}
-use Rattle.guarantees.proofs.Fates.{balanced as releases-balanced, placed}
+use Rattle.guarantees.proofs.Marks.{taken-marked, mark-free}
+use Rattle.guarantees.proofs.Fates.{balanced as releases-balanced, none-waits-so, placed}
 use Rattle.guarantees.proofs.Turns.{one-at-a-time, in-time, resumed-in}
 use Rattle.guarantees.proofs.Turning.{turns}
 use Rattle.guarantees.proofs.LastReleases.{spaced, last-releases}
@@ -68,6 +69,7 @@ module _ (table : Table) (marks : ℕ) (fair : Fair table marks) where
     each-taking = λ before after n t m e. released-in (table .priority) h before after n t m in-turn e .1;
     each-execution = λ before after n t l e. execution-in (table .columns) n h before after t l (executed table marks fair calls) e;
     each-interval = proceeds (table .priority) h (follows calls .executing);
+    each-cause = λ before after n e. unfold opened in cause (table .priority) calls (opened table marks) refl before after n e;
     each-start = λ before after n s e. started-so (table .columns) h (executed table marks fair calls) before after n s e;
     each-stop = λ before after n u e. stopped-so (table .columns) h (executed table marks fair calls) before after n u e;
     each-end = λ before after n e x y. ended-so (table .columns) h (executed table marks fair calls) before after n e x y;
@@ -154,6 +156,7 @@ module _ (table : Table) (marks : ℕ) (fair : Fair table marks) where
       each-release = λ before after n e l. releases-balanced n l d before (none-waits n);
       each-instant = λ before after n t set o e l x. unfold opened in placed n l d before (none-waits n) table (λ s. fair .spacings n s .0) (table-after before) (last-releases table marks fair n l before) t set o x;
       each-mark = λ before after n t set u m xs ys e x. taken-marked d before t set n u m xs ys (same-task n) x;
+      each-mark-call = λ before after n m e x. unwaited before n m x;
       each-interval = unfold opened in sym (follows calls .says);
     };
     come-to-an-end = drains table marks fair (mass (after-calls d calls)) (after-calls d calls) good (omega arith);
@@ -185,6 +188,16 @@ module _ (table : Table) (marks : ℕ) (fair : Fair table marks) where
 
       none-waits : (n : ℕ) → member n (opened table marks .waiting .tasks) ≡ false
       none-waits n = unfold opened in none n
+
+      small : (n : ℕ) → member n (table .present) ≡ true → n < 32
+      small n m = member-task n (table .present) (fair .present) m
+
+      -- where a mark call is served nothing of its task waits
+      unwaited : (before : List Call) (n m : ℕ) → mark-refusal (after-calls (opened table marks) before) n m ≡ 0 → waiting n Never (history (opened table marks) before) ≡ Never
+      unwaited before n m x =
+          let f = mark-free (after-calls (opened table marks) before) n m x in
+          let l : n < 32 = small n (subst (λ (y : Table). member n (y .present) ≡ true) (table-after before) (f .0)) in
+          none-waits-so n l (opened table marks) before (none-waits n) (f .1 l)
 
       good : Good table marks fair (after-calls (opened table marks) calls)
       good = good-after table marks fair calls (opened table marks) (good-opened table marks fair)

@@ -1,7 +1,7 @@
 -- What the engine may copy out, along a history: a monitor that goes from event to event. From it follows the claim on each executed job, on
 -- each interval that copies a job out, and on each completion.
 use Rattle.table.specs.Table.{copyout-length}
-use Rattle.guarantees.specs.Types.{_≡_, refl, sym, ap, _∙_, subst, false, List, [], _∷_, _++_, ℕ, _+_, _≤_, _<_, MaybeTask, NoTask, Task, Tick}
+use Rattle.guarantees.specs.Types.{_≡_, refl, sym, ap, _∙_, subst, false, List, [], _∷_, _++_, ℕ, _+_, _≤_, _<_, MaybeTask, NoTask, Task, Tick, Never}
 use native.Mathlib.Omega.{arith}
 use borrow.Author.Tests.{eq-eqb, le-leb, lt-leb}
 use lib.Dec.{eqb}
@@ -218,7 +218,7 @@ module _ (columns : List ℕ) where
   Agrees Free x = Unit {0}
   Agrees (Owed e m) x = (x .executed ≡ Task m) × (x .ended ≡ Tick e)
   Agrees (Running r) x = x .executed ≡ r
-  Agrees (Busy r m u) x = (x .executed ≡ r) × ((b : ℕ) × (x .begun ≡ Tick b) × (x .out ≡ Task m) × (u ≡ b + copyout-length columns m))
+  Agrees (Busy r m u) x = (x .executed ≡ r) × ((b : ℕ) × (x .begun ≡ Tick b) × (x .ended ≡ Never) × (x .out ≡ Task m) × (u ≡ b + copyout-length columns m))
 
   agrees-completed : (s : Engine) (x : Latest) → Agrees s x → Agrees (completed-to s) x
   agrees-completed Free x a = tt
@@ -235,7 +235,7 @@ module _ (columns : List ℕ) where
 
   agrees-begun : (t : ℕ) (r l : MaybeTask) (x : Latest) → Agrees (begun-to columns t r l) (latest-by x (Begins t r l))
   agrees-begun t r NoTask x = refl
-  agrees-begun t r (Task n) x = (refl, (t, refl, refl, refl))
+  agrees-begun t r (Task n) x = (refl, (t, refl, refl, refl, refl))
 
   -- at each event the engine's state agrees with what has occurred
   record Meets (s : Engine) (now : ℕ) (x : Latest) (e : Event) (after : List Event) : Type 0 where
@@ -266,14 +266,14 @@ module _ (columns : List ℕ) where
   begins-so (Busy q m u) now n b r x after h a = absurd (h .0 .2)
 
   completes-so : (s : Engine) (now n c : ℕ) (x : Latest) (after : List Event) → Leaving columns now s (Completes n c ∷ after) → Agrees s x
-      → (b : ℕ) × (x .begun ≡ Tick b) × (x .out ≡ Task n) × (c ≡ b + copyout-length columns n)
+      → (b : ℕ) × (x .begun ≡ Tick b) × (x .ended ≡ Never) × (x .out ≡ Task n) × (c ≡ b + copyout-length columns n)
   unfolding Leaving
   completes-so Free now n c x after h a = absurd (h .0)
   completes-so (Owed e m) now n c x after h a = absurd (h .0)
   completes-so (Running q) now n c x after h a = absurd (h .0)
   completes-so (Busy q m u) now n c x after h a =
       let e : m ≡ n = sym (h .0 .0) in
-      (a .1 .0, a .1 .1, a .1 .2 ∙ ap Task e, h .0 .1 ∙ a .1 .3 ∙ ap (λ (k : ℕ). a .1 .0 + copyout-length columns k) e)
+      (a .1 .0, a .1 .1, a .1 .2, a .1 .3 ∙ ap Task e, h .0 .1 ∙ a .1 .4 ∙ ap (λ (k : ℕ). a .1 .0 + copyout-length columns k) e)
 
   module _ (h : List Event) (allowed : Leaving columns 0 Free h) (before after : List Event) where
     pub copied-out-so : (n b : ℕ) (r : MaybeTask) → h ≡ before ++ (Begins b r (Task n) ∷ after) → let x : Latest = latest none-yet before in (x .executed ≡ Task n) × (x .ended ≡ Tick b)
@@ -283,7 +283,7 @@ module _ (columns : List ℕ) where
         begins-so (m .0) (m .1) n b r (latest none-yet before) after (m .2 .allowed) (m .2 .agrees)
 
     pub completed-so : (n c : ℕ) → h ≡ before ++ (Completes n c ∷ after) → let x : Latest = latest none-yet before in
-        (b : ℕ) × (x .begun ≡ Tick b) × (x .out ≡ Task n) × (c ≡ b + copyout-length columns n)
+        (b : ℕ) × (x .begun ≡ Tick b) × (x .ended ≡ Never) × (x .out ≡ Task n) × (c ≡ b + copyout-length columns n)
     completed-so n c e =
         let m : (s : Engine) × (now : ℕ) × Meets s now (latest none-yet before) (Completes n c) after =
         meets before (Completes n c) after 0 Free none-yet (subst (Leaving columns 0 Free) e allowed) tt in

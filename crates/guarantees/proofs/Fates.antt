@@ -19,7 +19,7 @@ use Rattle.guarantees.proofs.Events.{by-front, by-takes, by-defers, fro
 use Rattle.guarantees.proofs.Frames.{table-b, waiting-b}
 use Rattle.guarantees.proofs.Releases.{is-taken, is-deferred, is-skipped, is-waiting, taken-member, deferred-member, waits-member, taken-from, soon-at, passing-member, passing-from, passed, skipped-at-member, waits-g}
 use Rattle.guarantees.proofs.Deferred.{at-task, by-rest, waits-in, alone, alone-end}
-use Rattle.guarantees.proofs.Turns.{stands, held-is, some-held}
+use Rattle.guarantees.proofs.Turns.{stands, held-is, none-held, some-held}
 use Rattle.guarantees.proofs.LastReleases.{last-b, sooner-than, is-sooner}
 use Rattle.guarantees.proofs.Remembered.{served-so}
 
@@ -204,6 +204,10 @@ module _ (n : ℕ) (small : n < 32) where
   waits-so : (d : State) (cs : List Call) → member n (d .waiting .tasks) ≡ false → member n (after-calls d cs .waiting .tasks) ≡ true
       → (u : ℕ) × (waiting n Never (history d cs) ≡ Tick u)
   waits-so d cs e m = some-held n (waiting n Never (history d cs)) (waits-in-state d cs e ∙ m)
+
+  pub none-waits-so : (d : State) (cs : List Call) → member n (d .waiting .tasks) ≡ false → member n (after-calls d cs .waiting .tasks) ≡ false
+      → waiting n Never (history d cs) ≡ Never
+  none-waits-so d cs e m = none-held n (waiting n Never (history d cs)) (waits-in-state d cs e ∙ m)
 
   abbrev As : List Event → List Event → Type 0
   As ys zs = taking n zs ≡ taking n ys

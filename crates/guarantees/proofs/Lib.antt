@@ -41,6 +41,7 @@ pub mod Figure
 pub mod Fates
 pub mod Marks
 pub mod Courses
+pub mod Causes
 pub mod Serving
 pub mod Arithmetic
 pub mod Chosen

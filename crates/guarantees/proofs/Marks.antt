@@ -3,14 +3,15 @@ use Rattle.guarantees.specs.Types.{_≡_, refl, sym, ap, _∙_, subst, B
 use mathlib.Core.List.{append-nil}
 use native.Mathlib.Omega.{arith}
 use borrow.Author.Tests.{eqb-true}
-use lib.Dec.{eqb}
-use Rattle.sets.specs.Sets.{member, insert, remove}
-use Rattle.sets.proofs.Laws.{by-test, inserted, removed}
+use lib.Dec.{eqb, ltb}
+use Rattle.sets.specs.Sets.{member, union, insert, remove}
+use Rattle.sets.proofs.Laws.{by-test, united, inserted, removed}
 use Rattle.rules.specs.Instant.{at-g, taken-at, deferred-at}
 use Rattle.rules.specs.Calls.{refusal, mark-refusal, after-call}
 use Rattle.guarantees.specs.History.{Event, Comes, Starts, Stops, Finishes, Completes, Ends, Takes, Defers, GivesWay, Begins, happens, by-call, after-calls, take-events}
 use Rattle.guarantees.specs.Queries.{details, is-task, takes}
 use Rattle.guarantees.specs.Entries.{marked-by}
+use Rattle.guarantees.proofs.Proper.{none-passed}
 use Rattle.guarantees.proofs.Walk.{served, refused, mark-served, mark-refused}
 use Rattle.guarantees.proofs.Events.{by-front, by-takes, by-defers, tail-of, happens-parts, tail-parts}
 use Rattle.guarantees.proofs.Frames.{marked-g}
@@ -106,3 +107,19 @@ taken-marked d cs t set n u m xs ys s e =
     let g : State = after-calls d cs in
     let x : (n < 32) × (m ≡ member n (g .marked)) = marked-at (g .marked) xs n u m ys (subst (Marked (g .marked)) e (call-marked g t set)) s in
     x .1 ∙ marks-along n (x .0) cs d (member n (d .marked)) refl
+
+-- ---- a mark call that is served: its task is one of the table's, and nothing of it waits
+
+pub mark-free : (d : State) (n m : ℕ) → mark-refusal d n m ≡ 0 → (member n (d .table .present) ≡ true) × (n < 32 → member n (d .waiting .tasks) ≡ false)
+unfolding mark-refusal
+mark-free d n m h =
+    let f = none-passed 15 5 16 0 (not (member n (d .table .present))) (ltb 1 m) (member n (union (d .jobs .pending) (d .waiting .tasks))) false h in
+    (known (member n (d .table .present)) (f .0), λ l. second (member n (d .jobs .pending)) (member n (d .waiting .tasks)) (sym (united (d .jobs .pending) (d .waiting .tasks) n l) ∙ f .2))
+  where
+    known : (b : Bool) → not b ≡ false → b ≡ true
+    known true e = refl
+    known false e = absurd (true≢false e)
+
+    second : (a b : Bool) → (a || b) ≡ false → b ≡ false
+    second true b e = absurd (true≢false e)
+    second false b e = e

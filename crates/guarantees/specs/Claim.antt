@@ -10,10 +10,10 @@ use Rattle.rules.specs.Instant.{previous-release}
 use Rattle.rules.specs.Calls.{opening, refusal}
 use Rattle.dispatcher.specs.declared.Opening.{Opening}
 use Rattle.dispatcher.specs.Dispatcher.{state-of, opening-of}
-use Rattle.guarantees.specs.History.{Event, Starts, Stops, Completes, Ends, Takes, Defers, Begins, history, after-calls, EmptySets}
+use Rattle.guarantees.specs.History.{Event, Starts, Stops, Completes, Ends, Takes, Defers, GivesWay, Begins, history, after-calls, EmptySets}
 use Rattle.guarantees.specs.Pending.{OneAtATime, InTime}
 use Rattle.guarantees.specs.Releases.{Spaced}
-use Rattle.guarantees.specs.Intervals.{Proceeds}
+use Rattle.guarantees.specs.Intervals.{Proceeds, came, Cause}
 use Rattle.guarantees.specs.Entries.{EntriesTell}
 use Rattle.guarantees.specs.Figure.{PlainFigure, Figure}
 use Rattle.guarantees.specs.Counting.{CountsRise}
@@ -89,6 +89,8 @@ pub record Holds (table : Table) (history : List Event) : Type 0 where
   -- one interval is open at a time; each executes the job promoted at the end of the one before it, the highest of the marked ones taken
   -- in that one; else the loaded one
   pub each-interval : Proceeds (table .priority) history
+  -- and a copy-in gives way only to a marked job taken at that instant, of strictly higher priority
+  pub each-cause : (before after : List Event) (n : ℕ) → history ≡ before ++ (GivesWay n ∷ after) → Cause (table .priority) (came before) n
   -- nothing else starts to execute: the open interval executes the job, and its execution has not started before
   pub each-start : (before after : List Event) (n s : ℕ) → history ≡ before ++ (Starts n s ∷ after) →
       let x : Latest = latest none-yet before in (x .executed ≡ Task n) × (x .ended ≡ Never) × (execution not-yet before .started ≡ Never)
@@ -109,7 +111,7 @@ pub record Holds (table : Table) (history : List Event) : Type 0 where
   -- and nothing else completes a job: the open interval copies it out, and has begun U ticks before
   pub each-completion : (before after : List Event) (n c : ℕ) → history ≡ before ++ (Completes n c ∷ after) →
       let x : Latest = latest none-yet before in
-      (b : ℕ) × (x .begun ≡ Tick b) × (x .out ≡ Task n) × (c ≡ b + copyout-length (table .columns) n)
+      (b : ℕ) × (x .begun ≡ Tick b) × (x .ended ≡ Never) × (x .out ≡ Task n) × (c ≡ b + copyout-length (table .columns) n)
   -- a task has one pending job at a time, each taken, executed, copied out and completed once; 4/13: and one release that waits behind it
   pub each-task : (n : ℕ) → OneAtATime n history
   -- 8/13: a task with a spacing has its releases that far apart

@@ -128,5 +128,8 @@ pub record EntriesTell (d : State) (calls : List Call) : Type 0 where
   -- has the same mark as at its taking, since "a mark cannot change while a release waits"
   pub each-mark : (before after : List Call) (n t set u : ℕ) (m : Bool) (xs ys : List Event) → calls ≡ before ++ (Instant t set ∷ after)
       → by-call (after-calls d before) (Instant t set) ≡ xs ++ (Takes n u m ∷ ys) → m ≡ marked-by n (member n (d .marked)) d before
+  -- 4/13: "A mark cannot change while a release waits"
+  pub each-mark-call : (before after : List Call) (n m : ℕ) → calls ≡ before ++ (Mark n m ∷ after)
+      → mark-refusal (after-calls d before) n m ≡ 0 → waiting n Never (history d before) ≡ Never
   -- "kind 17 at the interval's end": one for each interval that ended, in their order, with all that it says
   pub each-interval : closed (all-occurred d calls) ≡ ended (d .table .priority) no-course (history d calls)

@@ -1,11 +1,12 @@
 -- What a history has of an interval, for its entry (kind 17) and for what the next interval executes. What stands between quotation
 -- marks is document 01.
-use Rattle.guarantees.specs.Types.{_≡_, _⊎_, Bool, true, false, cond, not, _&&_, _||_, List, [], _∷_, _++_, ℕ, _-_, MaybeTask, NoTask, Task, IntervalEntry}
+use Rattle.guarantees.specs.Types.{_≡_, _⊎_, Bool, true, false, cond, not, _&&_, _||_, List, [], _∷_, _++_, ℕ, _-_, _<_, MaybeTask, NoTask, Task, IntervalEntry}
 use lib.Dec.{eqb}
-use Rattle.sets.specs.Sets.{insert}
+use lib.ListN.{getD}
+use Rattle.sets.specs.Sets.{member, insert}
 use Rattle.rules.specs.Order.{highest}
 use Rattle.guarantees.specs.History.{Event, Finishes, Ends, GivesWay, Begins}
-use Rattle.guarantees.specs.Queries.{details, finishes, ends, takes, begins, gives-way, after, Origin, no-origin, origin-by}
+use Rattle.guarantees.specs.Queries.{details, comes, finishes, ends, takes, begins, gives-way, after, Origin, no-origin, origin-by}
 
 -- the last interval to begin, as far as it has gone; `own` are the tasks of the marked jobs that were taken in it, `next` of those
 -- taken since its end; `origins` has of each task when its releases were handed in; `decided` is what the next interval executes
@@ -119,3 +120,16 @@ module _ (priority : List ℕ) where
   unfoldable pub ended : Course → List Event → List IntervalEntry
   ended x [] = []
   ended x (e ∷ es) = cond (ends e) (entry-by x (details e .tick) ∷ []) [] ++ ended (course-by x e) es
+
+-- ---- Why a copy-in gives way
+
+-- the marked jobs that were taken at the instant that came last
+abbrev pub came-by : ℕ → Event → ℕ
+came-by s e = cond (comes e) 0 (cond (takes e && details e .mark) (with-task (details e .task) s) s)
+
+abbrev pub came : List Event → ℕ
+came = after came-by 0
+
+-- 6/13: "Only a strictly lower priority is cancelled, thrown out": there is one of strictly higher priority than task n's among them
+abbrev pub Cause : List ℕ → ℕ → ℕ → Type 0
+Cause priority s n = (k : ℕ) × (k < 32) × (member k s ≡ true) × (getD priority k 0 < getD priority n 0)

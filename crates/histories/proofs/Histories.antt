@@ -189,8 +189,8 @@ refuses-completion-missing h = not-never 6 (h .each-executed (take 6 completion-
 refuses-completion-unexecuted : Refuses completion-unexecuted
 unfolding completion-unexecuted after plans-table three
 refuses-completion-unexecuted h =
-    let x : (b : ℕ) × (Tick 0 ≡ Tick b) × (NoTask ≡ Task 1) × (1 ≡ b + 1) = h .each-completion (take 4 completion-unexecuted) (drop 5 completion-unexecuted) 1 1 refl in
-    no-task 1 (x .2)
+    let x : (b : ℕ) × (Tick 0 ≡ Tick b) × (Never ≡ Never) × (NoTask ≡ Task 1) × (1 ≡ b + 1) = h .each-completion (take 4 completion-unexecuted) (drop 5 completion-unexecuted) 1 1 refl in
+    no-task 1 (x .3)
 
 refuses-begins-late : Refuses begins-late
 unfolding begins-late first after plans-table three
