@@ -52,9 +52,9 @@ b-held : (s : Stage) (t : ℕ) → held (step-b s t (s .state .phase) .state) �
 unfolding close
 b-held s t = b-cases (λ x. held x ≡ held (s .state)) s t (λ i e o. refl) (λ next outgoing e. refl) (λ i e o. refl)
 
-d-held : (d : State) (new : ℕ) → held (step-d d new (d .phase)) ≡ held d
+d-held : (d : State) (taken-now : ℕ) → held (step-d d taken-now (d .phase)) ≡ held d
 unfolding cancel
-d-held d new = d-cases (λ x. held x ≡ held d) d new refl (λ i n u e s b. refl)
+d-held d taken-now = d-cases (λ x. held x ≡ held d) d taken-now refl (λ i n u e s b. refl)
 
 choose-held : (d : State) (t : ℕ) (i : Interval) (q : MaybeTask) → held (choose d t i q) ≡ held d
 unfolding choose
@@ -64,10 +64,10 @@ choose-held d t i (Task q) = refl
 e-held : (d : State) (t : ℕ) → held (step-e d t (d .phase)) ≡ held d
 e-held d t = e-cases (λ x. held x ≡ held d) d t refl (λ i e s u. choose-held d t i (highest-of d (d .jobs .ready)))
 
-g-held : (d : State) (t new : ℕ) → held (step-g d t new (d .phase)) ≡ held d
+g-held : (d : State) (t taken-now : ℕ) → held (step-g d t taken-now (d .phase)) ≡ held d
 unfolding begin
-g-held d t new =
-    g-cases (λ x. held x ≡ held d) d t new (λ i e. refl) (λ next outgoing e w. refl) (λ next outgoing e w. e-held (begin d t new next outgoing) t)
+g-held d t taken-now =
+    g-cases (λ x. held x ≡ held d) d t taken-now (λ i e. refl) (λ next outgoing e w. refl) (λ next outgoing e w. e-held (begin d t taken-now next outgoing) t)
 
 held-b : (d : State) (t : ℕ) → held (at-b d t .state) ≡ held (at-a d t .state)
 unfolding at-b
@@ -76,10 +76,10 @@ held-b d t = b-held (at-a d t) t
 held-g : (d : State) (t set : ℕ) → held (at-g d t set) ≡ held (step-c (at-b d t .state) t (taken-at d t set) (deferred-at d t set))
 unfolding at-g at-f at-e
 held-g d t set =
-    let new : ℕ = taken-at d t set in
-    let c : State = step-c (at-b d t .state) t new (deferred-at d t set) in
+    let taken-now : ℕ = taken-at d t set in
+    let c : State = step-c (at-b d t .state) t taken-now (deferred-at d t set) in
     g-held (at-f d t set .state) t (held-at d t set)
-    ∙ b-held (fresh-stage (at-e d t set)) t ∙ e-held (step-d c new (c .phase)) t ∙ d-held c new
+    ∙ b-held (fresh-stage (at-e d t set)) t ∙ e-held (step-d c taken-now (c .phase)) t ∙ d-held c taken-now
 
 -- there is a time for each task, as at opening
 record Long (h : Held) : Type 0 where
@@ -95,11 +95,11 @@ b-long : (d : State) (t : ℕ) → Long (held d) → Long (held (at-b d t .state
 unfolding at-a
 b-long d t h = subst Long (sym (held-b d t)) (a-long (at-clock d t) t (d .phase) (record { release = h .release; times = h .times }))
 
-c-long : (d : State) (t new late : ℕ) → Long (held d) → Long (held (step-c d t new late))
+c-long : (d : State) (t taken-now deferred-now : ℕ) → Long (held d) → Long (held (step-c d t taken-now deferred-now))
 unfolding step-c
-c-long d t new late h = record {
-  release = stamped-length new (original (d .waiting) t) 0 (d .jobs .release) ∙ h .release;
-  times = stamped-length late (λ k. t) 0 (d .waiting .times) ∙ h .times;
+c-long d t taken-now deferred-now h = record {
+  release = stamped-length taken-now (original (d .waiting) t) 0 (d .jobs .release) ∙ h .release;
+  times = stamped-length deferred-now (λ k. t) 0 (d .waiting .times) ∙ h .times;
 }
 
 g-long : (d : State) (t set : ℕ) → Long (held d) → Long (held (at-g d t set))
@@ -142,24 +142,24 @@ module _ (test : Release → Bool) where
   unfolding step-c held-with among
   c-leaves d t set long =
       let p : ℕ = d .jobs .pending in
-      let new : ℕ = taken d set in
-      let late : ℕ = deferred d set in
+      let taken-now : ℕ = taken d set in
+      let deferred-now : ℕ = deferred d set in
       let w : WaitingReleases = d .waiting in
       let xs : List ℕ = d .jobs .release in
-      let at-release : ℕ → ℕ = λ n. getD (stamped new (original w t) 0 xs) n 0 in
-      let at-waiting : ℕ → ℕ = λ n. getD (stamped late (λ k. t) 0 (w .times)) n 0 in
+      let at-release : ℕ → ℕ = λ n. getD (stamped taken-now (original w t) 0 xs) n 0 in
+      let at-waiting : ℕ → ℕ = λ n. getD (stamped deferred-now (λ k. t) 0 (w .times)) n 0 in
       omega (
         arith,
-        count-threes 32 (λ n. member n (skipped d set) && hits test t n) (λ n. member n (union p new) && hits test (at-release n) n)
+        count-threes 32 (λ n. member n (skipped d set) && hits test t n) (λ n. member n (union p taken-now) && hits test (at-release n) n)
             (λ n. member n (waits-after d set) && hits test (at-waiting n) n)
             (λ n. member n p && hits test (getD xs n 0) n) (λ n. member n (w .tasks) && hits test (getD (w .times) n 0) n) (λ n. member n set && hits test t n)
             (λ n l.
             rw (
               skipped-member d set n l,
               waits-member d set n l,
-              stamped-at new (original w t) xs n l (long .release),
-              stamped-at late (λ k. t) (w .times) n l (long .times),
-              united p new n l,
+              stamped-at taken-now (original w t) xs n l (long .release),
+              stamped-at deferred-now (λ k. t) (w .times) n l (long .times),
+              united p taken-now n l,
               taken-member d set n l,
               deferred-member d set n l,
             ) (parts (member n p) (member n (w .tasks)) (member n set) n (getD xs n 0) (getD (w .times) n 0))),
@@ -199,9 +199,9 @@ module _ (test : Release → Bool) where
       → among test (union (too-soon d t set) (skipped d (passing d t set))) (λ n. t) ≡ among test (too-soon d t set) (λ n. t) + among test (skipped d (passing d t set)) (λ n. t)
   unfolding among
   skipped-apart d t set =
-      let late : ℕ = skipped d (passing d t set) in
-      count-sum 32 (λ n. member n (union (too-soon d t set) late) && hits test t n) (λ n. member n (too-soon d t set) && hits test t n) (λ n. member n late && hits test t n)
-      (λ n l. rw (united (too-soon d t set) late n l, too-soon-member d t set n l, skipped-member d (passing d t set) n l, passing-member d t set n l)
+      let behind : ℕ = skipped d (passing d t set) in
+      count-sum 32 (λ n. member n (union (too-soon d t set) behind) && hits test t n) (λ n. member n (too-soon d t set) && hits test t n) (λ n. member n behind && hits test t n)
+      (λ n l. rw (united (too-soon d t set) behind n l, too-soon-member d t set n l, skipped-member d (passing d t set) n l, passing-member d t set n l)
       (go (member n (d .jobs .pending)) (member n (d .waiting .tasks)) (member n set) (soon-at d t n) (hits test t n)))
     where
       go : (p w s x h : Bool) → bit (((s && x) || is-skipped p w (s && not x)) && h) ≡ bit ((s && x) && h) + bit (is-skipped p w (s && not x) && h)

@@ -62,14 +62,14 @@ b-ends s t (Within i) e = go (over i) (s .closed) refl
     go false c x = unfold close-stage in omega (arith, same-span (s .closed), ap is-open e)
 
 -- c, d, e
-c-open : (d : State) (new : ℕ) (p : Phase) → is-open (with-candidates d new p) ≡ is-open p
+c-open : (d : State) (taken-now : ℕ) (p : Phase) → is-open (with-candidates d taken-now p) ≡ is-open p
 unfolding with-candidates
-c-open d new (Between next outgoing) = refl
-c-open d new (Within i) = refl
+c-open d taken-now (Between next outgoing) = refl
+c-open d taken-now (Within i) = refl
 
-d-open : (d : State) (new : ℕ) → is-open (step-d d new (d .phase) .phase) ≡ is-open (d .phase)
+d-open : (d : State) (taken-now : ℕ) → is-open (step-d d taken-now (d .phase) .phase) ≡ is-open (d .phase)
 unfolding cancel
-d-open d new = d-cases (λ x. is-open (x .phase) ≡ is-open (d .phase)) d new refl (λ i n u e s b. ap is-open (sym e))
+d-open d taken-now = d-cases (λ x. is-open (x .phase) ≡ is-open (d .phase)) d taken-now refl (λ i n u e s b. ap is-open (sym e))
 
 choose-open : (d : State) (t : ℕ) (i : Interval) (q : MaybeTask) → is-open (choose d t i q .phase) ≡ 1
 unfolding choose
@@ -103,10 +103,10 @@ module _ (d : State) (t set : ℕ) where
   unfolding at-e
   to-e =
       let b : State = at-b d t .state in
-      let new : ℕ = taken-at d t set in
-      let c : State = step-c b t new (deferred-at d t set) in
-      let x : State = step-d c new (c .phase) in
-      e-open x t ∙ d-open c new ∙ (unfold step-c in c-open b new (b .phase))
+      let taken-now : ℕ = taken-at d t set in
+      let c : State = step-c b t taken-now (deferred-at d t set) in
+      let x : State = step-d c taken-now (c .phase) in
+      e-open x t ∙ d-open c taken-now ∙ (unfold step-c in c-open b taken-now (b .phase))
 
   pub ends-paid : is-interval (occurred d t set .closed) + is-open (at-g d t set .phase)
       ≤ is-open (d .phase) + total is-begin (begin-events t (at-f d t set .state .phase) (at-g d t set .phase))

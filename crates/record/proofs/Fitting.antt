@@ -216,24 +216,24 @@ module _ (t : ℕ) (now : TimeFits t) where
   c-original : (w : WaitingReleases) → ReleasesFit (w .times) → (k : ℕ) → original w t k < 256 ^ 8
   c-original w h k = by-test (member k (w .tasks)) (λ e. rw e (h k)) (λ e. rw e now)
 
-  c-phase : (d : State) (new : ℕ) (p : Phase) → PhaseFits p → PhaseFits (with-candidates d new p)
+  c-phase : (d : State) (taken-now : ℕ) (p : Phase) → PhaseFits p → PhaseFits (with-candidates d taken-now p)
   unfolding with-candidates
-  c-phase d new (Between next outgoing) h = h
-  c-phase d new (Within i) h = h
+  c-phase d taken-now (Between next outgoing) h = h
+  c-phase d taken-now (Within i) h = h
 
-  c-fits : (d : State) (new late : ℕ) → StateFits d → StateFits (step-c d t new late)
+  c-fits : (d : State) (taken-now deferred-now : ℕ) → StateFits d → StateFits (step-c d t taken-now deferred-now)
   unfolding step-c
-  c-fits d new late h = record {
-    releases = c-releases new (original (d .waiting) t) (c-original (d .waiting) (h .waits)) 0 (d .jobs .release) (h .releases);
-    waits = c-releases late (λ k. t) (λ k. now) 0 (d .waiting .times) (h .waits);
-    phase = c-phase d new (d .phase) (h .phase);
+  c-fits d taken-now deferred-now h = record {
+    releases = c-releases taken-now (original (d .waiting) t) (c-original (d .waiting) (h .waits)) 0 (d .jobs .release) (h .releases);
+    waits = c-releases deferred-now (λ k. t) (λ k. now) 0 (d .waiting .times) (h .waits);
+    phase = c-phase d taken-now (d .phase) (h .phase);
   }
 
   -- d: the job whose copy-in gives way stays the one chosen
-  d-fits : (d : State) (new : ℕ) → StateFits d → StateFits (step-d d new (d .phase))
+  d-fits : (d : State) (taken-now : ℕ) → StateFits d → StateFits (step-d d taken-now (d .phase))
   unfolding cancel
-  d-fits d new h =
-      d-cases StateFits d new h
+  d-fits d taken-now h =
+      d-cases StateFits d taken-now h
       (λ i n u e s b.
       let f : PhaseFits (Within i) = subst PhaseFits e (h .phase) in
       record { releases = h .releases; waits = h .waits; phase = (f .0, f .1, f .2, ⊎-elim (λ x. subst CopyInFits (x .1) (f .3)) (λ x. subst CopyInFits x (f .3)) s) })
@@ -258,16 +258,16 @@ module _ (t : ℕ) (now : TimeFits t) where
   g-copyout table NoneOutgoing h = tt
   g-copyout table (AwaitsCopyOut n start) h = h
 
-  g-begin : (d : State) (new : ℕ) (next : Next) (outgoing : Outgoing) → StateFits d → PhaseFits (Between next outgoing)
-      → StateFits (begin d t new next outgoing)
+  g-begin : (d : State) (taken-now : ℕ) (next : Next) (outgoing : Outgoing) → StateFits d → PhaseFits (Between next outgoing)
+      → StateFits (begin d t taken-now next outgoing)
   unfolding begin
-  g-begin d new next outgoing h f =
+  g-begin d taken-now next outgoing h f =
       record { releases = h .releases; waits = h .waits; phase = (now, g-processor (d .table) next (f .0), g-copyout (d .table) outgoing (f .1), unfold TaskFits in tt) }
 
-  g-fits : (d : State) (new : ℕ) → StateFits d → StateFits (step-g d t new (d .phase))
-  g-fits d new h =
-      g-cases StateFits d t new (λ i e. h) (λ next outgoing e w. h)
-      (λ next outgoing e w. e-fits (begin d t new next outgoing) (g-begin d new next outgoing h (subst PhaseFits e (h .phase))))
+  g-fits : (d : State) (taken-now : ℕ) → StateFits d → StateFits (step-g d t taken-now (d .phase))
+  g-fits d taken-now h =
+      g-cases StateFits d t taken-now (λ i e. h) (λ next outgoing e w. h)
+      (λ next outgoing e w. e-fits (begin d t taken-now next outgoing) (g-begin d taken-now next outgoing h (subst PhaseFits e (h .phase))))
 
   -- ---- The instant
 
@@ -281,10 +281,10 @@ module _ (t : ℕ) (now : TimeFits t) where
     to-e : StateFits (at-e d t set)
     unfolding at-e
     to-e =
-        let new : ℕ = taken-at d t set in
-        let late : ℕ = deferred-at d t set in
-        let c : State = step-c (at-b d t .state) t new late in
-        e-fits (step-d c new (c .phase)) (d-fits c new (c-fits (at-b d t .state) new late (to-b .state)))
+        let taken-now : ℕ = taken-at d t set in
+        let deferred-now : ℕ = deferred-at d t set in
+        let c : State = step-c (at-b d t .state) t taken-now deferred-now in
+        e-fits (step-d c taken-now (c .phase)) (d-fits c taken-now (c-fits (at-b d t .state) taken-now deferred-now (to-b .state)))
 
     to-f : StageFits (at-f d t set)
     unfolding at-f

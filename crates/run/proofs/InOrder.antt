@@ -50,7 +50,7 @@ in-parts (Span e) z skips g =
     ap (λ (x : List RecordEntry). IntervalEnded e ∷ x) (sym (append-nil skips))
     ∙ ap (λ (w : Closed). IntervalEnded e ∷ (skips ++ span-entries w)) (sym (g e refl))
 
-module _ {soon new late held : ℕ} {timed a b x f g : State} (d : State) (t set : ℕ) (h : Left d t set soon new late held timed a b x f g) where
+module _ {soon taken-now deferred-now held : ℕ} {timed a b x f g : State} (d : State) (t set : ℕ) (h : Left d t set soon taken-now deferred-now held timed a b x f g) where
   in-order : (skips : ℕ) → skips ≡ union soon (skipped b (difference set soon))
       → entries t (occurred d t set)
       ≡ done-entries (step-a timed t (timed .phase) .done) ++ (span-entries (step-f a t .closed) ++ (skipped-entries 32 skips t ++ span-entries (step-e-f x t .closed)))
