@@ -2,7 +2,7 @@
 
 from sim.dispatcher import COPY_IN, COPY_OUT, EXECUTION, Dispatcher, members, number_of
 from sim.entries import Refused
-from tools.claims import listed, unlisted
+from tools.claims import Partial, listed, unlisted
 
 
 def maybe(number):
@@ -169,8 +169,24 @@ def after_calls(d, calls):
     return d.run.points[d.at + length(calls)]
 
 
+def row(call):
+    """What is asked of a call (rules/specs/Calls), but for the state that it leaves."""
+    kind, first, second = call
+    is_instant = kind == "Instant"
+    return {
+        "number": Partial((1, lambda d: refusal(at(d, listed([call]))))), "is-instant": is_instant, "time": first if is_instant else 0,
+        "hands": second if is_instant else 0, "names": 0 if is_instant else 1 << first, "mark": 0 if is_instant else second}
+
+
+def occurred_at(d, time, tasks):
+    """What occurs at an instant that is served."""
+    point = at(d, listed([("Instant", time, tasks)]))
+    return point.run.answers[point.at][1]
+
+
 # What the definitions over states give, of the points of a run.
 OF_RUNS = {
+    "row": (1, row), "serves": (2, lambda d, call: call[0] == "Instant" and refusal(at(d, listed([call]))) == 0), "occurred": (3, occurred_at),
     "history": (2, history), "after-calls": (2, after_calls),
     "after-call": (2, lambda d, call: after_calls(d, listed([call]))),
     "by-call": (2, lambda d, call: history(d, listed([call]))),

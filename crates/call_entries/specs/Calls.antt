@@ -1,13 +1,13 @@
 -- Call entries, answered: the dispatcher after the call, and the call's lines.
 use mathlib.Core.Path.{_≡_}
 use Prim.Native.Nat.{_≤_}
-use Rattle.rules.specs.Calls.{refusal, instant, mark-refusal, mark, after-call}
+use Rattle.rules.specs.Calls.{refusal, instant, mark-refusal, mark}
 use Rattle.lines.specs.Lines.{instant-lines, mark-lines, cut-short-line}
 use Rattle.lines.specs.Text.{text-of}
 use Rattle.lines.specs.declared.Text.{Text}
 use Rattle.dispatcher.specs.Dispatcher.{state-of}
 use Rattle.dispatcher.specs.declared.Dispatcher.{Dispatcher}
-use Rattle.call_entries.specs.Types.{State, Instant, Mark, CallEntry, CutShort, OtherKind, InstantCall, MarkCall, Answered}
+use Rattle.call_entries.specs.Types.{State, CallEntry, CutShort, OtherKind, InstantCall, MarkCall, Answered}
 
 pub record Reply : Type 0 where
   pub state : State
@@ -17,8 +17,8 @@ pub record Reply : Type 0 where
 abbrev pub answered : State → CallEntry → Reply
 answered d CutShort = record { state = d; text = text-of cut-short-line }
 answered d OtherKind = record { state = d; text = text-of cut-short-line }
-answered d (InstantCall t set) = record { state = after-call d (Instant t set); text = text-of (instant-lines (instant d t set .answer)) }
-answered d (MarkCall n m) = record { state = after-call d (Mark n m); text = text-of (mark-lines (mark d n m .answer)) }
+answered d (InstantCall t set) = record { state = instant d t set .state; text = text-of (instant-lines (instant d t set .answer)) }
+answered d (MarkCall n m) = record { state = mark d n m .state; text = text-of (mark-lines (mark d n m .answer)) }
 
 -- what is handed back, read as the rules have it
 abbrev pub reply-of : Answered → Reply

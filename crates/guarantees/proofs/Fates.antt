@@ -14,7 +14,7 @@ use Rattle.guarantees.specs.History.{Event, Takes, Defers, happens, by-c
 use Rattle.guarantees.specs.Queries.{after, first, taking, waiting, last-released}
 use Rattle.guarantees.specs.Releases.{Fates, no-release, fates-by, fates, Balance, Sooner, FindsWaiting, Placed}
 use Rattle.guarantees.specs.Entries.{answer-of, all-occurred, handed-in, skips}
-use Rattle.guarantees.proofs.Walk.{each-call, served, refused, refused-answer}
+use Rattle.guarantees.proofs.Walk.{with-marks, each-call, served, refused-answer}
 use Rattle.guarantees.proofs.Events.{by-front, by-takes, by-defers, front-of, tail-of, happens-parts, tail-parts}
 use Rattle.guarantees.proofs.Frames.{table-b, waiting-b}
 use Rattle.guarantees.proofs.Releases.{is-taken, is-deferred, is-skipped, is-waiting, taken-member, deferred-member, waits-member, taken-from, soon-at, passing-member, passing-from, passed, skipped-at-member, waits-g}
@@ -166,26 +166,24 @@ module _ (n : ℕ) (small : n < 32) where
 
   -- ---- along the calls
 
-  -- what an instant answers
-  told-of : (d : State) (t set : ℕ) → answer-of d (Instant t set) ≡ cond (eqb (refusal d t set) 0) (occurred d t set ∷ []) []
-  unfolding answer-of instant served-step
-  told-of d t set = by-test (eqb (refusal d t set) 0) (λ e. rw (instant, e)) (λ e. rw (instant, e))
-
-  mark-waits : (d : State) (k m : ℕ) → after-call d (Mark k m) .waiting ≡ d .waiting
-  mark-waits d k m =
-      ⊎-elim (λ s. absurd (let x : Mark k m ≡ Instant (s .time) (s .set) = s .is in let z : _≡_ {A = ℕ} 0 1 = cc in omega arith))
-      (λ q. ap (λ (x : State). x .waiting) (q .leaves)) (each-call d (Mark k m))
-
   balance : (cs : List Call) (d : State) (x : Fates) → x .waits ≡ member n (d .waiting .tasks) → Goes x (F x (history d cs)) (handed-in n d cs) (skips n (all-occurred d cs))
   unfolding handed-in history all-occurred skips by-call answer-of
   balance [] d x a = unfold after in record { handed-is = refl; waiting-is = refl }
-  balance (Instant t set ∷ cs) d x a =
-      by-test (eqb (refusal d t set) 0)
-      (λ e. rw (told-of d t set, e, served d t set e, happens-fates d t set x (history (at-g d t set) cs))
-      (goes-on x (made d t set x) (F (made d t set x) (history (at-g d t set) cs)) _ _ _ _ (instant-goes d t set x a)
-      (balance cs (at-g d t set) (made d t set x) (instant-waits d t set x a))))
-      (λ e. rw (told-of d t set, e, refused d t set e, zero-add) (balance cs d x a))
-  balance (Mark k m ∷ cs) d x a = balance cs (after-call d (Mark k m)) x (a ∙ ap (λ (w : WaitingReleases). member n (w .tasks)) (sym (mark-waits d k m)))
+  balance (c ∷ cs) d x a =
+      ⊎-elim
+      (λ s. subst (λ (c : Call). Goes x (F x (history d (c ∷ cs))) (handed-in n d (c ∷ cs)) (skips n (all-occurred d (c ∷ cs)))) (sym (s .is))
+      (at-instant (s .time) (s .set) (s .no-row) (λ g y b. balance cs g y b)))
+      (λ q. rw (q .unserved, q .leaves, zero-add) (balance cs (with-marks d (q .marks)) x a))
+      (each-call d c)
+    where
+      at-instant : (t set : ℕ) → eqb (refusal d t set) 0 ≡ true
+          → ((g : State) (y : Fates) → y .waits ≡ member n (g .waiting .tasks) → Goes y (F y (history g cs)) (handed-in n g cs) (skips n (all-occurred g cs)))
+          → let i : Call = Instant t set in
+          Goes x (F x (history d (i ∷ cs))) (handed-in n d (i ∷ cs)) (skips n (all-occurred d (i ∷ cs)))
+      at-instant t set e on =
+          rw (e, served d t set e, happens-fates d t set x (history (at-g d t set) cs))
+          (goes-on x (made d t set x) (F (made d t set x) (history (at-g d t set) cs)) _ _ _ _ (instant-goes d t set x a)
+          (on (at-g d t set) (made d t set x) (instant-waits d t set x a)))
 
   pub balanced : (d : State) (cs : List Call) → member n (d .waiting .tasks) ≡ false → Balance n (handed-in n d cs) (skips n (all-occurred d cs)) (history d cs)
   balanced d cs e =

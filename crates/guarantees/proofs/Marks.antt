@@ -5,14 +5,14 @@ use native.Mathlib.Omega.{arith}
 use borrow.Author.Tests.{eqb-true}
 use lib.Dec.{eqb, ltb}
 use Rattle.sets.specs.Sets.{member, union, insert, remove}
-use Rattle.sets.proofs.Laws.{by-test, united, inserted, removed}
+use Rattle.sets.proofs.Laws.{by-test, none, united, inserted, removed}
 use Rattle.rules.specs.Instant.{at-g, taken-at, deferred-at}
-use Rattle.rules.specs.Calls.{refusal, mark-refusal, after-call}
+use Rattle.rules.specs.Calls.{refusal, mark-refusal, row, after-call}
 use Rattle.guarantees.specs.History.{Event, Comes, Starts, Stops, Finishes, Completes, Ends, Takes, Defers, GivesWay, Begins, happens, by-call, after-calls, take-events}
 use Rattle.guarantees.specs.Queries.{details, is-task, takes}
 use Rattle.guarantees.specs.Entries.{marked-by}
 use Rattle.guarantees.proofs.Proper.{none-passed}
-use Rattle.guarantees.proofs.Walk.{served, refused, mark-served, mark-refused}
+use Rattle.guarantees.proofs.Walk.{call-served, call-refused}
 use Rattle.guarantees.proofs.Events.{by-front, by-takes, by-defers, tail-of, happens-parts, tail-parts}
 use Rattle.guarantees.proofs.Frames.{marked-g}
 use Rattle.guarantees.proofs.Deferred.{by-rest}
@@ -73,33 +73,38 @@ module _ (n : ℕ) (small : n < 32) where
       off true b = refl
       off false b = refl
 
-  mark-member : (d : State) (k m : ℕ) → member n (after-call d (Mark k m) .marked) ≡ cond (eqb n k && eqb (mark-refusal d k m) 0) (eqb m 1) (member n (d .marked))
-  mark-member d k m =
-      by-test (eqb (mark-refusal d k m) 0)
-      (λ e. ap (λ (x : State). member n (x .marked)) (mark-served d k m e) ∙ with-mark-member k m (d .marked) ∙ rw e (both (eqb n k)))
-      (λ e. ap (λ (x : State). member n (x .marked)) (mark-refused d k m e) ∙ rw e (neither (eqb n k)))
+  -- the marks after a call, by the tasks that it names
+  leaves-member : (c : Call) (d : State) → member n (row c .leaves d .marked) ≡ cond (member n (row c .names)) (eqb (row c .mark) 1) (member n (d .marked))
+  leaves-member (Instant t set) d = rw (none n) (ap (member n) (marked-g d t set))
+  leaves-member (Mark k m) d =
+      let alone-is : member n (insert k 0) ≡ eqb n k = inserted k 0 n small ∙ rw (none n) (alone (eqb n k)) in
+      with-mark-member k m (d .marked) ∙ ap (λ (b : Bool). cond b (eqb m 1) (member n (d .marked))) (sym alone-is)
     where
-      both : (a : Bool) → cond a (eqb m 1) (member n (d .marked)) ≡ cond (a && true) (eqb m 1) (member n (d .marked))
+      alone : (b : Bool) → (b || false) ≡ b
+      alone true = refl
+      alone false = refl
+
+  call-member : (c : Call) (d : State)
+      → member n (after-call d c .marked) ≡ cond (member n (row c .names) && eqb (row c .number d) 0) (eqb (row c .mark) 1) (member n (d .marked))
+  call-member c d =
+      by-test (eqb (row c .number d) 0)
+      (λ e. ap (λ (x : State). member n (x .marked)) (call-served d c e) ∙ leaves-member c d ∙ rw e (both (member n (row c .names))))
+      (λ e. ap (λ (x : State). member n (x .marked)) (call-refused d c e) ∙ rw e (neither (member n (row c .names))))
+    where
+      both : (a : Bool) → cond a (eqb (row c .mark) 1) (member n (d .marked)) ≡ cond (a && true) (eqb (row c .mark) 1) (member n (d .marked))
       both true = refl
       both false = refl
 
-      neither : (a : Bool) → member n (d .marked) ≡ cond (a && false) (eqb m 1) (member n (d .marked))
+      neither : (a : Bool) → member n (d .marked) ≡ cond (a && false) (eqb (row c .mark) 1) (member n (d .marked))
       neither true = refl
       neither false = refl
-
-  instant-member : (d : State) (t set : ℕ) → member n (after-call d (Instant t set) .marked) ≡ member n (d .marked)
-  instant-member d t set =
-      by-test (eqb (refusal d t set) 0)
-      (λ e. ap (λ (x : State). member n (x .marked)) (served d t set e) ∙ ap (member n) (marked-g d t set))
-      (λ e. ap (λ (x : State). member n (x .marked)) (refused d t set e))
 
   marks-along : (cs : List Call) (d : State) (b : Bool) → member n (d .marked) ≡ b → member n (after-calls d cs .marked) ≡ marked-by n b d cs
   unfolding after-calls marked-by
   marks-along [] d b e = e
-  marks-along (Instant t set ∷ cs) d b e = marks-along cs (after-call d (Instant t set)) b (instant-member d t set ∙ e)
-  marks-along (Mark k m ∷ cs) d b e =
-      marks-along cs (after-call d (Mark k m)) (cond (eqb n k && eqb (mark-refusal d k m) 0) (eqb m 1) b)
-      (mark-member d k m ∙ ap (λ (c : Bool). cond (eqb n k && eqb (mark-refusal d k m) 0) (eqb m 1) c) e)
+  marks-along (c ∷ cs) d b e =
+      let by : Bool → Bool = λ b. cond (member n (row c .names) && eqb (row c .number d) 0) (eqb (row c .mark) 1) b in
+      marks-along cs (after-call d c) (by b) (call-member c d ∙ ap by e)
 
 pub taken-marked : (d : State) (cs : List Call) (t set n u : ℕ) (m : Bool) (xs ys : List Event) → eqb n n ≡ true
     → by-call (after-calls d cs) (Instant t set) ≡ xs ++ (Takes n u m ∷ ys) → m ≡ marked-by n (member n (d .marked)) d cs

@@ -6,27 +6,29 @@ use lib.Dec.{eqb, ltb}
 use Rattle.sets.specs.Sets.{member, union, insert, remove}
 use Rattle.sets.proofs.Laws.{by-test, insert-out, remove-out}
 use Rattle.rules.specs.Instant.{at-g, occurred}
-use Rattle.rules.specs.Calls.{refusal, instant as instant-step, served as served-step, mark-refusal, with-mark, mark as mark-step, after-call}
+use Rattle.rules.specs.Calls.{refusal, instant as instant-step, mark-refusal, with-mark, row, serves, after-call}
 use Rattle.guarantees.proofs.Steps.{Sub}
 use Rattle.guarantees.specs.History.{Event, happens, by-call, after-calls, history}
-use Rattle.guarantees.specs.Entries.{occurrence-of, answer-of, all-occurred}
+use Rattle.guarantees.specs.Entries.{answer-of, all-occurred}
 
--- ---- the state after an instant, served or refused
+-- ---- the state after a call, served or refused
 
+module _ (d : State) (c : Call) where
+  pub call-served : eqb (row c .number d) 0 ≡ true → after-call d c ≡ row c .leaves d
+  unfolding after-call
+  call-served e = rw (after-call, e)
+
+  pub call-refused : eqb (row c .number d) 0 ≡ false → after-call d c ≡ d
+  unfolding after-call
+  call-refused e = rw (after-call, e)
+
+-- of an instant, and what it answers
 module _ (d : State) (t set : ℕ) where
   pub served : eqb (refusal d t set) 0 ≡ true → after-call d (Instant t set) ≡ at-g d t set
-  unfolding after-call instant-step served-step
-  served e = rw (after-call, instant-step, e)
+  served = call-served d (Instant t set)
 
   pub refused : eqb (refusal d t set) 0 ≡ false → after-call d (Instant t set) ≡ d
-  unfolding after-call instant-step
-  refused e = rw (after-call, instant-step, e)
-
--- and what it answers
-module _ (d : State) (t set : ℕ) where
-  served-answer : eqb (refusal d t set) 0 ≡ true → instant-step d t set .answer ≡ Served (occurred d t set)
-  unfolding instant-step served-step
-  served-answer e = rw (instant-step, e)
+  refused = call-refused d (Instant t set)
 
   pub refused-answer : eqb (refusal d t set) 0 ≡ false → instant-step d t set .answer ≡ Refused (refusal d t set)
   unfolding instant-step
@@ -47,8 +49,7 @@ pub record Quiet (d : State) (c : Call) : Type 0 where
   pub marks : ℕ
   pub known : MarksKnown d marks
   pub leaves : after-call d c ≡ with-marks d marks
-  pub silent : by-call d c ≡ []
-  pub untold : answer-of d c ≡ []
+  pub unserved : serves d c ≡ false
 
 -- an instant that is served
 pub record Serves (d : State) (c : Call) : Type 0 where
@@ -58,18 +59,10 @@ pub record Serves (d : State) (c : Call) : Type 0 where
   pub no-row : eqb (refusal d time set) 0 ≡ true
 
 -- a call that leaves the marks too
-same : (d : State) (c : Call) → after-call d c ≡ d → by-call d c ≡ [] → answer-of d c ≡ [] → Quiet d c
-same d c e f u = record { marks = d .marked; known = λ h. h; leaves = e; silent = f; untold = u }
+same : (d : State) (c : Call) → after-call d c ≡ d → serves d c ≡ false → Quiet d c
+same d c e f = record { marks = d .marked; known = λ h. h; leaves = e; unserved = f }
 
 module _ (d : State) (n m : ℕ) where
-  pub mark-served : eqb (mark-refusal d n m) 0 ≡ true → after-call d (Mark n m) ≡ with-mark d n m
-  unfolding after-call mark-step
-  mark-served e = rw (after-call, mark-step, e)
-
-  pub mark-refused : eqb (mark-refusal d n m) 0 ≡ false → after-call d (Mark n m) ≡ d
-  unfolding after-call mark-step
-  mark-refused e = rw (after-call, mark-step, e)
-
   -- a mark call that is served names a task of the table
   mark-known : eqb (mark-refusal d n m) 0 ≡ true → member n (d .table .present) ≡ true
   unfolding mark-refusal
@@ -85,15 +78,14 @@ module _ (d : State) (n m : ℕ) where
   marks-known false e h k l x = h k l (remove-out n (d .marked) k x)
 
 pub each-call : (d : State) (c : Call) → Serves d c ⊎ Quiet d c
-unfolding by-call answer-of
 each-call d (Instant t set) =
     by-test (eqb (refusal d t set) 0)
     (λ e. inl (record { time = t; set = set; is = refl; no-row = e }))
-    (λ e. inr (same d (Instant t set) (refused d t set e) (rw e) (ap occurrence-of (refused-answer d t set e))))
+    (λ e. inr (same d (Instant t set) (refused d t set e) e))
 each-call d (Mark n m) =
     by-test (eqb (mark-refusal d n m) 0)
-    (λ e. inr (record { marks = with-mark d n m .marked; known = marks-known d n m (eqb m 1) (mark-known d n m e); leaves = mark-served d n m e; silent = refl; untold = refl }))
-    (λ e. inr (same d (Mark n m) (mark-refused d n m e) refl refl))
+    (λ e. inr (record { marks = with-mark d n m .marked; known = marks-known d n m (eqb m 1) (mark-known d n m e); leaves = call-served d (Mark n m) e; unserved = refl }))
+    (λ e. inr (same d (Mark n m) (call-refused d (Mark n m) e) refl))
 
 -- ---- a property of a state, of what occurs by calls from it, and of the state that they leave
 
@@ -109,9 +101,10 @@ module _ (P : State → List Event → State → Type 0)
 
   at-quiet : (d : State) (c : Call) (cs : List Call) → Quiet d c → ((g : State) → P g (history g cs) (after-calls g cs))
       → let g : State = after-call d c in P d (by-call d c ++ history g cs) (after-calls g cs)
+  unfolding by-call
   at-quiet d c cs q k =
       let g : State = with-marks d (q .marks) in
-      rw (q .silent, q .leaves) (quiet d (q .marks) (q .known) (history g cs) (after-calls g cs) (k g))
+      rw (q .unserved, q .leaves) (quiet d (q .marks) (q .known) (history g cs) (after-calls g cs) (k g))
 
   pub walk-to : (cs : List Call) (d : State) → P d (history d cs) (after-calls d cs)
   unfolding history after-calls
@@ -148,12 +141,13 @@ module _ (P : State → List Occurred → List Event → Type 0)
   told-served : (d : State) (t set : ℕ) (cs : List Call) → eqb (refusal d t set) 0 ≡ true → ((g : State) → P g (all-occurred g cs) (history g cs))
       → let g : State = after-call d (Instant t set) in P d (answer-of d (Instant t set) ++ all-occurred g cs) (by-call d (Instant t set) ++ history g cs)
   unfolding by-call answer-of
-  told-served d t set cs e k = rw (e, served d t set e, served-answer d t set e) (more d t set cs e (k (at-g d t set)))
+  told-served d t set cs e k = rw (e, served d t set e) (more d t set cs e (k (at-g d t set)))
 
   told-quiet : (d : State) (c : Call) (cs : List Call) → Quiet d c → ((g : State) → P g (all-occurred g cs) (history g cs))
       → let g : State = after-call d c in P d (answer-of d c ++ all-occurred g cs) (by-call d c ++ history g cs)
+  unfolding by-call answer-of
   told-quiet d c cs q k =
-      let g : State = with-marks d (q .marks) in rw (q .silent, q .untold, q .leaves) (quiet d (q .marks) (all-occurred g cs) (history g cs) (k g))
+      let g : State = with-marks d (q .marks) in rw (q .unserved, q .leaves) (quiet d (q .marks) (all-occurred g cs) (history g cs) (k g))
 
   pub walk-told : (cs : List Call) (d : State) → P d (all-occurred d cs) (history d cs)
   unfolding all-occurred history

@@ -5,7 +5,8 @@ use Rattle.guarantees.specs.Types.{_≡_, Bool, false, cond, _&&_, List,
 use lib.Dec.{eqb, ltb}
 use lib.ListN.{getD}
 use Rattle.sets.specs.Sets.{member, bit}
-use Rattle.rules.specs.Calls.{refusal, mark-refusal, instant, after-call}
+use Rattle.rules.specs.Instant.{occurred}
+use Rattle.rules.specs.Calls.{mark-refusal, instant, row, serves, after-call}
 use Rattle.guarantees.specs.History.{Event, Takes, by-call, history, after-calls}
 use Rattle.guarantees.specs.Queries.{details, completes, each, NoneOpen, situation, waiting, original, intervals, taking, start, waited}
 use Rattle.guarantees.specs.Releases.{Balance, Placed}
@@ -14,13 +15,8 @@ use Rattle.guarantees.specs.Intervals.{no-course, ended}
 -- ---- What calls answer
 
 -- what occurred, of an instant that is served
-abbrev pub occurrence-of : Answer → List Occurred
-occurrence-of (Refused r) = []
-occurrence-of (Served o) = o ∷ []
-
 unfoldable pub answer-of : State → Call → List Occurred
-answer-of d (Instant t set) = occurrence-of (instant d t set .answer)
-answer-of d (Mark n m) = []
+answer-of d c = cond (serves d c) (occurred d (row c .time) (row c .hands) ∷ []) []
 
 unfoldable pub all-occurred : State → List Call → List Occurred
 all-occurred d [] = []
@@ -32,8 +28,7 @@ module _ (n : ℕ) where
   -- of the calls, how many of the served instants hand one in
   unfoldable pub handed-in : State → List Call → ℕ
   handed-in d [] = 0
-  handed-in d (Instant t set ∷ cs) = cond (eqb (refusal d t set) 0) (bit (member n set)) 0 + handed-in (after-call d (Instant t set)) cs
-  handed-in d (Mark k m ∷ cs) = handed-in (after-call d (Mark k m)) cs
+  handed-in d (c ∷ cs) = cond (serves d c) (bit (member n (row c .hands))) 0 + handed-in (after-call d c) cs
 
   -- and of what they answer, how many are skipped
   unfoldable pub skips : List Occurred → ℕ
@@ -43,8 +38,7 @@ module _ (n : ℕ) where
 -- whether it is marked after some calls, where it was or was not before them: by the last mark call on it that is served
 unfoldable pub marked-by : ℕ → Bool → State → List Call → Bool
 marked-by n b d [] = b
-marked-by n b d (Instant t set ∷ cs) = marked-by n b (after-call d (Instant t set)) cs
-marked-by n b d (Mark k m ∷ cs) = marked-by n (cond (eqb n k && eqb (mark-refusal d k m) 0) (eqb m 1) b) (after-call d (Mark k m)) cs
+marked-by n b d (c ∷ cs) = marked-by n (cond (member n (row c .names) && eqb (row c .number d) 0) (eqb (row c .mark) 1) b) (after-call d c) cs
 
 -- ---- A job done
 

@@ -4,7 +4,7 @@ use Rattle.guarantees.specs.Types.{_≡_, Bool, cond, List, [], _∷_, _
 use lib.Dec.{eqb}
 use Rattle.sets.specs.Sets.{member}
 use Rattle.rules.specs.Instant.{at-a, at-b, at-e, at-f, at-g, taken-at, deferred-at, due, processor-task, copyout-task}
-use Rattle.rules.specs.Calls.{refusal, after-call}
+use Rattle.rules.specs.Calls.{row, serves, after-call}
 
 pub data Event : Type 0 where
   Comes : ℕ → Event  -- an instant that is served, at a time
@@ -119,8 +119,7 @@ happens d t set =
 
 -- what occurs by a call
 unfoldable pub by-call : State → Call → List Event
-by-call d (Instant t set) = cond (eqb (refusal d t set) 0) (happens d t set) []
-by-call d (Mark n m) = []
+by-call d c = cond (serves d c) (happens d (row c .time) (row c .hands)) []
 
 -- each call gets the state that the call before it handed back
 unfoldable pub after-calls : State → List Call → State

@@ -1,18 +1,19 @@
 -- What is handed in and what must come of it: the rows of a table of examples, and what the definitions make of each.
+use mathlib.Core.Bool.{cond}
 use mathlib.Core.List.{List, [], _∷_, _++_}
 use Prim.Native.Nat.{ℕ}
 use lib.ListN.{replicate}
 use Rattle.sets.specs.Sets.{insert}
 use Rattle.rules.specs.Types.{Phase, Between, Within, State}
 use Rattle.rules.specs.With.{with-waiting}
-use Rattle.rules.specs.declared.Answer.{Answer}
-use Rattle.rules.specs.declared.Answer.the-variants.{Refused, Served}
 use Rattle.rules.specs.declared.Call.{Call}
-use Rattle.rules.specs.declared.Call.the-variants.{Instant, Mark}
-use Rattle.rules.specs.Calls.{Step, MarkStep, Opening, opening, instant, mark, after-call}
-use Rattle.rules.specs.Answers.{answer-number, due-values, mark-number}
-use Rattle.run.specs.Run.{Moment, record-bytes}
-use Rattle.record.specs.FileClaim.{served-moment}
+use Rattle.rules.specs.declared.Occurred.{Occurred}
+use Rattle.rules.specs.Instant.{occurred}
+use Rattle.rules.specs.Calls.{Opening, opening, row, serves, after-call}
+use Rattle.rules.specs.Answers.{due-values}
+use Rattle.guarantees.specs.History.{after-calls}
+use Rattle.run.specs.Run.{record-bytes}
+use Rattle.record.specs.FileClaim.{answers}
 use Rattle.record.specs.Writing.{Written, file, outcome-number, outcome-value}
 use Rattle.table.specs.Refusals.{refusal-number, refusal-place}
 use Rattle.waves.specs.Writing.{dumped}
@@ -43,29 +44,17 @@ pub record Row : Type 0 where
 
 -- ---- The definitions' answer
 
--- of an instant its number, and where it is served the set skipped and the next due time; its job and
--- its interval stand in the record's bytes
-abbrev pub in-short : Answer → List ℕ
-in-short (Refused n) = answer-number (Refused n) ∷ []
-in-short (Served o) = answer-number (Served o) ∷ o .skipped ∷ due-values (o .due)
+-- of a call its number, and of an instant that is served the set skipped and the next due time; its job and its interval stand in the
+-- record's bytes
+abbrev pub in-short : State → Call → List ℕ
+in-short d c =
+    let o : Occurred = occurred d (row c .time) (row c .hands) in row c .number d ∷ cond (serves d c) (o .skipped ∷ due-values (o .due)) []
 
 unfoldable pub called : State → List Call → List ℕ
 called d [] = []
-called d (Instant t set ∷ cs) = let s : Step = instant d t set in in-short (s .answer) ++ called (s .state) cs
-called d (Mark n m ∷ cs) = let s : MarkStep = mark d n m in mark-number (s .answer) ∷ called (s .state) cs
+called d (c ∷ cs) = in-short d c ++ called (after-call d c) cs
 
--- the record of the jobs done and the intervals closed by the calls
-unfoldable pub called-moments : State → List Call → List Moment
-called-moments d [] = []
-called-moments d (Instant t set ∷ cs) =
-    let s : Step = instant d t set in served-moment t (s .state) (s .answer) ++ called-moments (s .state) cs
-called-moments d (Mark n m ∷ cs) = called-moments (mark d n m .state) cs
-
--- the state that calls hand back, and one with a release of task n, at t, as the only one that waits
-unfoldable pub called-state : State → List Call → State
-called-state d [] = d
-called-state d (c ∷ cs) = called-state (after-call d c) cs
-
+-- a release of task n, at t, as the only one that waits
 unfoldable pub with-put : State → ℕ → ℕ → State
 with-put d n t = with-waiting d (record { tasks = insert n 0; times = replicate 32 t; before = d .waiting .before })
 
@@ -84,11 +73,11 @@ found (OfCalls s cs) =
     let o : Opening = opening s in
     record {
       numbers = refusal-number (o .refusal) ∷ refusal-place (o .refusal) ∷ called (o .state) cs;
-      memory = record-bytes (called-moments (o .state) cs);
+      memory = record-bytes (answers (o .state) cs);
     }
 found (OfPut s before n t cs) =
-    let d : State = with-put (called-state (opening s .state) before) n t in
-    record { numbers = called d cs ++ (candidates-in (called-state d cs .phase) ∷ []); memory = record-bytes (called-moments d cs) }
+    let d : State = with-put (after-calls (opening s .state) before) n t in
+    record { numbers = called d cs ++ (candidates-in (after-calls d cs .phase) ∷ []); memory = record-bytes (answers d cs) }
 
 unfoldable pub all-found : List Row → List Result
 all-found [] = []

@@ -1,7 +1,7 @@
 -- Every plan, every row on releases that wait, on desks of equal standing, on the figure of 7/13 and on spacings, every refusal, every
 -- random run and every waveform comes out of the definitions as it must.
 use mathlib.Core.Path.{_≡_, refl}
-use mathlib.Core.List.{_++_}
+use mathlib.Core.List.{List}
 use Rattle.words.specs.Words
 use Rattle.sets.specs.Sets
 use Rattle.entries.specs.Entries
@@ -14,12 +14,14 @@ use Rattle.rules.specs.Calls
 use Rattle.rules.specs.Entries as RuleEntries
 use Rattle.run.specs.Files
 use Rattle.run.specs.Run
+use Rattle.guarantees.specs.History
+use Rattle.record.specs.FileClaim
 use Rattle.record.specs.Writing
 use Rattle.lines.specs.Lines
 use Rattle.waves.specs.Dump
 use Rattle.waves.specs.Samples
 use Rattle.waves.specs.Writing as WaveWriting
-use Rattle.plans.specs.Rows.{all-found, all-expected}
+use Rattle.plans.specs.Rows.{Row, all-found, all-expected}
 use Rattle.plans.specs.Rows
 use Rattle.plans.specs.Plans.{plans}
 use Rattle.plans.specs.Plans
@@ -38,8 +40,8 @@ use Rattle.plans.specs.Runs
 use Rattle.plans.specs.Waveforms.{waveforms}
 use Rattle.plans.specs.Waveforms
 
-pub table : all-found (plans ++ (waiting ++ (equals ++ (sharp ++ (spacings ++ (spacing-refusals ++ (refusals ++ (runs ++ waveforms))))))))
-    ≡ all-expected (plans ++ (waiting ++ (equals ++ (sharp ++ (spacings ++ (spacing-refusals ++ (refusals ++ (runs ++ waveforms))))))))
+-- what the definitions compute with
+unfoldable computed : Unit {0}
 unfolding Words.bytesOf Words.numberAt Words.room Words.written Sets.member Sets.below Sets.collect Sets.union Sets.intersection
     Sets.difference Sets.insert Sets.remove Sets.lowestIn Sets.lowest Entries.task-at Entries.release-at Entries.spacing-at
     Entries.entry-at Entries.job-bytes Entries.choice-bytes Entries.interval-bytes Entries.skipped-bytes Head.outside Head.number-refused
@@ -52,10 +54,10 @@ unfolding Words.bytesOf Words.numberAt Words.room Words.written Sets.member Sets
     Instant.cancel Instant.cancel-by Instant.step-d Instant.choose Instant.choose-if Instant.step-e Instant.begin Instant.step-g
     Instant.sooner Instant.due Instant.at-a Instant.at-b Instant.taken-at Instant.deferred-at Instant.skipped-at Instant.steps-c-d
     Instant.steps-c-to-e Instant.at-e Instant.at-f Instant.at-g Instant.occurred Calls.opened Calls.opening Calls.unknown Calls.refusal
-    Calls.served Calls.instant Calls.mark-refusal Calls.mark Calls.after-call Files.rises Files.release-refusal Files.with-release
+    Calls.mark-refusal Calls.after-call Files.rises Files.release-refusal Files.with-release
     Files.releases-from Files.releases-of RuleEntries.skipped-entries RuleEntries.entries Run.released-from Run.released-after Run.run
-    Entries.each Run.record-entries Run.record-bytes Writing.written Run.moments-of Writing.file Rows.called Rows.called-moments
-    Rows.called-state Rows.with-put Rows.found Rows.all-found Rows.all-expected Rows.recorded Rows.refused Rows.answered
+    Entries.each Run.record-entries Run.record-bytes Writing.written Run.moments-of Writing.file Rows.called FileClaim.answers
+    History.after-calls Rows.with-put Rows.found Rows.all-found Rows.all-expected Rows.recorded Rows.refused Rows.answered
     Rows.answered-behind Plans.task Plans.spacing Plans.release Plans.tasks Plans.two-marked Plans.none Plans.interval Plans.job
     Plans.skipped Plans.record-A Plans.record-B Plans.record-C Plans.record-D Plans.record-E Plans.two-jobs Plans.record-F Plans.record-F′
     Plans.record-thrown-out Plans.record-higher-promoted Plans.record-higher-stays Plans.record-unmarked Plans.loaded-stays
@@ -72,4 +74,69 @@ unfolding Words.bytesOf Words.numberAt Words.room Words.written Sets.member Sets
     Sharp.sharp Runs.runs Lines.digits Lines.decimal Dump.ascii Dump.line Dump.header Dump.wires Dump.wire Dump.all Dump.changed Dump.mark
     Dump.change Dump.changes Dump.dump Samples.samples Samples.samples-of WaveWriting.dumped Rows.drawn Rows.not-drawn Waveforms.lines
     Waveforms.header Waveforms.dump-until Waveforms.dump-A Waveforms.dump-B Waveforms.dump-G Waveforms.waveforms
-table = refl
+computed = tt
+
+-- of some rows, what the definitions find is what must come
+abbrev pub ComeOut : List Row → Type 0
+ComeOut rows = all-found rows ≡ all-expected rows
+
+plans-come : ComeOut plans
+unfolding computed
+plans-come = refl
+
+waiting-come : ComeOut waiting
+unfolding computed
+waiting-come = refl
+
+equals-come : ComeOut equals
+unfolding computed
+equals-come = refl
+
+sharp-come : ComeOut sharp
+unfolding computed
+sharp-come = refl
+
+spacings-come : ComeOut spacings
+unfolding computed
+spacings-come = refl
+
+spacing-refusals-come : ComeOut spacing-refusals
+unfolding computed
+spacing-refusals-come = refl
+
+refusals-come : ComeOut refusals
+unfolding computed
+refusals-come = refl
+
+runs-come : ComeOut runs
+unfolding computed
+runs-come = refl
+
+waveforms-come : ComeOut waveforms
+unfolding computed
+waveforms-come = refl
+
+-- the table, part by part
+pub record EveryRow : Type 0 where
+  pub plans-out : ComeOut plans
+  pub waiting-out : ComeOut waiting
+  pub equals-out : ComeOut equals
+  pub sharp-out : ComeOut sharp
+  pub spacings-out : ComeOut spacings
+  pub spacing-refusals-out : ComeOut spacing-refusals
+  pub refusals-out : ComeOut refusals
+  pub runs-out : ComeOut runs
+  pub waveforms-out : ComeOut waveforms
+
+pub table : EveryRow
+table = record {
+  plans-out = plans-come;
+  waiting-out = waiting-come;
+  equals-out = equals-come;
+  sharp-out = sharp-come;
+  spacings-out = spacings-come;
+  spacing-refusals-out = spacing-refusals-come;
+  refusals-out = refusals-come;
+  runs-out = runs-come;
+  waveforms-out = waveforms-come;
+}

@@ -14,7 +14,7 @@ use Rattle.rules.specs.With.{at-clock}
 use Rattle.rules.specs.Order.{highest-of}
 use Rattle.rules.specs.Instant.{completed, after-done, without-done, step-a, close, step-b, too-soon, passing, taken, deferred, skipped, original, stamped, step-c, cancel, step-d, choose, step-e, begin, step-g, fresh-stage, at-a, at-b, taken-at, deferred-at, skipped-at, at-e, at-f, at-g, occurred}
 use Rattle.rules.specs.Calls.{opened, after-call}
-use Rattle.guarantees.specs.Types.{_≡_, refl, sym, ap, _∙_, subst, Bool, true, false, cond, not, _&&_, _||_, List, [], _∷_, ℕ, _+_, _<_, Table, Jobs, WaitingReleases, MaybeTask, NoTask, Task, CopyOut, NoCopyOut, CopyingOut, CopiedOut, Interval, Phase, Between, Within, State, Done, Stage, Call, Instant, Step}
+use Rattle.guarantees.specs.Types.{_≡_, refl, sym, ap, _∙_, subst, Bool, true, false, cond, not, _&&_, _||_, List, [], _∷_, ℕ, _+_, _<_, Table, Jobs, WaitingReleases, MaybeTask, NoTask, Task, CopyOut, NoCopyOut, CopyingOut, CopiedOut, Interval, Phase, Between, Within, State, Done, Stage, Call, Instant}
 use mathlib.Core.List.{_++_}
 use Rattle.guarantees.specs.History.{after-calls}
 use Rattle.guarantees.specs.States.{copyout-known}
@@ -27,11 +27,11 @@ use Rattle.guarantees.proofs.Closings.{done-so}
 use Rattle.run.specs.Files.{Releases, releases-of}
 use Rattle.run.specs.Run.{Moment, moment, released-from, released-at, released-after, moments-of}
 use Rattle.run.proofs.Listing
-use Rattle.record.specs.FileClaim.{Feeds, served-moment, answers, Demand3Files}
+use Rattle.record.specs.FileClaim.{Feeds, answers, Demand3Files}
 use Rattle.record.proofs.Accepted.{Sorted, Accepted, accepted}
 use Rattle.record.proofs.Released.{Under, none-under, under-more}
 use Rattle.record.proofs.TasksAlone.{fair}
-use Rattle.record.proofs.Feeding.{Fit, state-is, step-is, fit-next}
+use Rattle.record.proofs.Feeding.{Fit, is-served, state-is, fit-next}
 use Rattle.record.proofs.FileClaim.{fit, fed-file, demand-3-files}
 use Rattle.reading.specs.Types.{Release}
 use Rattle.reading.proofs.RunAttested.{done-attested, skips-attested, moment-attested, run-attested, tally}
@@ -278,8 +278,7 @@ module _ (test : Release → Bool) where
         let last : after-calls d (c ∷ cs) ≡ after-calls g cs = ap (λ (x : State). after-calls x cs) state in
         let gives : answers d (c ∷ cs) ≡ m ∷ answers g cs =
         ap (λ (x : Call). answers d (x ∷ cs)) (feeds .2)
-        ∙ ap (λ (s : Step). served-moment t (s .state) (s .answer) ++ answers (after-call d (Instant t set)) cs) (step-is table marks fair d rs t fit (feeds .1))
-        ∙ ap (λ (x : State). m ∷ answers x cs) (state-is table marks fair d rs t fit (feeds .1)) in
+        ∙ rw (is-served table marks fair d rs t fit (feeds .1)) (ap (λ (x : State). m ∷ answers x cs) (state-is table marks fair d rs t fit (feeds .1))) in
         omega (
           arith,
           ap (λ (ms : List Moment). tally test (run-attested ms)) gives,

@@ -12,8 +12,8 @@ use Rattle.sets.specs.Sets.{member, difference, bit, size}
 use Rattle.sets.proofs.Laws.{by-test, clash, none, empty, difference-left, difference-right, difference-small, size-none}
 use Rattle.entries.specs.Limits as limits
 use Rattle.rules.specs.Instant.{due, sooner, at-g, occurred}
-use Rattle.rules.specs.Calls.{refusal, unknown, not-after, before-now, instant, served, after-call}
-use Rattle.guarantees.specs.Types.{Table, Clock, Unset, At, State, Due, Never, Tick, Served, Step, Call, Instant}
+use Rattle.rules.specs.Calls.{refusal, unknown, not-after, before-now, after-call}
+use Rattle.guarantees.specs.Types.{Table, Clock, Unset, At, State, Due, Never, Tick, Call, Instant}
 use Rattle.guarantees.specs.History.{Event, by-call, after-calls, history}
 use Rattle.guarantees.specs.Queries.{total, is-take, is-begin, is-completion}
 use Rattle.guarantees.specs.Entries.{handed-in}
@@ -27,7 +27,7 @@ use Rattle.guarantees.proofs.Completion.{due-times, not-late}
 use Rattle.guarantees.proofs.Totals.{begins-of, takes-of, completes-of}
 use Rattle.record.specs.Types.{Release}
 use Rattle.run.specs.Run.{Moment, moment, first-time, released-at, released-after, run}
-use Rattle.record.specs.FileClaim.{Feeds, served-moment, answers, AllServed, jobs-done, of-task}
+use Rattle.record.specs.FileClaim.{Feeds, answers, AllServed, jobs-done, of-task}
 use Rattle.record.proofs.Lengths.{intervals-ended, releases-skipped}
 use Rattle.record.specs.Cursor.{AllEarly}
 use Rattle.record.proofs.Accepted.{Sorted}
@@ -163,15 +163,11 @@ module _ (table : Table) (marks : ℕ) (fair : Fair table marks) where
         no-test 16 10 14 15 (not (eqb (difference set (d .table .present)) 0)) (not (eqb set 0) && ltb limits.last-release t) (not-after (d .clock) t) (before-now (due (d .phase)) t)
         (ap not none-unknown) none-late after-last (in-time .1)
 
-    is-served : eqb (refusal d t (released-at t rs)) 0 ≡ true
+    pub is-served : eqb (refusal d t (released-at t rs)) 0 ≡ true
     is-served = eq-eqb (refusal d t set) 0 no-row
 
     pub state-is : after-call d (Instant t (released-at t rs)) ≡ at-g d t (released-at t rs)
     state-is = Walk.served d t set is-served
-
-    pub step-is : instant d t (released-at t rs) ≡ record { state = at-g d t (released-at t rs); answer = Served (occurred d t (released-at t rs)) }
-    unfolding instant served
-    step-is = rw (is-served, instant)
 
     pub fit-next : Fit (at-g d t (released-at t rs)) (released-after t rs)
     fit-next = record {
@@ -205,11 +201,10 @@ module _ (table : Table) (marks : ℕ) (fair : Fair table marks) where
         record {
           calls = Instant t set ∷ h .calls;
           feeds = (t, next, refl, subst (λ (x : State). Feeds x rest (h .calls)) (sym state-is) (h .feeds));
-          all-served = (no-row, subst (λ (x : State). AllServed x (h .calls)) (sym state-is) (h .all-served));
+          all-served = (refl, no-row, subst (λ (x : State). AllServed x (h .calls)) (sym state-is) (h .all-served));
           early = (not-far, h .early);
           gives =
-              ap (λ (s : Step). served-moment t (s .state) (s .answer) ++ answers (after-call d (Instant t set)) (h .calls)) step-is
-              ∙ ap (λ (x : State). moment d t set ∷ answers x (h .calls)) state-is ∙ ap (λ (l : List Moment). moment d t set ∷ l) (h .gives);
+              rw is-served (ap (λ (x : State). moment d t set ∷ answers x (h .calls)) state-is ∙ ap (λ (l : List Moment). moment d t set ∷ l) (h .gives));
           within = omega (arith, h .within);
           rests = ap (λ (x : State). due (after-calls x (h .calls) .phase)) state-is ∙ h .rests;
           releases = rw (is-served, state-is) (omega (arith, takes-of d t set es, balance-g d t set, parts .sizes, size-none, h .releases, waits-on));

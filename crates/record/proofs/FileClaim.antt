@@ -5,24 +5,24 @@ use Prim.Native.Nat.{ℕ, _+_}
 use native.Mathlib.Omega.{arith}
 use lib.ListN.{length}
 use Rattle.sets.specs.Sets.{size}
-use Rattle.sets.proofs.Laws.{size-none}
+use Rattle.sets.proofs.Laws.{by-test, size-none}
 use Rattle.entries.specs.Limits as limits
 use Rattle.table.specs.Head.{head-of}
 use Rattle.rules.specs.Instant.{due, sooner}
-use Rattle.rules.specs.Calls.{opened, instant, after-call}
-use Rattle.guarantees.specs.Types.{State, Due, Never, Tick, Call, Instant, Mark, Answer, Refused, Served, Occurred}
+use Rattle.rules.specs.Calls.{opened, serves, after-call}
+use Rattle.guarantees.specs.Types.{State, Due, Never, Tick, Call, Instant, Occurred}
 use Rattle.guarantees.specs.History.{after-calls, history, EmptySets}
 use Rattle.guarantees.specs.Queries.{total, is-take}
 use Rattle.guarantees.specs.Claim.{AllCompleted}
 use Rattle.guarantees.specs.Releases.{Balance}
-use Rattle.guarantees.specs.Entries.{occurrence-of, answer-of, handed-in, skips, done, closed}
+use Rattle.guarantees.specs.Entries.{answer-of, handed-in, skips, done, closed}
 use Rattle.record.proofs.Lengths.{releases-skipped}
 use Rattle.guarantees.specs.Entries.{all-occurred}
 use Rattle.guarantees.proofs.Invariant.{mass, good-opened}
 use Rattle.record.specs.Types.{Release}
 use Rattle.run.specs.Files.{Releases, releases-of}
 use Rattle.run.specs.Run.{Moment, first-time, released-at, released-after, moments-of}
-use Rattle.record.specs.FileClaim.{Feeds, served-moment, answers, occurrences, FedClaim, Demand3Files}
+use Rattle.record.specs.FileClaim.{Feeds, answers, occurrences, FedClaim, Demand3Files}
 use Rattle.record.proofs.Accepted.{Accepted, accepted}
 use Rattle.record.proofs.TasksAlone.{opens, fair, claim}
 use Rattle.record.proofs.Feeding.{Fit, Fed, feeding}
@@ -54,18 +54,10 @@ one-feed (c ∷ cs) (e ∷ es) d rs h g =
 
 -- ---- what the moments have is what the calls answer
 
-occurrence : (t : ℕ) (d : State) (a : Answer) (ms : List Moment) → occurrences (served-moment t d a ++ ms) ≡ occurrence-of a ++ occurrences ms
-unfolding occurrences
-occurrence t d (Refused n) ms = refl
-occurrence t d (Served o) ms = refl
-
 pub as-answered : (cs : List Call) (d : State) → occurrences (answers d cs) ≡ all-occurred d cs
 unfolding answers occurrences all-occurred answer-of
 as-answered [] d = refl
-as-answered (Instant t set ∷ cs) d =
-    occurrence t (instant d t set .state) (instant d t set .answer) (answers (after-call d (Instant t set)) cs)
-    ∙ ap (λ (os : List Occurred). occurrence-of (instant d t set .answer) ++ os) (as-answered cs (after-call d (Instant t set)))
-as-answered (Mark n m ∷ cs) d = as-answered cs (after-call d (Mark n m))
+as-answered (c ∷ cs) d = by-test (serves d c) (λ e. rw (e, as-answered cs (after-call d c))) (λ e. rw (e, as-answered cs (after-call d c)))
 
 -- ---- the file's run
 

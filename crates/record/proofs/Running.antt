@@ -41,18 +41,18 @@ same a b e = cc
 
 module _ (d : State) (rs : List Release) (v : Fed d rs) (t : ℕ) (next : next-time d rs ≡ Tick t) where
   is-g : refusal d t (released-at t rs) ≡ 0 → after-call d (Instant t (released-at t rs)) ≡ at-g d t (released-at t rs)
-  unfolding after-call instant served
+  unfolding after-call
   is-g e = rw (e, after-call)
 
   one : (cs : List Call) → AllServed d (Instant t (released-at t rs) ∷ cs) → AllEarly cs → Feeds (after-call d (Instant t (released-at t rs))) (released-after t rs) cs
       → (refusal d t (released-at t rs) ≡ 0) × Fed (at-g d t (released-at t rs)) (released-after t rs)
   unfolding AllServed
   one cs g l f = (
-    g .0,
+    g .1,
     record {
       calls = cs;
-      feeds = subst (λ (q : State). Feeds q (released-after t rs) cs) (is-g (g .0)) f;
-      all-served = subst (λ (q : State). AllServed q cs) (is-g (g .0)) (g .1);
+      feeds = subst (λ (q : State). Feeds q (released-after t rs) cs) (is-g (g .1)) f;
+      all-served = subst (λ (q : State). AllServed q cs) (is-g (g .1)) (g .2);
       early = l;
     },
   )

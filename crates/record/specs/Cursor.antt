@@ -5,7 +5,7 @@ use Rattle.entries.specs.Entries.{size, laid}
 use Rattle.entries.specs.Limits as limits
 use Prim.Native.Nat.{_-_, _*_, _/_, _≤_}
 use Rattle.table.specs.Head.{head-of}
-use Rattle.rules.specs.Calls.{opened}
+use Rattle.rules.specs.Calls.{opened, row}
 use Rattle.rules.specs.declared.Call.{Call}
 use Rattle.rules.specs.declared.Call.the-variants.{Instant, Mark}
 use Rattle.record.specs.Types.{Bool, true, false, List, [], _∷_, ℕ, _+_, Head, NoRefusal, State, Piece}
@@ -31,8 +31,7 @@ start k = record { state = opened (k .table) (k .marked); at = k .end }
 -- no instant is late: none is at the last tick that a clock has
 unfoldable pub AllEarly : List Call → Type 0
 AllEarly [] = Unit {0}
-AllEarly (Instant t set ∷ cs) = (t ≤ limits.last-instant) × AllEarly cs
-AllEarly (Mark n m ∷ cs) = AllEarly cs
+AllEarly (c ∷ cs) = (row c .time ≤ limits.last-instant) × AllEarly cs
 
 -- no instant of a run is refused, and none is late
 pub record Served (s : List ℕ) (c : Cursor) : Type 0 where

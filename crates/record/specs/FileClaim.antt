@@ -3,13 +3,13 @@
 use mathlib.Core.Path.{_≡_}
 use Prim.Native.Nat.{_<_}
 use lib.ListN.{length, take}
-use Rattle.record.specs.Types.{List, [], _∷_, _++_, ℕ, _+_, Release, Head, NoRefusal, State, Done, NoJob, Job, Never, Tick, Occurred, Answer, Refused, Served, Step, Outcome}
+use Rattle.record.specs.Types.{true, cond, List, [], _∷_, _++_, ℕ, _+_, Release, Head, NoRefusal, State, Done, NoJob, Job, Never, Tick, Occurred, Answer, Refused, Served, Step, Outcome}
 use lib.Dec.{eqb}
 use Rattle.sets.specs.Sets.{bit}
 use Rattle.entries.specs.Limits as limits
 use Rattle.table.specs.Head.{head-of}
 use Rattle.rules.specs.Instant.{due, sooner}
-use Rattle.rules.specs.Calls.{opened, opening, refusal, instant, after-call}
+use Rattle.rules.specs.Calls.{opened, opening, row, serves, after-call}
 use Rattle.rules.specs.declared.Call.{Call}
 use Rattle.rules.specs.declared.Call.the-variants.{Instant, Mark}
 use Rattle.guarantees.specs.History.{after-calls, history}
@@ -19,7 +19,7 @@ use Rattle.guarantees.specs.Intervals.{no-course, ended}
 use Rattle.guarantees.specs.Entries.{skips, done, completions, closed}
 use Rattle.guarantees.specs.Claim.{Claim, AllCompleted}
 use Rattle.run.specs.Files.{Releases, releases-of}
-use Rattle.run.specs.Run.{Moment, first-time, released-at, released-after, moments-of}
+use Rattle.run.specs.Run.{Moment, moment, first-time, released-at, released-after, moments-of}
 use Rattle.record.specs.Writing.{WroteInNumbers, file}
 
 -- ---- The calls that feed a file to the dispatcher by instants
@@ -33,15 +33,9 @@ Feeds d rs (c ∷ cs) =
     Feeds (after-call d c) (released-after t rs) cs
 
 -- what calls answer: the instants that are served, with what occurred and the state that they hand back
-abbrev pub served-moment : ℕ → State → Answer → List Moment
-served-moment t d (Refused n) = []
-served-moment t d (Served o) = record { time = t; occurred = o; state = d } ∷ []
-
 unfoldable pub answers : State → List Call → List Moment
 answers d [] = []
-answers d (Instant t set ∷ cs) =
-    let s : Step = instant d t set in served-moment t (s .state) (s .answer) ++ answers (after-call d (Instant t set)) cs
-answers d (Mark n m ∷ cs) = answers (after-call d (Mark n m)) cs
+answers d (c ∷ cs) = cond (serves d c) (moment d (row c .time) (row c .hands) ∷ []) [] ++ answers (after-call d c) cs
 
 -- what occurred at each
 unfoldable pub occurrences : List Moment → List Occurred
@@ -51,8 +45,7 @@ occurrences (m ∷ ms) = m .occurred ∷ occurrences ms
 -- each is an instant that meets no row of the refusals
 unfoldable pub AllServed : State → List Call → Type 0
 AllServed d [] = Unit {0}
-AllServed d (Instant t set ∷ cs) = (refusal d t set ≡ 0) × AllServed (after-call d (Instant t set)) cs
-AllServed d (Mark n m ∷ cs) = ⊥
+AllServed d (c ∷ cs) = (row c .is-instant ≡ true) × (row c .number d ≡ 0) × AllServed (after-call d c) cs
 
 -- ---- How many jobs a record has, and how many releases a file
 

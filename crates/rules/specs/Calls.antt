@@ -1,6 +1,6 @@
 -- The dispatcher by instants, over its state: opening from the head, an instant and a mark call, each with its refusals in their
 -- order. A refused call hands the state back as it was.
-use Rattle.rules.specs.Types.{Bool, false, cond, not, _&&_, List, ℕ, Table, Clock, Unset, At, NoneNext, NoneOutgoing, Between, State, Call, Instant, Mark, Due, Never, Tick, Answer, Refused, Served, MarkAnswer, MarkRefused, MarkServed, Refusal, Head}
+use Rattle.rules.specs.Types.{Bool, true, false, cond, not, _&&_, List, ℕ, Table, Clock, Unset, At, NoneNext, NoneOutgoing, Between, State, Call, Instant, Mark, Due, Never, Tick, Answer, Refused, Served, MarkAnswer, MarkRefused, MarkServed, Refusal, Head}
 use lib.Dec.{ltb, leb, eqb}
 use lib.ListN.{replicate}
 use Rattle.sets.specs.Sets.{member, union, difference, insert, remove}
@@ -94,9 +94,45 @@ mark d n m =
     let r : ℕ = mark-refusal d n m in
     cond (eqb r 0) (record { state = with-mark d n m; answer = MarkServed }) (record { state = d; answer = MarkRefused r })
 
--- ---- A call of either kind
+-- ---- A call of any kind
+
+-- what is asked of a call, as one row for each kind
+pub record Row : Type 0 where
+  -- the number of its refusal, 0 is none, and the state that it leaves where it is served
+  pub number : State → ℕ
+  pub leaves : State → State
+  -- whether it is an instant, its time, and the releases that it hands in
+  pub is-instant : Bool
+  pub time : ℕ
+  pub hands : ℕ
+  -- the tasks that it names for a mark, and the mark
+  pub names : ℕ
+  pub mark : ℕ
+
+abbrev pub row : Call → Row
+row (Instant t set) = record {
+  number = λ d. refusal d t set;
+  leaves = λ d. at-g d t set;
+  is-instant = true;
+  time = t;
+  hands = set;
+  names = 0;
+  mark = 0;
+}
+row (Mark n m) = record {
+  number = λ d. mark-refusal d n m;
+  leaves = λ d. with-mark d n m;
+  is-instant = false;
+  time = 0;
+  hands = 0;
+  names = insert n 0;
+  mark = m;
+}
+
+-- an instant that is served
+abbrev pub serves : State → Call → Bool
+serves d c = row c .is-instant && eqb (row c .number d) 0
 
 -- the state that a call, served or refused, hands back
 unfoldable pub after-call : State → Call → State
-after-call d (Instant t set) = instant d t set .state
-after-call d (Mark n m) = mark d n m .state
+after-call d c = cond (eqb (row c .number d) 0) (row c .leaves d) d

@@ -1,6 +1,6 @@
 -- A run's samples can be read back, and tell its values at every tick. Assumes nothing.
 use mathlib.Core.Path.{_≡_, refl, sym, ap, _∙_, subst}
-use mathlib.Core.Bool.{true}
+use mathlib.Core.Bool.{true, false≢true}
 use mathlib.Core.List.{List, [], _∷_, _++_}
 use Prim.Native.Nat.{ℕ, zero, suc, _^_, _≤_, _<_}
 use native.Mathlib.Omega.{arith}
@@ -14,20 +14,20 @@ use Rattle.table.specs.Head.{head-of}
 use Rattle.rules.specs.Types.{Processor, Idle, CopyingIn, Executing, Finished, CopyOut, NoCopyOut, CopyingOut, CopiedOut, CopyIn, Unchosen, NoneChosen, Copying, Loaded, Cancelled, Phase, Between, Within}
 use Rattle.rules.specs.View.{Values, on-processor, copied-in, copied-out, values-in, values}
 use Rattle.rules.specs.Instant.{at-g}
-use Rattle.rules.specs.Calls.{opened, refusal, instant, after-call}
-use Rattle.guarantees.specs.Types.{State, Clock, Unset, At, Step, Call, Instant, Mark}
+use Rattle.rules.specs.Calls.{opened, refusal, after-call}
+use Rattle.guarantees.specs.Types.{State, Clock, Unset, At, Call, Instant, Mark}
 use Rattle.guarantees.specs.States.{processor-known, copyin-known, copyout-known, phase-known}
 use Rattle.guarantees.proofs.Proper.{Fair}
 use Rattle.guarantees.proofs.Frames.{clock-g}
+use Rattle.guarantees.proofs.Walk.{served}
 use Rattle.guarantees.proofs.Served.{strictly-onward, served-at}
 use Rattle.guarantees.proofs.Invariant.{Good, good-opened, good-next}
 use Rattle.run.specs.Files.{Releases, releases-of}
 use Rattle.run.specs.Run.{Moment, moments-of}
-use Rattle.record.specs.FileClaim.{served-moment, answers, AllServed}
+use Rattle.record.specs.FileClaim.{answers, AllServed}
 use Rattle.record.proofs.Accepted.{Accepted, accepted}
 use Rattle.record.proofs.TasksAlone.{fair}
 use Rattle.record.proofs.FileClaim.{fed-file}
-use Rattle.record.proofs.FileFits.{served-step}
 use Rattle.waves.specs.Types.{Release, Head, Shown}
 use Rattle.waves.specs.Dump.{Sample}
 use Rattle.waves.specs.Samples.{shown-of, seen, samples, from-zero, samples-of, values-from, values-at}
@@ -89,17 +89,17 @@ module _ (table : Table) (marks : ℕ) (fair : Fair table marks) where
   seen-fits d g = phase-fits (table .present) (fair .present) (d .phase) (d .half) (g .parted .known) (small-half d)
 
   answers-rise : (cs : List Call) (d : State) → Good table marks fair d → AllServed d cs → After (d .clock) (samples (answers d cs))
-  unfolding AllServed answers samples after-call
+  unfolding AllServed answers samples
   answers-rise [] d g a = none-after (d .clock)
-  answers-rise (Mark n m ∷ cs) d g a = absurd a
+  answers-rise (Mark n m ∷ cs) d g a = absurd (false≢true (a .0))
   answers-rise (Instant t set ∷ cs) d g a =
-      let e : eqb (refusal d t set) 0 ≡ true = eq-eqb (refusal d t set) 0 (a .0) in
+      let e : eqb (refusal d t set) 0 ≡ true = eq-eqb (refusal d t set) 0 (a .1) in
       let next : State = at-g d t set in
-      let same : instant d t set .state ≡ next = ap (λ (s : Step). s .state) (served-step d t set e) in
+      let same : after-call d (Instant t set) ≡ next = served d t set e in
       let good : Good table marks fair next = good-next table marks fair d t set g (served-at d t set e) in
-      let rest : After (next .clock) (samples (answers next cs)) = answers-rise cs next good (subst (λ (x : State). AllServed x cs) same (a .1)) in
+      let rest : After (next .clock) (samples (answers next cs)) = answers-rise cs next good (subst (λ (x : State). AllServed x cs) same (a .2)) in
       let later : Later t (samples (answers next cs)) = subst (λ (c : Clock). After c (samples (answers next cs))) (clock-g d t set) rest in
-      subst (λ (s : Step). After (d .clock) (samples (served-moment t (s .state) (s .answer) ++ answers (s .state) cs))) (sym (served-step d t set e))
+      rw (e, same)
       (one-after (d .clock) (record { time = t; shown = seen next }) (samples (answers next cs)) (λ u h. strictly-onward d t set u e h) (seen-fits next good) later)
 
 -- ---- a file's samples

@@ -3,7 +3,7 @@ use mathlib.Core.Path.{refl, ap, ap₂, _∙_}
 use Rattle.lines.specs.Lines.{instant-lines, mark-lines}
 use Rattle.lines.specs.Text.{text-of}
 use Rattle.lines.specs.declared.Text.{Text}
-use Rattle.rules.specs.Calls.{Step, MarkStep, after-call}
+use Rattle.rules.specs.Calls.{Step, MarkStep}
 use Rattle.dispatcher.specs.Dispatcher.{state-of}
 use Rattle.call_entries.specs.Types.{State}
 use Rattle.call_entries.specs.Calls.{Reply}
@@ -27,7 +27,6 @@ returns-2 c =
     (record { reply-is = ap (reply (state-of d)) (c .cut-short-line2 .ensures .whole); fits = c .cut-short-line2 .ensures .fits; untouched = λ u. refl })
 
 returns-3 : tie.Need-returns-3
-unfolding after-call
 returns-3 c =
     let step = c .before .before .instant in
     rw (c .before .before .before .before .entry .given .1)
@@ -38,7 +37,6 @@ returns-3 c =
     })
 
 returns-4 : tie.Need-returns-4
-unfolding after-call
 returns-4 c =
     let step = c .before .before .mark in
     rw (c .before .before .before .before .entry2 .given .1)
