@@ -2,15 +2,15 @@
 use Rattle.rules.specs.Types.{Bool, true, false, cond, not, _&&_, _||_, List, [], _∷_, ℕ, suc, _^_, _<_, _≡_, refl, sym, ap, _∙_, subst, MaybeTask, NoTask, Task, Interval, Phase, Between, Within, State, Registers}
 use mathlib.Core.Bool.{true≢false, false≢true}
 use mathlib.Core.Logic.{_↔_}
-use borrow.Author.Tests.{ltb-true, lt-ltb}
+use borrow.Author.Tests.{ltb-true, lt-ltb, eqb-true}
 use lib.Dec.{eqb, ltb}
 use lib.ListN.{getD}
-use Rattle.sets.specs.Sets.{member, union, intersection}
-use Rattle.sets.proofs.Laws.{by-test, both, left, right, clash, none, ext, collected, collect-small, collect-in, collect-out, member-task, empty}
-use Rattle.rules.specs.Order.{priority, higher-than, higher}
+use Rattle.sets.specs.Sets.{member, insert, union, intersection}
+use Rattle.sets.proofs.Laws.{by-test, both, left, right, clash, none, ext, collected, collect-small, collect-in, collect-out, member-task, empty, inserted}
+use Rattle.rules.specs.Order.{priority, outranks, higher-than, higher}
 use Rattle.rules.specs.Instant.{over, is-over, processor-task, awaiting-execution, blocks, counted}
 use Rattle.rules.specs.Blocking.{executed-in, blockable, CanBlock}
-use Rattle.rules.specs.Registers.{as-processor, copyin-in, processor-in, interval-in, phase-in, Memory, state-in}
+use Rattle.rules.specs.Registers.{as-task, as-processor, copyin-in, processor-in, interval-in, phase-in, Memory, state-in}
 use Rattle.rules.specs.Steps.{BlockableIn}
 use Rattle.rules.proofs.Parts.{executes}
 use Rattle.rules.proofs.ClosingTest.{open-in}
@@ -175,3 +175,30 @@ module _ (ranks : List ℕ) (n present waiting : ℕ) where
       ∙ ap (λ (b : Bool). b && ltb (getD ranks k 0) (getD ranks n 0)) (collected (λ k. member k present || member k waiting) k l))
       ∙ compared (member k waiting) (member k present) (ltb (getD ranks k 0) (getD ranks n 0))
       ∙ sym (is-in waiting k l))
+
+-- ---- one job alone that waits, where it is not higher
+
+module _ (m : Memory) (r : Registers) (n : ℕ) (low : outranks (state-in m r) (r .task) (as-task n) ≡ false) where
+  below : (k : ℕ) → k < 32 → eqb k n ≡ true → ltb (getD (m .table .priority) k 0) (getD (m .table .priority) (r .task) 0) ≡ false
+  unfolding state-in
+  below k l e =
+      ap (λ (i : ℕ). ltb (getD (m .table .priority) i 0) (getD (m .table .priority) (r .task) 0)) (eqb-true k n e)
+      ∙ sym (ap (outranks (state-in m r) (r .task)) there) ∙ low
+    where
+      there : as-task n ≡ Task n
+      there = simp (lt-ltb n 32 (subst (λ (i : ℕ). i < 32) (eqb-true k n e) l))
+
+  pub alone-blocks : {waiting : ℕ} → eqb (r .processor) 0 ≡ false → waiting ≡ awaiting-execution (copyin-in r) (r .ready) → waiting ≡ insert n 0
+      → 0 ≡ blocks (state-in m r) (interval-in r)
+  alone-blocks {waiting} f w e =
+      some-blocks m r f w
+      (sym (empty (higher-than (m .table .priority) (r .task) waiting) (few (m .table .priority) (r .task) 0 0 waiting)
+      (λ k l.
+      is-in (m .table .priority) (r .task) 0 0 waiting k l
+      ∙ by-test (eqb k n)
+      (λ h. rw (below k l h) (never (member k waiting)))
+      (λ h. rw (e, inserted n 0 k l, h, none k)))))
+    where
+      never : (b : Bool) → (b && false) ≡ false
+      never true = refl
+      never false = refl

@@ -3,6 +3,7 @@ use crate::at;
 use crate::codes;
 use crate::order::count_all;
 use crate::order::higher;
+use crate::order::outranks;
 ghost use mathlib.Core.Path.{_≡_};
 ghost use lib.ListN.{getD};
 ghost use Rattle.rules.specs.Steps.{Blockable, CountsWaiting, CountsAt};
@@ -41,8 +42,8 @@ fn count_waiting(
 }
 
 // One more blocked interval for each job that the interval blocks, of those released in it or before it that a later one executes. Where
-// the processor idled or none waits there is nothing to count, as in most intervals: these tests are inlined, and the rest, which is called
-// twice, is not.
+// the processor idled, none waits, or the loaded one alone, which is not higher, there is nothing to count, as in most intervals: these
+// tests are inlined, and the rest, which is called twice, is not.
 pub fn count_blocked(
     sets: &at::Sets,
     codes: &at::Codes,
@@ -57,7 +58,13 @@ pub fn count_blocked(
     }
     let ready = sets[at::READY];
     if codes[at::COPYIN] == codes::LOADED {
-        let waiting = sets::insert(ready, codes[at::INTASK]);
+        let n = codes[at::INTASK];
+        if ready == 0 {
+            if !outranks(priority, n, codes[at::TASK]) {
+                return;
+            }
+        }
+        let waiting = sets::insert(ready, n);
         count_waiting(waiting, sets, codes, priority, blocked);
         return;
     }
