@@ -231,7 +231,16 @@ fn blockable(s: &[u8], present: u32) -> u32 {
         ranks[k] = s[2 + k];
         k += 1;
     }
-    rules::blockable(s[0], s[1], present, &ranks)
+    let set = rules::blockable(s[0], s[1], present, &ranks);
+    let mut found: u32 = 0;
+    let mut n: u8 = 0;
+    while n < 32 {
+        if set.higher[n as usize] == 1 {
+            found = sets::insert(found, n);
+        }
+        n += 1;
+    }
+    sets::intersection(found, set.tasks)
 }
 
 fn columns_of(s: &[u8]) -> [u32; 128] {

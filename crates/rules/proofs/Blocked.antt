@@ -1,5 +1,5 @@
 -- The tasks that an interval can block, and the jobs that it blocks, over the registers.
-use Rattle.rules.specs.Types.{Bool, true, false, cond, not, _&&_, _||_, List, [], _∷_, ℕ, suc, _^_, _<_, _≡_, refl, sym, ap, _∙_, subst, MaybeTask, NoTask, Task, Interval, Phase, Between, Within, State, Registers}
+use Rattle.rules.specs.Types.{Bool, true, false, cond, not, _&&_, _||_, List, [], _∷_, ℕ, suc, _^_, _<_, _≡_, refl, sym, ap, _∙_, subst, MaybeTask, NoTask, Task, TasksAbove, Interval, Phase, Between, Within, State, Registers}
 use mathlib.Core.Bool.{true≢false, false≢true}
 use mathlib.Core.Logic.{_↔_}
 use borrow.Author.Tests.{ltb-true, lt-ltb, eqb-true}
@@ -11,7 +11,7 @@ use Rattle.rules.specs.Order.{priority, outranks, higher-than, higher}
 use Rattle.rules.specs.Instant.{over, is-over, processor-task, awaiting-execution, blocks, counted}
 use Rattle.rules.specs.Blocking.{executed-in, blockable, CanBlock}
 use Rattle.rules.specs.Registers.{as-task, as-processor, copyin-in, processor-in, interval-in, phase-in, Memory, state-in}
-use Rattle.rules.specs.Steps.{BlockableIn}
+use Rattle.rules.specs.Steps.{Above, marked-in, tasks-above, BlockableIn}
 use Rattle.rules.proofs.Parts.{executes}
 use Rattle.rules.proofs.ClosingTest.{open-in}
 
@@ -175,6 +175,47 @@ module _ (ranks : List ℕ) (n present waiting : ℕ) where
       ∙ ap (λ (b : Bool). b && ltb (getD ranks k 0) (getD ranks n 0)) (collected (λ k. member k present || member k waiting) k l))
       ∙ compared (member k waiting) (member k present) (ltb (getD ranks k 0) (getD ranks n 0))
       ∙ sym (is-in waiting k l))
+
+-- ---- what is gathered, a mark for each task
+
+pub gathers : (ranks marks : List ℕ) (n s : ℕ) → Above ranks n marks → marked-in s marks ≡ higher-than ranks n s
+unfolding higher-than
+gathers ranks marks n s a =
+    let p : ℕ → Bool = λ k. member k s && eqb (getD marks k 0) 1 in
+    let q : ℕ → Bool = λ k. member k s && ltb (getD ranks k 0) (getD ranks n 0) in
+    ext 32 (marked-in s marks) (higher-than ranks n s) (collect-small p) (collect-small q)
+    (λ k l.
+    collected p k l
+    ∙ ap (λ (b : Bool). member k s && b) (ap (λ (x : ℕ). eqb x 1) (a k l) ∙ is-one (ltb (getD ranks k 0) (getD ranks n 0)))
+    ∙ sym (collected q k l))
+  where
+    is-one : (b : Bool) → eqb (cond b 1 0) 1 ≡ b
+    is-one true = refl
+    is-one false = refl
+
+pub none-gathered : (marks : List ℕ) → 0 ≡ marked-in 0 marks
+none-gathered marks =
+    let p : ℕ → Bool = λ k. member k 0 && eqb (getD marks k 0) 1 in
+    sym (empty (marked-in 0 marks) (collect-small p) (λ k l. collected p k l ∙ rw (none k)))
+
+-- of the jobs that wait those that are in the set
+pub of-the-set : {s : ℕ} (ranks : List ℕ) (n present waiting : ℕ) (x : TasksAbove) → tasks-above x ≡ higher-than ranks n (union present waiting)
+    → s ≡ intersection waiting (x .tasks) → marked-in s (x .higher) ≡ higher-than ranks n waiting
+unfolding intersection
+of-the-set {s} ranks n present waiting x e f =
+    let p : ℕ → Bool = λ k. member k s && eqb (getD (x .higher) k 0) 1 in
+    ext 32 (marked-in s (x .higher)) (intersection waiting (tasks-above x)) (collect-small p) (collect-small (λ k. member k waiting && member k (tasks-above x)))
+    (λ k l.
+    collected p k l
+    ∙ ap (λ (b : Bool). b && eqb (getD (x .higher) k 0) 1) (ap (member k) f ∙ collected (λ k. member k waiting && member k (x .tasks)) k l)
+    ∙ grouped (member k waiting) (member k (x .tasks)) (eqb (getD (x .higher) k 0) 1)
+    ∙ ap (λ (b : Bool). member k waiting && b) (sym (collected (λ k. member k (x .tasks) && eqb (getD (x .higher) k 0) 1) k l))
+    ∙ sym (collected (λ k. member k waiting && member k (tasks-above x)) k l))
+    ∙ of-those ranks n present waiting e
+  where
+    grouped : (a b c : Bool) → ((a && b) && c) ≡ (a && (b && c))
+    grouped true b c = refl
+    grouped false b c = refl
 
 -- ---- one job alone that waits, where it is not higher
 

@@ -1,11 +1,11 @@
--- A loop from member to member of a set that stores into an array at each: `count_all`, `take` and `defer`.
-use Rattle.rules.specs.Types.{cond, List, [], _∷_, ℕ, zero, suc, _+_, _^_, _<_, _≡_, refl, sym, ap, _∙_, subst}
+-- A loop from member to member of a set that stores into an array at each: `take` and `defer`.
+use Rattle.rules.specs.Types.{cond, List, [], _∷_, ℕ, zero, suc, _+_, _^_, _<_, _≡_, refl, sym, ap, _∙_}
 use native.Mathlib.Omega.{arith}
 use native.Mathlib.Nat.{le-of-suc-le-suc, not-suc-le-zero}
 use borrow.Author.Tests.{eqb-true, eqb-false}
 use lib.Dec.{eqb}
 use lib.ListN.{length, getD, set, length-set}
-use lib.Seq.{set-getD, getD-set-same, getD-set-other, ext-getD}
+use lib.Seq.{getD-set-same, getD-set-other, ext-getD}
 use Rattle.sets.specs.Sets.{member, remove, lowest}
 use Rattle.sets.proofs.Laws.{by-test, none}
 use Rattle.rules.specs.Instant.{stamped}
@@ -26,12 +26,12 @@ unfolding stamped
 stamped-none f k [] = refl
 stamped-none f k (x ∷ xs) = rw (none k, stamped-none f (suc k) xs)
 
-each-length : (f : ℕ → ℕ → ℕ) (s k : ℕ) (xs : List ℕ) → length (each f s k xs) ≡ length xs
+pub each-length : (f : ℕ → ℕ → ℕ) (s k : ℕ) (xs : List ℕ) → length (each f s k xs) ≡ length xs
 unfolding each
 each-length f s k [] = refl
 each-length f s k (x ∷ xs) = ap suc (each-length f s (suc k) xs)
 
-each-at : (f : ℕ → ℕ → ℕ) (s k i n : ℕ) → n ≡ k + i → (xs : List ℕ) → i < length xs → getD (each f s k xs) i 0 ≡ cond (member n s) (f n (getD xs i 0)) (getD xs i 0)
+pub each-at : (f : ℕ → ℕ → ℕ) (s k i n : ℕ) → n ≡ k + i → (xs : List ℕ) → i < length xs → getD (each f s k xs) i 0 ≡ cond (member n s) (f n (getD xs i 0)) (getD xs i 0)
 unfolding each
 each-at f s k i n e [] l = absurd (not-suc-le-zero l)
 each-at f s k zero n e (x ∷ xs) l = let h : n ≡ k = omega arith in rw h
@@ -61,10 +61,6 @@ module _ {f : ℕ → ℕ → ℕ} {s : ℕ} {old : List ℕ} where
 
   pub store : {left n after v : ℕ} {new : List ℕ} → Stored f s left old new → (left ≡ 0 → ⊥) → n ≡ lowest left → after ≡ remove (lowest left) left → v ≡ f n (getD new n 0) → Stored f s after old (set new n v)
   store h some e g q = stored (turn (h .members) some e g) h q
-
-  -- where f at it is what it has
-  pub keep : {left n after : ℕ} {new : List ℕ} → Stored f s left old new → (left ≡ 0 → ⊥) → n ≡ lowest left → after ≡ remove (lowest left) left → getD new n 0 ≡ f n (getD new n 0) → Stored f s after old new
-  keep {new = new} h some e g q = subst (Stored f s _ old) (set-getD new _ 0) (store h some e g q)
 
   pub store-end : {left : ℕ} {new : List ℕ} → Stored f s left old new → left ≡ 0 → new ≡ each f s 0 old
   store-end {left} {new} h z =

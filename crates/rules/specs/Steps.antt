@@ -1,10 +1,10 @@
 -- What each step over lent arrays promises: the rules' step of the state that was read before, whatever stands in the arrays that it is
 -- not lent.
-use Rattle.rules.specs.Types.{Bool, true, false, cond, List, ℕ, _-_, _^_, _<_, _≤_, _≡_, _⊎_, MaybeTask, Table, Cancelled, Interval, Within, Next, Outgoing, State, Stage, Closed, Job, Due, Never, Tick, JobEntry, IntervalEntry}
+use Rattle.rules.specs.Types.{Bool, true, false, cond, _&&_, List, ℕ, _-_, _^_, _<_, _≤_, _≡_, _⊎_, MaybeTask, Table, TasksAbove, Cancelled, Interval, Within, Next, Outgoing, State, Stage, Closed, Job, Due, Never, Tick, JobEntry, IntervalEntry}
 use mathlib.Core.Logic.{_↔_}
-use lib.Dec.{eqb}
+use lib.Dec.{eqb, ltb}
 use lib.ListN.{getD, set}
-use Rattle.sets.specs.Sets.{member}
+use Rattle.sets.specs.Sets.{member, collect}
 use Rattle.table.specs.Table.{spacing}
 use Rattle.rules.specs.With.{at-clock}
 use Rattle.rules.specs.Order.{highest, outranks}
@@ -17,6 +17,17 @@ use Rattle.rules.specs.Kept.{Kept, kept, Whole, ByTask, by-task, Beside,
 
 abbrev pub Outranks : List ℕ → ℕ → ℕ → Bool → Type 0
 Outranks priority by n x = (d : State) → d .table .priority ≡ priority → x ≡ outranks d n (as-task by)
+
+-- of each task a mark, 1 where its priority is higher than that of task n
+abbrev pub Above : List ℕ → ℕ → List ℕ → Type 0
+Above priority n x = (k : ℕ) → k < 32 → getD x k 0 ≡ cond (ltb (getD priority k 0) (getD priority n 0)) 1 0
+
+-- the tasks that are both in a set and marked by 1; those of them that are gathered
+abbrev pub marked-in : ℕ → List ℕ → ℕ
+marked-in s marks = collect (λ k. member k s && eqb (getD marks k 0) 1)
+
+abbrev pub tasks-above : TasksAbove → ℕ
+tasks-above x = marked-in (x .tasks) (x .higher)
 
 -- ---- The instant's time
 
@@ -151,6 +162,10 @@ Blockable kind n present priority x =
     (d : State) (i : Interval) (start until : ℕ)
     → d .phase ≡ Within i → over i ≡ true → i .processor ≡ as-processor kind n start until
     → d .table .present ≡ present → d .table .priority ≡ priority → BlockableIn d x
+
+-- one more for each task of a set that is marked
+abbrev pub CountsMarked : ℕ → List ℕ → List ℕ → List ℕ → Type 0
+CountsMarked s marks before after = after ≡ counted (marked-in s marks) 0 before
 
 -- one more for each job that it blocks; the same, where the jobs that wait are known
 abbrev pub CountsAt : List ℕ → List ℕ → List ℕ → List ℕ → List ℕ → Type 0

@@ -5,6 +5,7 @@ pub use Rattle.entries.specs.declared.MaybeTask.{MaybeTask}
 pub use Rattle.entries.specs.declared.MaybeTask.the-variants.{NoTask, Task}
 pub use Rattle.rules.specs.Named.{Registers}
 pub use Rattle.rules.specs.declared.ReleaseFates.{ReleaseFates}
+pub use Rattle.rules.specs.declared.TasksAbove.{TasksAbove}
 pub use Rattle.rules.specs.declared.View.{View}
 pub use Rattle.entries.specs.declared.JobEntry.{JobEntry}
 pub use Rattle.entries.specs.declared.IntervalEntry.{IntervalEntry}

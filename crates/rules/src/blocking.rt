@@ -1,4 +1,5 @@
 // Blocked, at an interval's end: a job that awaits execution, where the processor executed a lower-priority one.
+use crate::TasksAbove;
 use crate::at;
 use crate::codes;
 use crate::order::count_all;
@@ -6,17 +7,23 @@ use crate::order::higher;
 use crate::order::outranks;
 ghost use mathlib.Core.Path.{_≡_};
 ghost use lib.ListN.{getD};
-ghost use Rattle.rules.specs.Steps.{Blockable, CountsWaiting, CountsAt};
+ghost use Rattle.rules.specs.Steps.{tasks-above, Blockable, CountsWaiting, CountsAt};
 
 // The tasks that the interval can block, by what the processor did and its task: those of the table with a higher priority than the one
 // that it executed, and none if it idled.
-pub fn blockable(kind: u8, n: u8, present: u32, priority: &[u8; 32]) -> u32
-    ensures { λ x. ⌜ Blockable kind n present (now (priority .entry)) x ⌝ }
+pub fn blockable(kind: u8, n: u8, present: u32, priority: &[u8; 32]) -> TasksAbove
+    ensures { λ x. ⌜ Blockable kind n present (now (priority .entry)) (tasks-above x) ⌝ }
 {
     if kind != codes::IDLE {
-        return higher(priority, n, present);
+        return TasksAbove {
+            tasks: present,
+            higher: higher(priority, n),
+        };
     }
-    0
+    TasksAbove {
+        tasks: 0,
+        higher: [0u8; 32],
+    }
 }
 
 // One more blocked interval for each of the jobs that wait whose task is in the set, which is gathered once, before they are walked. A job
@@ -35,10 +42,8 @@ fn count_waiting(
     let kind = codes[at::PROCESSOR];
     let n = codes[at::TASK];
     let tasks = sets::union(sets[at::PRESENT], waiting);
-    count_all(
-        sets::intersection(waiting, blockable(kind, n, tasks, priority)),
-        blocked,
-    );
+    let set = blockable(kind, n, tasks, priority);
+    count_all(sets::intersection(waiting, set.tasks), &set.higher, blocked);
 }
 
 // One more blocked interval for each job that the interval blocks, of those released in it or before it that a later one executes. Where

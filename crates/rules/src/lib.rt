@@ -63,6 +63,12 @@ pub struct ReleaseFates {
     pub skipped: u32,
 }
 
+// The tasks of a set that have a higher priority than another task: those that are marked by 1.
+pub struct TasksAbove {
+    pub tasks: u32,
+    pub higher: [u8; 32],
+}
+
 // What goes on now: of the open interval its begin and work, the task and the end of each phase under way, and the processor's half; 255 is
 // nobody. Beside them the sets of tasks.
 pub struct View {

@@ -3,14 +3,13 @@ use crate::arrays::byte_of;
 use crate::arrays::time_of;
 use crate::codes::NO_TASK;
 ghost use mathlib.Core.Path.{_≡_};
-ghost use mathlib.Core.Bool.{cond};
+ghost use mathlib.Core.Bool.{cond, _&&_};
 ghost use lib.Dec.{eqb, ltb};
-ghost use lib.ListN.{getD};
+ghost use lib.ListN.{length, getD};
 ghost use Prim.Native.Nat.{_+_, _<_, min};
-ghost use Rattle.rules.specs.Instant as instant;
 ghost use Rattle.rules.specs.Order as order;
 ghost use Rattle.rules.specs.Registers.{as-task};
-ghost use Rattle.rules.specs.Steps.{Outranks};
+ghost use Rattle.rules.specs.Steps.{Outranks, Above, CountsMarked};
 
 // A byte as a wider number.
 fn wide(x: u8) -> u32
@@ -61,40 +60,57 @@ pub fn outranks(priority: &[u8; 32], by: u8, n: u8) -> bool
     false
 }
 
-// Whether a count can rise: it is held at 255.
-fn can_rise(count: u8) -> bool
-    ensures { λ r. ⌜ min (count + 1) 255 ≡ cond r (count + 1) count ⌝ }
-{
-    count < 255
-}
-
-// The tasks of a set with a higher priority than task `n`. All 32 are compared at once, which is faster than to go from member to member.
-pub fn higher(priority: &[u8; 32], n: u8, set: u32) -> u32
-    ensures { λ r. ⌜ r ≡ order.higher-than (now (priority .entry)) n set ⌝ }
+// Of each task, 1 where it has a higher priority than task `n`, else 0. All 32 are compared at once, which is faster than to go from member
+// to member.
+pub fn higher(priority: &[u8; 32], n: u8) -> [u8; 32]
+    ensures { λ r. ⌜ Above (now (priority .entry)) n r ⌝ }
 {
     let limit = byte_of(priority, n);
-    let mut found: u32 = 0;
+    let mut found = [0u8; 32];
     let mut k: u8 = 0;
     while k < NO_TASK {
         if priority[k as usize] < limit {
-            found = sets::insert(found, k);
+            found[k as usize] = 1;
         }
         k += 1;
     }
-    sets::intersection(found, set)
+    found
 }
 
-// One more, held at 255, for each task of a set. The loop goes from member to member.
-pub fn count_all(set: u32, counts: &mut [u8; 32])
-    ensures { λ _. ⌜ now (counts .exit) ≡ instant.counted set 0 (now (counts .entry)) ⌝ }
+// One more, held at 255, where a task is both in a set and marked.
+fn risen(count: u8, marked: u8, member: bool) -> u8
+    ensures { λ r. ⌜ r ≡ cond (member && eqb marked 1) (min (count + 1) 255) count ⌝ }
 {
-    let mut left = set;
-    while left != 0 {
-        let i = sets::lowest(left) as usize;
-        let count = counts[i];
-        if can_rise(count) {
-            counts[i] = count + 1;
+    if member {
+        if marked == 1 {
+            if count < 255 {
+                return count + 1;
+            }
         }
-        left = sets::rest(left);
     }
+    count
+}
+
+// That there are so many counts is told where they are lent as a slice. Nothing is left of this in the program.
+fn counts_seen(counts: &[u8]) {}
+
+fn all_counts(counts: &[u8; 32])
+    ensures { λ _. ⌜ length (now (counts .entry)) ≡ 32 ⌝ }
+{
+    counts_seen(counts);
+}
+
+// That for each task. All 32 are made at once, without a branch.
+pub fn count_all(set: u32, marks: &[u8; 32], counts: &mut [u8; 32])
+    ensures { λ _. ⌜ CountsMarked set (now (marks .entry)) (now (counts .entry)) (now (counts .exit)) ⌝ }
+{
+    all_counts(counts);
+    let mut next = [0u8; 32];
+    let mut k: u8 = 0;
+    while k < NO_TASK {
+        let i = k as usize;
+        next[i] = risen(counts[i], marks[i], sets::contains(set, k));
+        k += 1;
+    }
+    *counts = next;
 }

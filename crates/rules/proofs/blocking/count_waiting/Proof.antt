@@ -6,7 +6,7 @@ use Rattle.rules.specs.Instant.{counted}
 use Rattle.rules.specs.Registers.{interval-in, state-in}
 use Rattle.rules.specs.Kept.{kept, beside, registers-in, memory-in}
 use Rattle.rules.proofs.ClosingTest.{open-in, over-in}
-use Rattle.rules.proofs.Blocked.{some-blocks, set-is, with-tasks, of-those}
+use Rattle.rules.proofs.Blocked.{some-blocks, set-is, with-tasks, of-the-set}
 use lib.ListN.{getD}
 use borrow.Author.Needs.{needs}
 use Rattle.rules.proofs.blocking.count_waiting.Statement.{statement}
@@ -16,17 +16,18 @@ use Rattle.rules.proofs.blocking.count_waiting.Tie as tie
 returns : tie.Need-returns
 unfolding state-in interval-in
 returns c waits times columns o h =
-    let a = c .before .before .before .before .before .before .before .before .args in
+    let c5 = c .before .before .before .before .before in
+    let a = c5 .before .before .before .before .before .args in
     let k = kept times (a .sets .now) (a .codes .now) in
     let m = memory-in k (beside (a .priority .now) columns o) in
     let r = registers-in k in
-    let f = ne-eqb (r .processor) 0 (c .before .before .before .before .before .before .before .before .pre) in
-    let n = with-tasks m (c .before .before .before .before .union .result) in
-    let set = c .before .before .before .blockable .ensures (state-in n r) _ _ _ (open-in r h) (over-in r h) refl refl refl .is ∙ set-is n r h f in
+    let f = ne-eqb (r .processor) 0 (c5 .before .before .before .before .before .pre) in
+    let n = with-tasks m (c5 .before .union .result) in
+    let set = c5 .blockable .ensures (state-in n r) _ _ _ (open-in r h) (over-in r h) refl refl refl .is ∙ set-is n r h f in
     c .count-all .ensures
     ∙ ap (λ x. counted x 0 (a .blocked .now))
     (some-blocks m r f (waits times)
-    (c .before .before .intersection .ensures ∙ of-those (a .priority .now) (r .task) (getD (a .sets .now) 4 0) (a .waiting) (set ∙ ap (higher-than (a .priority .now) (r .task)) (c .before .before .before .before .union .ensures))))
+    (of-the-set (a .priority .now) (r .task) (getD (a .sets .now) 4 0) (a .waiting) (c5 .blockable .result) (set ∙ ap (higher-than (a .priority .now) (r .task)) (c5 .before .union .ensures)) (c .before .before .before .before .intersection .ensures)))
 
 pub count-waiting-spec : {M : Type 1} → statement M
 count-waiting-spec =
