@@ -112,11 +112,11 @@ module _ (pr : List ℕ) where
           unfold cancel giving-events-in giving-events in
           ⊎-elim (λ z. ap (λ (c : CopyIn). giving-events (given-way c) (Task n)) (z .1)) (λ z. ap (λ (c : CopyIn). giving-events (given-way c) (Task n)) (z .0)) h
 
-  c-same : (d : State) (t taken deferred : ℕ) (q : Phase) → giving-events-in (step-c d t taken deferred .phase) q ≡ giving-events-in (d .phase) q
+  pub c-same : (d : State) (t taken deferred : ℕ) (q : Phase) → giving-events-in (step-c d t taken deferred .phase) q ≡ giving-events-in (d .phase) q
   unfolding step-c
   c-same d t taken deferred q = c-gives pr d taken (d .phase) q
 
-  e-same : (d : State) (t : ℕ) (p : Phase) → giving-events-in p (step-e d t (d .phase) .phase) ≡ giving-events-in p (d .phase)
+  pub e-same : (d : State) (t : ℕ) (p : Phase) → giving-events-in p (step-e d t (d .phase) .phase) ≡ giving-events-in p (d .phase)
   e-same d t p =
       e-cases (λ z. giving-events-in p (z .phase) ≡ giving-events-in p (d .phase)) d t refl
       (λ i x u v. choose-gives pr d t i (highest-of d (d .jobs .ready)) p u ∙ ap (giving-events-in p) (sym x))

@@ -9,11 +9,12 @@ use lib.ListN.{length}
 use Rattle.sets.proofs.Laws.{by-test, same-task}
 use Rattle.table.specs.Table.{copyout-length}
 use Rattle.guarantees.specs.History.{Event, Comes, Starts, Stops, Finishes, Completes, Ends, Takes, Defers, GivesWay, Begins}
-use Rattle.guarantees.specs.Queries.{is-task, Situation, NoneOpen, Open, situation, Latest, none-yet, latest-by, latest, intervals, end-tick, completion, last-instant, after, each, first, upto, met}
+use Rattle.guarantees.specs.Queries.{is-task, Situation, NoneOpen, Open, situation, Latest, none-yet, latest-by, latest, intervals, end-tick, begin-tick, completion, last-instant, after, each, first, upto, met}
+use Rattle.guarantees.specs.Pending.{place-by, place}
 use Rattle.guarantees.specs.Claim.{if-reached, CopiedOut}
 use Rattle.guarantees.proofs.Spans.{in-time}
 use Rattle.guarantees.proofs.Engine.{Engine, Free, Leaving, Apart, completed-to, ended-to, begun-to, copied}
-use Rattle.guarantees.proofs.Turns.{View, nothing, Turning, taken-at}
+use Rattle.guarantees.proofs.Turns.{View, nothing, view-by, Turning, taken-at}
 
 -- ---- the monitor
 
@@ -63,6 +64,61 @@ module _ (M n : ℕ) where
   ends-by (Defers k t ∷ es) now b p h e x = ends-by es now b p h e x
   ends-by (GivesWay k ∷ es) now b p h e x = ends-by es now b p h e x
   ends-by (Begins t r l ∷ es) now b p h e x = never-tick b (h .0 .1)
+
+  -- ---- where no interval is open and a job is to be executed, one begins before the instant is over
+
+  begins-now : (es : List Event) (now : ℕ) (w : Due) (held : Bool) → Lasting now Never true es → Turning n (record { now = w; place = 1; held = held }) es → begin-tick es ≡ Tick now
+  unfolding Lasting Turning first
+  begins-now [] now w held h k = absurd (true≢false h)
+  begins-now (Comes t ∷ es) now w held h k = absurd (true≢false (h .0 .1))
+  begins-now (Starts j t ∷ es) now w held h k = begins-now es now w held h (k .1)
+  begins-now (Stops j t ∷ es) now w held h k = begins-now es now w held h (k .1)
+  begins-now (Finishes j ∷ es) now w held h k = begins-now es now w held h (k .1)
+  begins-now (Completes j t ∷ es) now w held h k =
+      by-test (eqb n j) (λ e. absurd (let z : _≡_ {A = ℕ} 1 3 = k .0 .1 e in omega arith)) (λ e. begins-now es now w held (rw e at h) (rw e at (k .1)))
+  begins-now (Ends t ∷ es) now w held h k = absurd (h .0 .1)
+  begins-now (Takes j t m ∷ es) now w held h k =
+      by-test (eqb n j) (λ e. absurd (let z : _≡_ {A = ℕ} 1 0 = k .0 .1 e in omega arith)) (λ e. begins-now es now w held (rw e at (h .1)) (rw e at (k .1)))
+  begins-now (Defers j t ∷ es) now w held h k = begins-now es now w (cond (eqb n j) true held) h (k .1)
+  begins-now (GivesWay j ∷ es) now w held h k = begins-now es now w held h (k .1)
+  begins-now (Begins t r l ∷ es) now w held h k = ap Tick (h .0 .0)
+
+  -- where the claim has a job to be executed the monitor has one pending
+  abbrev Pends : Bool → ℕ → Type 0
+  Pends p place = place ≡ 1 → p ≡ true
+
+  next-begins : (before : List Event) (now : ℕ) (d : Due) (p : Bool) (v : View) (es : List Event) (t : ℕ) → Pends p (v .place) → Lasting now d p (before ++ (Ends t ∷ es))
+      → Turning n v (before ++ (Ends t ∷ es)) → after (place-by n) (v .place) before ≡ 1 → begin-tick es ≡ Tick t
+  unfolding Lasting Turning after
+  next-begins [] now d p v es t f h k e =
+      begins-now es now (v .now) (v .held) (subst (λ (b : Bool). Lasting now Never b es) (f e) (h .1)) (subst (λ (x : ℕ). Turning n (record { now = v .now; place = x; held = v .held }) es) e (k .1)) ∙ ap Tick (sym (h .0 .0))
+  next-begins (Comes u ∷ before) now d p v es t f h k e = next-begins before u d p (view-by n v (Comes u)) es t f (h .1) (k .1) e
+  next-begins (Starts j u ∷ before) now d p v es t f h k e = next-begins before now d p v es t f h (k .1) e
+  next-begins (Stops j u ∷ before) now d p v es t f h k e = next-begins before now d p v es t f h (k .1) e
+  next-begins (Finishes j ∷ before) now d p v es t f h k e = next-begins before now d p v es t f h (k .1) e
+  next-begins (Completes j u ∷ before) now d p v es t f h k e = next-begins before now d (cond (eqb n j) false p) (view-by n v (Completes j u)) es t (go (eqb n j)) h (k .1) e
+    where
+      go : (b : Bool) → Pends (cond b false p) (cond b 0 (v .place))
+      go true z = absurd (let y : _≡_ {A = ℕ} 0 1 = z in omega arith)
+      go false z = f z
+  next-begins (Ends u ∷ before) now d p v es t f h k e = next-begins before now Never p v es t f (h .1) (k .1) e
+  next-begins (Takes j u m ∷ before) now d p v es t f h k e = next-begins before now d (cond (eqb n j) true p) (view-by n v (Takes j u m)) es t (go (eqb n j)) (h .1) (k .1) e
+    where
+      go : (b : Bool) → Pends (cond b true p) (cond b 1 (v .place))
+      go true z = refl
+      go false z = f z
+  next-begins (Defers j u ∷ before) now d p v es t f h k e = next-begins before now d p (view-by n v (Defers j u)) es t f h (k .1) e
+  next-begins (GivesWay j ∷ before) now d p v es t f h k e = next-begins before now d p v es t f h (k .1) e
+  next-begins (Begins u r l ∷ before) now d p v es t f h k e = next-begins before now (Tick u) p (view-by n v (Begins u r l)) es t (go (is-task n r) (is-task n l)) (h .1) (k .1) e
+    where
+      go : (a b : Bool) → Pends p (cond a 2 (cond b 3 (v .place)))
+      go true b z = absurd (let y : _≡_ {A = ℕ} 2 1 = z in omega arith)
+      go false true z = absurd (let y : _≡_ {A = ℕ} 3 1 = z in omega arith)
+      go false false z = f z
+
+  pub next-in : (h : List Event) → Lasting 0 Never false h → Turning n nothing h → (before es : List Event) (t : ℕ) → h ≡ before ++ (Ends t ∷ es) → place n before ≡ 1 → begin-tick es ≡ Tick t
+  next-in h l k before es t x e =
+      next-begins before 0 Never false nothing es t (λ z. absurd (let y : _≡_ {A = ℕ} 0 1 = z in omega arith)) (subst (Lasting 0 Never false) x l) (subst (Turning n nothing) x k) e
 
   -- ---- a job that is executed completes after the end of its interval
 

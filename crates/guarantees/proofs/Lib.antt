@@ -42,6 +42,7 @@ pub mod Fates
 pub mod Marks
 pub mod Courses
 pub mod Causes
+pub mod Reasons
 pub mod Serving
 pub mod Arithmetic
 pub mod Chosen

@@ -11,9 +11,9 @@ use Rattle.rules.specs.Calls.{opening, refusal}
 use Rattle.dispatcher.specs.declared.Opening.{Opening}
 use Rattle.dispatcher.specs.Dispatcher.{state-of, opening-of}
 use Rattle.guarantees.specs.History.{Event, Starts, Stops, Completes, Ends, Takes, Defers, GivesWay, Begins, history, after-calls, EmptySets}
-use Rattle.guarantees.specs.Pending.{OneAtATime, InTime}
+use Rattle.guarantees.specs.Pending.{place, OneAtATime, InTime}
 use Rattle.guarantees.specs.Releases.{Spaced}
-use Rattle.guarantees.specs.Intervals.{Proceeds, came, Cause}
+use Rattle.guarantees.specs.Intervals.{Proceeds, came, Cause, reason}
 use Rattle.guarantees.specs.Entries.{EntriesTell}
 use Rattle.guarantees.specs.Figure.{PlainFigure, Figure}
 use Rattle.guarantees.specs.Counting.{CountsRise}
@@ -102,6 +102,12 @@ pub record Holds (table : Table) (history : List Event) : Type 0 where
   -- "An interval ends at the later of its two units' ends (R6)": not before its execution has ended
   pub each-end : (before after : List Event) (n e : ℕ) → history ≡ before ++ (Ends e ∷ after) → latest none-yet before .executed ≡ Task n →
       (s : ℕ) × (execution not-yet before .stopped ≡ Tick s)
+  -- and not later: on the tick on which a phase of it ends or its copy-in gives way, since "a cancelled copy ends at its cancelling"; and
+  -- not behind a job taken then: where the choice has not been made, the engine copies one in (R2)
+  pub each-reason : (before after : List Event) (e : ℕ) → history ≡ before ++ (Ends e ∷ after) → reason before ≡ true
+  -- and the next one begins on that tick where a job is loaded, promoted or ready: one that was taken and that no interval has executed
+  pub each-next : (before after : List Event) (n e : ℕ) → n < 32 → history ≡ before ++ (Ends e ∷ after) → place n before ≡ 1 →
+      begin-tick after ≡ Tick e
   -- "Each executed job is copied out first thing in the next interval."
   pub each-executed : (before after : List Event) (n t : ℕ) (l : MaybeTask) → history ≡ before ++ (Begins t (Task n) l ∷ after) →
       CopiedOut (copyout-length (table .columns) n) n t after

@@ -549,6 +549,28 @@ stays-open =
     Comes 6 ∷ Completes 1 6 ∷
     Comes 13 ∷ []
 
+-- R6: plan C, where the first interval ends a tick after its copy-in
+unfoldable pub ends-a-tick-late : List Event
+ends-a-tick-late =
+    Comes 0 ∷ Takes 1 0 true ∷ Begins 0 NoTask NoTask ∷
+    Comes 2 ∷ Finishes 1 ∷
+    Comes 3 ∷ Ends 3 ∷ Begins 3 (Task 1) NoTask ∷ Starts 1 3 ∷ []
+
+-- R2: the engine is free at 7, and chooses nobody though a job is taken then
+unfoldable pub taken-unchosen : List Event
+taken-unchosen =
+    Comes 0 ∷ Takes 2 0 false ∷ Begins 0 NoTask NoTask ∷
+    Comes 2 ∷ Finishes 2 ∷ Ends 2 ∷ Begins 2 (Task 2) NoTask ∷ Starts 2 2 ∷
+    Comes 6 ∷ Stops 2 6 ∷ Ends 6 ∷ Begins 6 NoTask (Task 2) ∷
+    Comes 7 ∷ Completes 2 7 ∷ Takes 2 7 false ∷ Ends 7 ∷ Begins 7 NoTask NoTask ∷ []
+
+-- plan C, where the processor waits a tick though a job is loaded
+unfoldable pub begins-a-tick-late : List Event
+begins-a-tick-late =
+    Comes 0 ∷ Takes 1 0 true ∷ Begins 0 NoTask NoTask ∷
+    Comes 2 ∷ Finishes 1 ∷ Ends 2 ∷
+    Comes 3 ∷ Begins 3 (Task 1) NoTask ∷ Starts 1 3 ∷ []
+
 abbrev pub Refuses : List Event → Type 0
 Refuses h = Holds plans-table h → ⊥
 
@@ -596,6 +618,9 @@ WrongRefused =
     × Refuses waits-between
     × Refuses ends-late
     × Refuses stays-open
+    × Refuses ends-a-tick-late
+    × Refuses taken-unchosen
+    × Refuses begins-a-tick-late
     × (AllCompleted third-idle → ⊥)
     × (AllCompleted never-taken → ⊥)
     × (AllCompleted taken-late → ⊥)
