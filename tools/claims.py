@@ -48,7 +48,7 @@ OPERATIONS = {
 GIVEN = {
     "eqb": (2, lambda a, b: a == b), "ltb": (2, lambda a, b: a < b), "leb": (2, lambda a, b: a <= b), "not": (1, lambda a: not a),
     "bit": (1, int), "size": (1, lambda s: s.bit_count()), "member": (2, lambda n, s: bool(s >> n & 1)),
-    "insert": (2, lambda n, s: s | 1 << n),
+    "insert": (2, lambda n, s: s | 1 << n), "remove": (2, lambda n, s: s & ~(1 << n)),
     "length": (1, lambda l: len(unlisted(l))), "min": (2, min), "max": (2, max),
     "getD": (3, at), "replicate": (2, lambda n, value: listed([value] * n)), "take": (2, lambda n, l: listed(unlisted(l)[:n])),
     "drop": (2, lambda n, l: listed(unlisted(l)[n:])),

@@ -16,7 +16,7 @@ from sim.sessions import INSTANT
 from tools.claims import Claims, listed, unlisted
 from tools.happenings import OF_RUNS, Opened, Run
 
-CLAIM = tuple(f"specs/{name}.antt" for name in ("Queries", "Pending", "Releases", "Intervals", "Entries", "Figure", "Claim", "States"))
+CLAIM = tuple(f"specs/{name}.antt" for name in ("Queries", "Pending", "Releases", "Intervals", "Copying", "Entries", "Figure", "Claim", "States"))
 HISTORIES = "specs/Histories.antt"
 
 # The fields that are computed: what is left out speaks of the steps within an instant, or only that the empty sets come to an end.

@@ -28,6 +28,7 @@ use Rattle.guarantees.proofs.Closings.{all-done}
 use Rattle.guarantees.proofs.Courses.{proceeds, Follows, courses}
 use Rattle.guarantees.proofs.Causes.{cause}
 use Rattle.guarantees.proofs.Reasons.{reasoned}
+use Rattle.guarantees.proofs.Choices.{all-copies}
 use Rattle.guarantees.proofs.Known.{AllKnown, begins-known, completes-known, all-known}
 use Rattle.guarantees.proofs.Serving.{all-served-jobs}
 use Rattle.guarantees.proofs.Deferred.{taken-small, deferred-small, taken-later}
@@ -72,6 +73,7 @@ module _ (table : Table) (marks : ℕ) (fair : Fair table marks) where
     each-taking = λ before after n t m e. released-in (table .priority) h before after n t m in-turn e .1;
     each-execution = λ before after n t l e. execution-in (table .columns) n h before after t l (executed table marks fair calls) e;
     each-interval = proceeds (table .priority) h (follows calls .executing);
+    each-copyin = all-copies table marks fair calls;
     each-cause = λ before after n e. unfold opened in cause (table .priority) calls (opened table marks) refl before after n e;
     each-start = λ before after n s e. started-so (table .columns) h (executed table marks fair calls) before after n s e;
     each-stop = λ before after n u e. stopped-so (table .columns) h (executed table marks fair calls) before after n u e;

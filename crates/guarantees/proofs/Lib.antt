@@ -43,6 +43,7 @@ pub mod Marks
 pub mod Courses
 pub mod Causes
 pub mod Reasons
+pub mod Choices
 pub mod Serving
 pub mod Arithmetic
 pub mod Chosen

@@ -66,7 +66,7 @@ f-decided : (s : Stage) (t : ℕ) → DecidedAt (s .state .phase) → DecidedAt 
 unfolding close
 f-decided s t h = b-cases (λ x. DecidedAt (x .phase)) s t (λ i e o. h) (λ next outgoing e. h) (λ i e o. tt)
 
-pub f-open : (s : Stage) (t : ℕ) → OpenAt (step-b s t (s .state .phase) .state .phase)
+f-open : (s : Stage) (t : ℕ) → OpenAt (step-b s t (s .state .phase) .state .phase)
 unfolding close
 f-open s t = b-cases (λ x. OpenAt (x .phase)) s t (λ i e o. subst OpenAt (sym e) o) (λ next outgoing e. subst OpenAt (sym e) tt) (λ i e o. tt)
 

@@ -4,6 +4,7 @@ pub mod Queries
 pub mod Pending
 pub mod Releases
 pub mod Intervals
+pub mod Copying
 pub mod Entries
 pub mod Figure
 pub mod Claim

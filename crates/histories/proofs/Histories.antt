@@ -28,7 +28,7 @@ use Rattle.guarantees.specs.Queries.{details, is-task, takes, completes, after,
 use Rattle.guarantees.specs.Figure.{greatest, longest-interval, not-lower-in, before-start}
 use Rattle.guarantees.specs.Claim.{Holds, Completed, TakenLater, AllCompleted, Claim, Demand3}
 use Rattle.sets.proofs.Laws.{by-test, same-task}
-use Rattle.histories.specs.Histories.{task, tasks, three, plans-table, spaced-tasks, spaced-table, AcceptsOf, Accepts, Refuses, PlansAccepted, WrongRefused, calls-a, history-a, calls-b, history-b, calls-c, history-c, calls-d, history-d, calls-e, history-e, calls-f, history-f, calls-f′, history-f′, calls-waiting, history-waiting, second-lower, second-finished, thrown-out-runs, third-idle, third-lower, copyout-late, four-intervals, copyout-not-at-once, completion-late, completion-missing, completion-unexecuted, begins-late, no-ticks, not-executed, loaded-late, promoted-early, execution-long, promoted-unmarked, starts-unasked, starts-twice, stops-unstarted, cut-short, one-waits, never-taken, two-wait, waited-unexecuted, before-13, before-17, job-1, Tells, OneEntry, WaitedEntry, taken-late, waits-for-nothing, taken-twice, completed-twice, runs-unreleased, executed-again, another-tick, instants-fall, nobody-promoted, promoted-late, promoted-beside-the-loaded, begins-twice, ends-twice, finishes-twice, gives-way-twice, FigureRefuses, FigureTells, unmarked-in-four, marked-in-three, marked-behind-idle, marked-idles, lasts-long, open-long, completes-behind-two, unmarked-late, marked-late, between-unstarted, between-unstopped, Marks, calls-one, taken-another, up-to-5, ReleasesRefused, calls-skipped, history-skipped, calls-third, history-third, RefusesSpaced, taken-at-0, SpacingsAccepted, SpacingsRefused, LastReleases, PlanEntries, waits-between, ends-late, stays-open, ends-a-tick-late, taken-unchosen, begins-a-tick-late, calls-unmarked, history-unmarked, BoundsMet}
+use Rattle.histories.specs.Histories.{task, tasks, three, plans-table, spaced-tasks, spaced-table, AcceptsOf, Accepts, Refuses, PlansAccepted, WrongRefused, calls-a, history-a, calls-b, history-b, calls-c, history-c, calls-d, history-d, calls-e, history-e, calls-f, history-f, calls-f′, history-f′, calls-waiting, history-waiting, second-lower, second-finished, thrown-out-runs, third-idle, third-lower, copyout-late, four-intervals, copyout-not-at-once, completion-late, completion-missing, completion-unexecuted, begins-late, no-ticks, not-executed, loaded-late, promoted-early, execution-long, promoted-unmarked, starts-unasked, starts-twice, stops-unstarted, cut-short, one-waits, never-taken, two-wait, waited-unexecuted, before-13, before-17, job-1, Tells, OneEntry, WaitedEntry, taken-late, waits-for-nothing, taken-twice, completed-twice, runs-unreleased, executed-again, another-tick, instants-fall, nobody-promoted, promoted-late, promoted-beside-the-loaded, begins-twice, ends-twice, finishes-twice, gives-way-twice, FigureRefuses, FigureTells, unmarked-in-four, marked-in-three, marked-behind-idle, marked-idles, lasts-long, open-long, completes-behind-two, unmarked-late, marked-late, between-unstarted, between-unstopped, Marks, calls-one, taken-another, up-to-5, ReleasesRefused, calls-skipped, history-skipped, calls-third, history-third, RefusesSpaced, taken-at-0, SpacingsAccepted, SpacingsRefused, LastReleases, PlanEntries, waits-between, ends-late, stays-open, ends-a-tick-late, taken-unchosen, ends-behind-a-taking, begins-a-tick-late, lower-chosen, nobody-chosen, copyin-short, copyin-overdue, cancelled-at-its-end, gives-way-unchosen, calls-unmarked, history-unmarked, BoundsMet}
 use Rattle.guarantees.specs.Intervals.{ended}
 use Rattle.guarantees.specs.Entries.{lower-in, handed-in, marked-by}
 use Rattle.guarantees.specs.Queries.{until}
@@ -391,6 +391,37 @@ refuses-begins-a-tick-late : Refuses begins-a-tick-late
 unfolding begins-a-tick-late first after
 refuses-begins-a-tick-late h = other-tick 3 2 (λ e. omega arith) (h .each-next (take 5 begins-a-tick-late) (drop 6 begins-a-tick-late) 1 2 (omega arith) refl refl)
 
+refuses-ends-behind-a-taking : Refuses ends-behind-a-taking
+unfolding ends-behind-a-taking after
+refuses-ends-behind-a-taking h = false≢true (h .each-reason (take 11 ends-behind-a-taking) (drop 12 ends-behind-a-taking) 5 refl)
+
+refuses-lower-chosen : Refuses lower-chosen
+unfolding lower-chosen after plans-table three Sets.member Sets.below Sets.collect Sets.insert Sets.remove Order.better Order.highest-below Order.highest
+refuses-lower-chosen h = other-task 2 3 (λ e. omega arith) (h .each-copyin .each-finish (take 5 lower-chosen) (drop 6 lower-chosen) 3 refl .1)
+
+refuses-nobody-chosen : Refuses nobody-chosen
+unfolding nobody-chosen after plans-table three Sets.member Sets.below Sets.collect Sets.insert Sets.remove Order.better Order.highest-below Order.highest
+refuses-nobody-chosen h = no-task 3 (h .each-copyin .each-end (take 11 nobody-chosen) (drop 12 nobody-chosen) 6 refl)
+
+refuses-copyin-short : Refuses copyin-short
+unfolding copyin-short after plans-table three Sets.member Sets.below Sets.collect Sets.insert Sets.remove Order.better Order.highest-below Order.highest
+refuses-copyin-short h =
+    let x : (c : ℕ) × (Task 1 ≡ Task 1) × (Tick 0 ≡ Tick c) × (Tick 1 ≡ Tick (c + 2)) = h .each-copyin .each-finish (take 4 copyin-short) (drop 5 copyin-short) 1 refl in
+    let c : 0 ≡ x .0 = let z : Tick 0 ≡ Tick (x .0) = x .2 in cc in
+    other-tick 1 (x .0 + 2) (λ e. omega arith) (x .3)
+
+refuses-copyin-overdue : Refuses copyin-overdue
+unfolding copyin-overdue after plans-table three Sets.member Sets.below Sets.collect Sets.insert Sets.remove Order.better Order.highest-below Order.highest
+refuses-copyin-overdue h = let x : 4 ≤ 0 + 2 = h .each-copyin .each-instant (take 3 copyin-overdue) (drop 4 copyin-overdue) 1 4 0 refl refl refl refl in omega arith
+
+refuses-cancelled-at-its-end : Refuses cancelled-at-its-end
+unfolding cancelled-at-its-end after plans-table three Sets.member Sets.below Sets.collect Sets.insert Sets.remove Order.better Order.highest-below Order.highest
+refuses-cancelled-at-its-end h = h .each-copyin .each-giving (take 11 cancelled-at-its-end) (drop 12 cancelled-at-its-end) 2 2 refl .1 refl refl refl
+
+refuses-gives-way-unchosen : Refuses gives-way-unchosen
+unfolding gives-way-unchosen after plans-table three Sets.member Sets.below Sets.collect Sets.insert Sets.remove Order.better Order.highest-below Order.highest
+refuses-gives-way-unchosen h = other-task 3 2 (λ e. omega arith) (h .each-copyin .each-giving (take 6 gives-way-unchosen) (drop 7 gives-way-unchosen) 2 0 refl .0)
+
 pub wrong-refused : WrongRefused
 unfolding WrongRefused
 wrong-refused = (
@@ -438,7 +469,14 @@ wrong-refused = (
   refuses-stays-open,
   refuses-ends-a-tick-late,
   refuses-taken-unchosen,
+  refuses-ends-behind-a-taking,
   refuses-begins-a-tick-late,
+  refuses-lower-chosen,
+  refuses-nobody-chosen,
+  refuses-copyin-short,
+  refuses-copyin-overdue,
+  refuses-cancelled-at-its-end,
+  refuses-gives-way-unchosen,
   refuses-incomplete,
   refuses-never-taken,
   refuses-late-taking,

@@ -564,12 +564,57 @@ taken-unchosen =
     Comes 6 ∷ Stops 2 6 ∷ Ends 6 ∷ Begins 6 NoTask (Task 2) ∷
     Comes 7 ∷ Completes 2 7 ∷ Takes 2 7 false ∷ Ends 7 ∷ Begins 7 NoTask NoTask ∷ []
 
+-- plan C with a release of 2 at 5 that is taken before the interval that ends then has
+unfoldable pub ends-behind-a-taking : List Event
+ends-behind-a-taking =
+    Comes 0 ∷ Takes 1 0 true ∷ Begins 0 NoTask NoTask ∷
+    Comes 2 ∷ Finishes 1 ∷ Ends 2 ∷ Begins 2 (Task 1) NoTask ∷ Starts 1 2 ∷
+    Comes 5 ∷ Stops 1 5 ∷ Takes 2 5 false ∷ Ends 5 ∷ Begins 5 NoTask (Task 1) ∷ []
+
 -- plan C, where the processor waits a tick though a job is loaded
 unfoldable pub begins-a-tick-late : List Event
 begins-a-tick-late =
     Comes 0 ∷ Takes 1 0 true ∷ Begins 0 NoTask NoTask ∷
     Comes 2 ∷ Finishes 1 ∷ Ends 2 ∷
     Comes 3 ∷ Begins 3 (Task 1) NoTask ∷ Starts 1 3 ∷ []
+
+-- R2: the engine copies in the lower of two ready jobs
+unfoldable pub lower-chosen : List Event
+lower-chosen =
+    Comes 0 ∷ Takes 2 0 false ∷ Takes 3 0 false ∷ Begins 0 NoTask NoTask ∷
+    Comes 2 ∷ Finishes 3 ∷ []
+
+-- or nobody, though 3 is ready at 2
+unfoldable pub nobody-chosen : List Event
+nobody-chosen =
+    Comes 0 ∷ Takes 2 0 false ∷ Begins 0 NoTask NoTask ∷
+    Comes 2 ∷ Finishes 2 ∷ Ends 2 ∷ Takes 3 2 false ∷ Begins 2 (Task 2) NoTask ∷ Starts 2 2 ∷
+    Comes 6 ∷ Stops 2 6 ∷ Ends 6 ∷ Begins 6 NoTask (Task 2) ∷ []
+
+-- plan C with a copy-in of one tick
+unfoldable pub copyin-short : List Event
+copyin-short =
+    Comes 0 ∷ Takes 1 0 true ∷ Begins 0 NoTask NoTask ∷
+    Comes 1 ∷ Finishes 1 ∷ Ends 1 ∷ Begins 1 (Task 1) NoTask ∷ Starts 1 1 ∷ []
+
+-- and with one that is under way at 4
+unfoldable pub copyin-overdue : List Event
+copyin-overdue =
+    Comes 0 ∷ Takes 1 0 true ∷ Begins 0 NoTask NoTask ∷
+    Comes 4 ∷ []
+
+-- 2/13: plan B, where the copy-in of 2, which ends at 4, gives way as one under way
+unfoldable pub cancelled-at-its-end : List Event
+cancelled-at-its-end =
+    Comes 0 ∷ Takes 3 0 false ∷ Begins 0 NoTask NoTask ∷
+    Comes 2 ∷ Finishes 3 ∷ Ends 2 ∷ Takes 2 2 false ∷ Begins 2 (Task 3) NoTask ∷ Starts 3 2 ∷
+    Comes 4 ∷ Takes 1 4 true ∷ GivesWay 2 ∷ []
+
+-- a job gives way that the engine does not copy in
+unfoldable pub gives-way-unchosen : List Event
+gives-way-unchosen =
+    Comes 0 ∷ Takes 3 0 false ∷ Begins 0 NoTask NoTask ∷
+    Comes 1 ∷ Takes 1 1 true ∷ Takes 2 1 false ∷ GivesWay 2 ∷ Ends 1 ∷ Begins 1 (Task 1) NoTask ∷ []
 
 abbrev pub Refuses : List Event → Type 0
 Refuses h = Holds plans-table h → ⊥
@@ -620,7 +665,14 @@ WrongRefused =
     × Refuses stays-open
     × Refuses ends-a-tick-late
     × Refuses taken-unchosen
+    × Refuses ends-behind-a-taking
     × Refuses begins-a-tick-late
+    × Refuses lower-chosen
+    × Refuses nobody-chosen
+    × Refuses copyin-short
+    × Refuses copyin-overdue
+    × Refuses cancelled-at-its-end
+    × Refuses gives-way-unchosen
     × (AllCompleted third-idle → ⊥)
     × (AllCompleted never-taken → ⊥)
     × (AllCompleted taken-late → ⊥)

@@ -1,0 +1,857 @@
+-- What the engine copies in, by the history: the job that is highest when the engine becomes free, for as long as its copy-in lasts; step by step and along the
+-- calls.
+use Rattle.guarantees.specs.Types.{_≡_, refl, sym, ap, _∙_, subst, Bool, true, false, cond, not, _||_, true≢false, false≢true, List, [], _∷_, _++_, append-assoc, _⊎_, inl, inr, ⊎-elim, ℕ, zero, suc, _+_, _≤_, _<_, Table, Jobs, MaybeTask, NoTask, Task, Processor, CopyOut, NoCopyOut, CopyingOut, CopiedOut, CopyIn, Unchosen, NoneChosen, Copying, Loaded, Cancelled, Interval, Next, NoneNext, LoadedNext, PromotedNext, Outgoing, NoneOutgoing, AwaitsCopyOut, Phase, Between, Within, State, Stage, NoJob, Job, Due, Never, Tick, Call}
+use mathlib.Core.List.{append-nil}
+use native.Mathlib.Omega.{arith}
+use borrow.Author.Tests.{eqb-true, eqb-false}
+use lib.Dec.{eqb}
+use lib.ListN.{getD}
+use Rattle.table.specs.Table.{copyin-length}
+use Rattle.sets.specs.Sets.{member, union, insert, bit}
+use Rattle.sets.proofs.Laws.{by-test, clash, none, same-task, united, inserted, removed}
+use Rattle.rules.specs.With.{at-clock, later}
+use Rattle.rules.specs.Order.{highest, highest-of}
+use Rattle.rules.specs.Calls.{opened}
+use Rattle.rules.specs.Instant.{step-a, without-done, step-b, step-c, step-d, step-e, step-g, cancel, choose, choose-if, close, close-stage, over, settled, copying-out, copyin-at, copyout-at, ended, completed, job-entry, begin, begin-processor, begin-copyout, wanted, processor-task, copyout-task, with-candidates, steps-c-d, steps-c-to-e, at-a, at-b, at-e, at-f, at-g, taken, taken-at, deferred-at, fresh-stage}
+use Rattle.guarantees.specs.History.{Event, Comes, Starts, Stops, Finishes, Completes, Ends, Takes, Defers, GivesWay, Begins, history, happens, processor-events-in, finish-events, finish-events-in, completion-events, end-events, take-events, defer-events, given-way, giving-events, giving-events-in, begin-events, start-events}
+use Rattle.guarantees.specs.Queries.{details, comes, finishes, ends, gives-way, after, Origin, origin-by}
+use Rattle.guarantees.specs.Pending.{now-by}
+use Rattle.guarantees.specs.Copying.{Choice, no-choice, choice, without-task, ready-by, highest-ready, choice-by, Copies}
+use Rattle.guarantees.proofs.Proper.{Fair}
+use Rattle.guarantees.proofs.Walk.{walk}
+use Rattle.guarantees.proofs.Cases.{HeldFor, held-at, copyin-cases, d-fates, d-cases, e-cases}
+use Rattle.guarantees.proofs.Steps.{Sub, settles}
+use Rattle.guarantees.proofs.Frames.{Frame, frame, at-c, b-frame, d-frame, frame-e, frame-g, pending-g, release-b, waiting-b, release-g, waiting-g, table-b, c-table}
+use Rattle.guarantees.proofs.Highest.{highest-same}
+use Rattle.guarantees.proofs.Releases.{taken-not-pending, passed}
+use Rattle.guarantees.proofs.Settled.{Decided, DecidedAt}
+use Rattle.guarantees.proofs.Events.{by-processor-at, by-takes, by-defers, by-starts, tail-of, happens-parts, front-parts, tail-parts}
+use Rattle.guarantees.proofs.Places.{Parted, copyin-bit, processor-bit, copyout-bit, next-bit, outgoing-bit, stage, rests, no-copyout, a-moves, b-outgoing-bit, b-copyout-bit, g-processor, g-copyout, b-moves, to-b, to-e}
+use Rattle.guarantees.proofs.Origins.{OriginIs, taken-origin, deferred-origin, takes-origin, defers-origin, c-origin, opened-origin}
+use Rattle.guarantees.proofs.Deferred.{at-task}
+use Rattle.guarantees.proofs.Served.{Served-at, served-at}
+use Rattle.guarantees.proofs.Invariant.{Good, good-opened, good-next, good-quiet}
+use Rattle.guarantees.proofs.Times.{Times, copyin-times}
+use Rattle.guarantees.proofs.CopyOuts.{Both, begun-both, Plain, plain}
+use Rattle.guarantees.proofs.Courses.{gives-same}
+use Rattle.guarantees.proofs.Causes.{c-same, e-same}
+
+module _ (pr columns : List ℕ) where
+  -- ---- along a history
+
+  abbrev So : Choice → Due → Event → Type 0
+  So x w e =
+      ((n : ℕ) → finishes e ≡ true → details e .task ≡ Task n → (c : ℕ) × (x .pick ≡ Task n) × (x .free ≡ Tick c) × (w ≡ Tick (c + copyin-length columns n)))
+      × ((n c : ℕ) → gives-way e ≡ true → details e .task ≡ Task n → (x .pick ≡ Task n) × (x .seen ≡ NoTask → x .free ≡ Tick c → w ≡ Tick (c + copyin-length columns n) → ⊥))
+      × (ends e ≡ true → x .seen ≡ x .pick)
+      × ((n c : ℕ) → comes e ≡ true → x .pick ≡ Task n → x .seen ≡ NoTask → x .free ≡ Tick c → details e .tick ≤ c + copyin-length columns n)
+
+  unfoldable pub Chosen : Choice → Due → List Event → Type 0
+  Chosen x w [] = Unit {0}
+  Chosen x w (e ∷ es) = So x w e × Chosen (choice-by pr x e) (now-by w e) es
+
+  so-at : (before rest : List Event) (e : Event) (x : Choice) (w : Due) → Chosen x w (before ++ (e ∷ rest)) → So (after (choice-by pr) x before) (after now-by w before) e
+  unfolding Chosen after
+  so-at [] rest e x w h = h .0
+  so-at (y ∷ before) rest e x w h = so-at before rest e (choice-by pr x y) (now-by w y) (h .1)
+
+  pub copies : (h : List Event) → Chosen no-choice Never h → Copies pr columns h
+  copies h x = record {
+    each-finish = λ before after n e. at before (Finishes n) after e .0 n refl refl;
+    each-giving = λ before after n c e. at before (GivesWay n) after e .1 n c refl refl;
+    each-instant = λ before after n t c e. at before (Comes t) after e .3 n c refl;
+    each-end = λ before after t e. at before (Ends t) after e .2 refl;
+  }
+    where
+      at : (before : List Event) (e : Event) (es : List Event) → h ≡ before ++ (e ∷ es) → So (choice pr before) (after now-by Never before) e
+      at before e es z = so-at before es e no-choice Never (subst (Chosen no-choice Never) z x)
+
+  not-so {ℓ} : {A : Type ℓ} (b : Bool) → b ≡ false → b ≡ true → A
+  not-so b e f = absurd (true≢false (sym f ∙ e))
+
+  on : (e : Event) → finishes e ≡ false → gives-way e ≡ false → ends e ≡ false → comes e ≡ false → (x : Choice) (w : Due) (es : List Event) → Chosen (choice-by pr x e) (now-by w e) es → Chosen x w (e ∷ es)
+  unfolding Chosen
+  on e a b c d x w es h = (((λ n y z. not-so (finishes e) a y), (λ n i y z. not-so (gives-way e) b y), (λ y. not-so (ends e) c y), (λ n i y. not-so (comes e) d y)), h)
+
+  -- ---- what agrees with the state
+
+  abbrev spots : ℕ → Phase → ℕ
+  spots k (Between next outgoing) = outgoing-bit k outgoing
+  spots k (Within i) = processor-bit k (i .processor) + copyout-bit k (i .copyout)
+
+  -- a pending job is to be executed, or on the processor or being copied out
+  abbrev Readies : Choice → ℕ → Phase → Type 0
+  Readies x pending p = (k : ℕ) → k < 32 → bit (member k (x .ready)) + spots k p ≡ bit (member k pending)
+
+  -- what the engine copies in
+  abbrev Run : Choice → CopyOut → CopyIn → Type 0
+  Run x o Unchosen = (x .pick ≡ NoTask) × (x .seen ≡ NoTask)
+  Run x o NoneChosen = (copying-out o ≡ false) × (x .pick ≡ NoTask) × (x .seen ≡ NoTask)
+  Run x o (Copying n until) = (copying-out o ≡ false) × (x .pick ≡ Task n) × ((c : ℕ) × (x .free ≡ Tick c) × (until ≡ later c (copyin-length columns n)))
+  Run x o (Loaded n) = (copying-out o ≡ false) × (x .pick ≡ Task n) × (x .seen ≡ Task n)
+  Run x o (Cancelled n fate) = (copying-out o ≡ false) × (x .pick ≡ Task n) × (x .seen ≡ Task n)
+
+  abbrev Runs : Choice → Phase → Type 0
+  Runs x (Between next outgoing) = x .seen ≡ x .pick
+  Runs x (Within i) = Run x (i .copyout) (i .copyin)
+
+  -- the job that is highest by what was taken so far
+  abbrev Picks : Choice → Type 0
+  Picks x = x .pick ≡ highest pr (λ n. x .origins n .since) (x .ready)
+
+  -- the same jobs
+  record Like (x y : Choice) : Type 0 where
+    ready : y .ready ≡ x .ready
+    origins : (k : ℕ) → y .origins k ≡ x .origins k
+
+  like : (x : Choice) → Like x x
+  like x = record { ready = refl; origins = λ k. refl }
+
+  exact : (c l : ℕ) → later c l ≤ 3000000000 → later c l ≡ c + l
+  exact c l h = omega arith
+
+  -- between the instants
+  record Agrees (x : Choice) (d : State) : Type 0 where
+    readies : Readies x (d .jobs .pending) (d .phase)
+    origins : (k : ℕ) → k < 32 → OriginIs k (x .origins k) (d .jobs .release) (d .waiting)
+    runs : Runs x (d .phase)
+
+  module _ (t : ℕ) where
+    abbrev T : Choice → List Event → Type 0
+    T x es = Chosen x (Tick t) es
+
+    -- the engine is free since this instant and the choice is still to come, or it has not become free at it
+    abbrev FreeNow : Choice → Phase → Type 0
+    FreeNow x (Between next outgoing) = ⊥
+    FreeNow x (Within i) = (i .copyin ≡ Unchosen) × (copying-out (i .copyout) ≡ false) × Picks x × (x .free ≡ Tick t) × (x .seen ≡ NoTask)
+
+    -- a copy-in under way does not end now
+    abbrev Unended : CopyIn → Type 0
+    Unended Unchosen = Unit {0}
+    Unended NoneChosen = Unit {0}
+    Unended (Copying n until) = (eqb until t ≡ false) × (until ≤ 3000000000)
+    Unended (Loaded n) = Unit {0}
+    Unended (Cancelled n fate) = Unit {0}
+
+    abbrev UnendedAt : Phase → Type 0
+    UnendedAt (Between next outgoing) = Unit {0}
+    UnendedAt (Within i) = Unended (i .copyin)
+
+    abbrev Mode : Choice → Phase → Type 0
+    Mode x p = ((x .choosing ≡ true) × FreeNow x p) ⊎ ((x .choosing ≡ false) × Runs x p × DecidedAt p × UnendedAt p)
+
+    -- ---- a
+
+    finish-chosen : (x : Choice) (o : CopyOut) (c : CopyIn) (ys : List Event) → Run x o c → Decided c o → copyin-times Plain c
+        → ((y : Choice) → Like x y → y .choosing ≡ x .choosing → Run y o (copyin-at t c) → Decided (copyin-at t c) o → Unended (copyin-at t c) → T y ys) → T x (finish-events t c ++ ys)
+    unfolding finish-events
+    finish-chosen x o Unchosen ys r u p k = k x (like x) refl r u tt
+    finish-chosen x o NoneChosen ys r u p k = k x (like x) refl r u tt
+    finish-chosen x o (Loaded n) ys r u p k = k x (like x) refl r u tt
+    finish-chosen x o (Cancelled n fate) ys r u p k = k x (like x) refl r u tt
+    finish-chosen x o (Copying n until) ys r u p k = go (eqb until t) refl k
+      where
+        at-its-end : eqb until t ≡ true → (m : ℕ) → Task n ≡ Task m → (c : ℕ) × (x .pick ≡ Task m) × (x .free ≡ Tick c) × (Tick t ≡ Tick (c + copyin-length columns m))
+        at-its-end e m z =
+            let c : ℕ = r .2 .0 in
+            let l : later c (copyin-length columns n) ≡ c + copyin-length columns n = exact c (copyin-length columns n) (subst (λ (y : ℕ). y ≤ 3000000000) (r .2 .2) p) in
+            let same : n ≡ m = cc in
+            (c, r .1 ∙ z, r .2 .1, ap Tick (sym (eqb-true until t e) ∙ r .2 .2 ∙ l ∙ ap (λ (j : ℕ). c + copyin-length columns j) same))
+
+        go : (b : Bool) → eqb until t ≡ b
+            → ((y : Choice) → Like x y → y .choosing ≡ x .choosing → Run y o (cond b (Loaded n) (Copying n until)) → Decided (cond b (Loaded n) (Copying n until)) o → Unended (cond b (Loaded n) (Copying n until)) → T y ys)
+            → T x (cond b (Finishes n ∷ []) [] ++ ys)
+        go true e k =
+            unfold Chosen in (
+              ((λ m y z. at-its-end e m z), (λ n i y. absurd (false≢true y)), (λ y. absurd (false≢true y)), (λ n i y. absurd (false≢true y))),
+              k (choice-by pr x (Finishes n)) (record { ready = refl; origins = λ j. refl }) refl (r .0, r .1, refl) tt tt,
+            )
+        go false e k = k x (like x) refl r tt (e, p)
+
+    -- while the engine copies out nobody is chosen
+    unchosen : (x : Choice) (o : CopyOut) (c : CopyIn) → Run x o c → copying-out o ≡ true → (c ≡ Unchosen) × (x .seen ≡ NoTask)
+    unchosen x o Unchosen r e = (refl, r .1)
+    unchosen x o NoneChosen r e = clash (copying-out o) e (r .0)
+    unchosen x o (Copying n until) r e = clash (copying-out o) e (r .0)
+    unchosen x o (Loaded n) r e = clash (copying-out o) e (r .0)
+    unchosen x o (Cancelled n fate) r e = clash (copying-out o) e (r .0)
+
+    completion-chosen : (x : Choice) (j : Jobs) (o : CopyOut) (c : CopyIn) (i : Interval) (ys : List Event) → i .copyin ≡ c → i .copyout ≡ copyout-at t o → x .choosing ≡ false → Run x o c → Decided c o → Unended c
+        → ((y : Choice) → Like x y → Mode y (Within i) → T y ys) → T x (completion-events (completed j t o) ++ ys)
+    unfolding completion-events completed copyout-at
+    completion-chosen x j NoCopyOut c i ys a b e r u v k = k x (like x) (inr (e, rw (a, b) r, rw (a, b) u, rw a v))
+    completion-chosen x j (CopiedOut n) c i ys a b e r u v k = k x (like x) (inr (e, rw (a, b) r, rw (a, b) u, rw a v))
+    completion-chosen x j (CopyingOut n start until) c i ys a b e r u v k = go (eqb until t) b
+      where
+        go : (z : Bool) → i .copyout ≡ cond z (CopiedOut n) (CopyingOut n start until) → T x (completion-events (cond z (Job (job-entry j n start t)) NoJob) ++ ys)
+        go true b =
+            let z = unchosen x (CopyingOut n start until) c r refl in
+            on (Completes n t) refl refl refl refl x (Tick t) ys
+            (k (choice-by pr x (Completes n t)) (record { ready = refl; origins = λ j. refl }) (inl (refl, (a ∙ z .0, ap copying-out b, refl, refl, z .1))))
+        go false b = k x (like x) (inr (e, rw (a, b) r, rw (a, b) u, rw a v))
+
+    module _ (present : ℕ) (tasks : present < 4294967296) where
+      likewise : (x y z : Choice) → Like x y → Like y z → Like x z
+      likewise x y z a b = record { ready = b .ready ∙ a .ready; origins = λ k. b .origins k ∙ a .origins k }
+
+      copyin-same : (k : ℕ) (c : CopyIn) → copyin-bit k (copyin-at t c) ≡ copyin-bit k c
+      copyin-same k c = copyin-cases t (λ y. copyin-bit k y ≡ copyin-bit k c) c refl (λ n u e x. ap (copyin-bit k) (sym e))
+
+      a-left : (d : State) (i : Interval) (x : Choice) → d .phase ≡ Within i → Parted present tasks d (Within i) → Readies x (d .jobs .pending) (Within i)
+          → Readies x (step-a d t (Within i) .state .jobs .pending) (step-a d t (Within i) .state .phase)
+      a-left d i x e h readies j l = go (a-moves present tasks d t (Within i) e h .parted .parts j l)
+        where
+          go : let s : State = step-a d t (Within i) .state in bit (member j (s .jobs .pending)) ≡ bit (member j (s .jobs .ready)) + stage j (s .phase)
+              → bit (member j (x .ready)) + spots j (s .phase) ≡ bit (member j (s .jobs .pending))
+          go = unfold step-a ended without-done in λ z. omega (arith, readies j l, h .parts j l, copyin-same j (i .copyin))
+
+      a-phase : (d : State) (p : Phase) (x : Choice) (ys : List Event) → d .phase ≡ p → Parted present tasks d p → Times Plain p → Readies x (d .jobs .pending) p → Runs x p → DecidedAt p → x .choosing ≡ false
+          → ((y : Choice) → Like x y → Readies y (step-a d t p .state .jobs .pending) (step-a d t p .state .phase) → Mode y (step-a d t p .state .phase) → T y ys)
+          → T x (finish-events-in t p ++ (completion-events (step-a d t p .done) ++ ys))
+      unfolding finish-events-in step-a completion-events
+      a-phase d (Between next outgoing) x ys e h times readies runs decided c k =
+          k x (like x) (subst (Readies x (d .jobs .pending)) (sym e) readies) (inr (c, subst (Runs x) (sym e) runs, subst DecidedAt (sym e) tt, subst UnendedAt (sym e) tt))
+      a-phase d (Within i) x ys e h times readies runs decided c k =
+          finish-chosen x (i .copyout) (i .copyin) (completion-events (completed (d .jobs) t (i .copyout)) ++ ys) runs decided (times .2)
+          (λ y a z r u v. completion-chosen y (d .jobs) (i .copyout) (copyin-at t (i .copyin)) (ended (d .table) t i) ys (unfold ended in refl) (unfold ended in refl) (z ∙ c) r u v
+          (λ w b m. k w (likewise x y w a b) (λ j l. ap (λ (r : ℕ). bit (member j r) + spots j (Within (ended (d .table) t i))) (b .ready ∙ a .ready) ∙ a-left d i x e h readies j l) m))
+
+      a-chosen : (d : State) (p : Phase) (x : Choice) (ys : List Event) → d .phase ≡ p → Parted present tasks d p → Times Plain p → Readies x (d .jobs .pending) p → Runs x p → DecidedAt p → x .choosing ≡ false
+          → ((y : Choice) → Like x y → Readies y (step-a d t p .state .jobs .pending) (step-a d t p .state .phase) → Mode y (step-a d t p .state .phase) → T y ys)
+          → T x (processor-events-in t p ++ (finish-events-in t p ++ (completion-events (step-a d t p .done) ++ ys)))
+      a-chosen d p x ys e h times readies runs decided c k =
+          by-processor-at (T x) t (λ n es z. on (Starts n t) refl refl refl refl x (Tick t) es z) (λ n es z. on (Stops n t) refl refl refl refl x (Tick t) es z) p
+          (finish-events-in t p ++ (completion-events (step-a d t p .done) ++ ys)) (a-phase d p x ys e h times readies runs decided c k)
+
+      -- ---- b
+
+      run-seen : (x : Choice) (o : CopyOut) (c : CopyIn) → settled c ≡ true → Run x o c → x .seen ≡ x .pick
+      run-seen x o Unchosen s r = absurd (false≢true s)
+      run-seen x o NoneChosen s r = r .2 ∙ sym (r .1)
+      run-seen x o (Copying n until) s r = absurd (false≢true s)
+      run-seen x o (Loaded n) s r = r .2 ∙ sym (r .1)
+      run-seen x o (Cancelled n fate) s r = r .2 ∙ sym (r .1)
+
+      ended-seen : (x : Choice) (i : Interval) → over i ≡ true → Mode x (Within i) → (x .seen ≡ x .pick) × (x .choosing ≡ false)
+      ended-seen x i o m =
+          ⊎-elim (λ z. clash (settled (i .copyin)) (settles i o) (ap settled (z .1 .0))) (λ z. (run-seen x (i .copyout) (i .copyin) (settles i o) (z .1), z .0)) m
+
+      b-chosen : (x : Choice) (pending : ℕ) (s : Stage) (p : Phase) (ys : List Event) → s .state .phase ≡ p → Readies x pending p → Mode x p
+          → (Readies x pending (step-b s t p .state .phase) → Mode x (step-b s t p .state .phase) → T x ys) → T x (end-events t p (step-b s t p .state .phase) ++ ys)
+      unfolding step-b close-stage close end-events
+      b-chosen x pending s (Between next outgoing) ys e h m k = k (subst (Readies x pending) (sym e) h) (subst (Mode x) (sym e) m)
+      b-chosen x pending s (Within i) ys e h m k = go (over i) refl k
+        where
+          stays : (q : Phase) → q ≡ Within i → (Readies x pending q → Mode x q → T x ys) → T x (end-events t (Within i) q ++ ys)
+          stays q z k = rw z (k (subst (Readies x pending) (sym z) h) (subst (Mode x) (sym z) m))
+
+          go : (b : Bool) → over i ≡ b → (Readies x pending (close-stage s t i b .state .phase) → Mode x (close-stage s t i b .state .phase) → T x ys)
+              → T x (end-events t (Within i) (close-stage s t i b .state .phase) ++ ys)
+          go true o k =
+              unfold Chosen in (
+                ((λ n y z. absurd (false≢true y)), (λ n j y. absurd (false≢true y)), (λ y. ended-seen x i o m .0), (λ n j y. absurd (false≢true y))),
+                k (λ j l. omega (arith, h j l, b-outgoing-bit present tasks j (i .processor) (rests i o), b-copyout-bit present tasks j (i .copyout) (no-copyout i o))) (inr (ended-seen x i o m .1, ended-seen x i o m .0, tt, tt)),
+              )
+          go false o k = stays (s .state .phase) e k
+
+      -- ---- c
+
+      -- what each event changes, along two lists
+      walked : {S : Type 0} (change : S → Event → S) (xs ys : List Event) (s : S) → after change s (xs ++ ys) ≡ after change (after change s xs) ys
+      unfolding after
+      walked change [] ys s = refl
+      walked change (e ∷ xs) ys s = walked change xs ys (change s e)
+
+      readies-of : (es : List Event) (x : Choice) → after (choice-by pr) x es .ready ≡ after ready-by (x .ready) es
+      unfolding after
+      readies-of [] x = refl
+      readies-of (e ∷ es) x = readies-of es (choice-by pr x e)
+
+      origins-of : (es : List Event) (x : Choice) (k : ℕ) → after (choice-by pr) x es .origins k ≡ after (origin-by k) (x .origins k) es
+      unfolding after
+      origins-of [] x k = refl
+      origins-of (e ∷ es) x k = origins-of es (choice-by pr x e) k
+
+      -- what the takings leave of the choice
+      record Keeps (x y : Choice) : Type 0 where
+        free : y .free ≡ x .free
+        seen : y .seen ≡ x .seen
+        choosing : y .choosing ≡ x .choosing
+        picks : x .choosing ≡ true → Picks x → Picks y
+        keeps : x .choosing ≡ false → y .pick ≡ x .pick
+
+      module _ (taken w : ℕ) where
+        takes-run : (k : ℕ) (x : Choice) (ys : List Event) → T (after (choice-by pr) x (take-events k taken w t)) ys → T x (take-events k taken w t ++ ys)
+        unfolding take-events after
+        takes-run zero x ys h = h
+        takes-run (suc k) x ys h =
+            rw (append-assoc (take-events k taken w t) (cond (member k taken) (Takes k t (member k w) ∷ []) []) ys)
+            (takes-run k x (cond (member k taken) (Takes k t (member k w) ∷ []) [] ++ ys)
+            (go (member k taken) (subst (λ (y : Choice). T y ys) (walked (choice-by pr) (take-events k taken w t) (cond (member k taken) (Takes k t (member k w) ∷ []) []) x) h)))
+          where
+            go : (b : Bool) → T (after (choice-by pr) (after (choice-by pr) x (take-events k taken w t)) (cond b (Takes k t (member k w) ∷ []) [])) ys
+                → T (after (choice-by pr) x (take-events k taken w t)) (cond b (Takes k t (member k w) ∷ []) [] ++ ys)
+            go true h = on (Takes k t (member k w)) refl refl refl refl (after (choice-by pr) x (take-events k taken w t)) (Tick t) ys h
+            go false h = h
+
+        abbrev Kept : List Event → Type 0
+        Kept es = (x : Choice) → Keeps x (after (choice-by pr) x es)
+
+        takes-keep : (x : Choice) → Keeps x (after (choice-by pr) x (take-events 32 taken w t))
+        takes-keep x = subst Kept (append-nil (take-events 32 taken w t)) (by-takes Kept 32 taken w t (λ n l m es h x. one n es x (h (choice-by pr x (Takes n t (member n w))))) [] (λ x. unfold after in record { free = refl; seen = refl; choosing = refl; picks = λ e p. p; keeps = λ e. refl })) x
+          where
+            one : (n : ℕ) (es : List Event) (x : Choice) → Keeps (choice-by pr x (Takes n t (member n w))) (after (choice-by pr) (choice-by pr x (Takes n t (member n w))) es) → Keeps x (after (choice-by pr) x (Takes n t (member n w) ∷ es))
+            one n es x h = unfold after in record {
+              free = h .free;
+              seen = h .seen;
+              choosing = h .choosing;
+              picks = λ e p. h .picks e (ap (λ (b : Bool). cond b (highest-ready pr x (Takes n t (member n w))) (x .pick)) e);
+              keeps = λ e. h .keeps e ∙ ap (λ (b : Bool). cond b (highest-ready pr x (Takes n t (member n w))) (x .pick)) e;
+            }
+
+        takes-ready : (j s : ℕ) → j < 32 → member j (after ready-by s (take-events 32 taken w t)) ≡ (member j s || member j taken)
+        takes-ready j s l =
+            ap (λ (es : List Event). member j (after ready-by s es)) (sym (append-nil (take-events 32 taken w t)))
+            ∙ at-task j taken (λ k. Takes k t (member k w)) (λ k. take-events k taken w t) (unfold take-events in refl) (λ k. unfold take-events in refl) P
+            (λ b k e es h r z. unfold after in h (insert k r) (inserted k r j l ∙ ap (λ (c : Bool). c || member j r) e ∙ z)) (member j s) true
+            (λ m es h r z. unfold after in h (insert j r) (inserted j r j l ∙ ap (λ (c : Bool). c || member j r) (same-task j))) 32 l [] (λ r z. unfold after in z) s refl
+            ∙ either (member j taken) (member j s)
+          where
+            P : Bool → List Event → Type 0
+            P b es = (r : ℕ) → member j r ≡ b → member j (after ready-by r es) ≡ cond (member j taken) true (member j s)
+
+            either : (a b : Bool) → cond a true b ≡ (b || a)
+            either true true = refl
+            either true false = refl
+            either false true = refl
+            either false false = refl
+
+      -- and the releases that are set waiting
+      record Same (x y : Choice) : Type 0 where
+        ready : y .ready ≡ x .ready
+        free : y .free ≡ x .free
+        seen : y .seen ≡ x .seen
+        choosing : y .choosing ≡ x .choosing
+        pick : y .pick ≡ x .pick
+
+      module _ (deferred : ℕ) where
+        defers-run : (k : ℕ) (x : Choice) (ys : List Event) → T (after (choice-by pr) x (defer-events k deferred t)) ys → T x (defer-events k deferred t ++ ys)
+        unfolding defer-events after
+        defers-run zero x ys h = h
+        defers-run (suc k) x ys h =
+            rw (append-assoc (defer-events k deferred t) (cond (member k deferred) (Defers k t ∷ []) []) ys)
+            (defers-run k x (cond (member k deferred) (Defers k t ∷ []) [] ++ ys)
+            (go (member k deferred) (subst (λ (y : Choice). T y ys) (walked (choice-by pr) (defer-events k deferred t) (cond (member k deferred) (Defers k t ∷ []) []) x) h)))
+          where
+            go : (b : Bool) → T (after (choice-by pr) (after (choice-by pr) x (defer-events k deferred t)) (cond b (Defers k t ∷ []) [])) ys
+                → T (after (choice-by pr) x (defer-events k deferred t)) (cond b (Defers k t ∷ []) [] ++ ys)
+            go true h = on (Defers k t) refl refl refl refl (after (choice-by pr) x (defer-events k deferred t)) (Tick t) ys h
+            go false h = h
+
+        abbrev Left : List Event → Type 0
+        Left es = (x : Choice) → Same x (after (choice-by pr) x es)
+
+        defers-same : (x : Choice) → Same x (after (choice-by pr) x (defer-events 32 deferred t))
+        defers-same x =
+            subst Left (append-nil (defer-events 32 deferred t))
+            (by-defers Left 32 deferred t (λ n l m es h x. one n es x (h (choice-by pr x (Defers n t)))) [] (λ x. unfold after in record { ready = refl; free = refl; seen = refl; choosing = refl; pick = refl })) x
+          where
+            one : (n : ℕ) (es : List Event) (x : Choice) → Same (choice-by pr x (Defers n t)) (after (choice-by pr) (choice-by pr x (Defers n t)) es) → Same x (after (choice-by pr) x (Defers n t ∷ es))
+            one n es x h = unfold after in record { ready = h .ready; free = h .free; seen = h .seen; choosing = h .choosing; pick = h .pick }
+
+      -- ---- d, e
+
+      -- from a state c behind its releases: the choice is the state's, or none is made
+      abbrev Ready : Choice → State → Phase → Type 0
+      Ready x c (Between next outgoing) = x .seen ≡ x .pick
+      Ready x c (Within i) =
+          ((i .copyin ≡ Unchosen) × (copying-out (i .copyout) ≡ false) × (x .pick ≡ highest-of c (c .jobs .ready)) × (x .free ≡ Tick t) × (x .seen ≡ NoTask))
+          ⊎ (Run x (i .copyout) (i .copyin) × Decided (i .copyin) (i .copyout) × Unended (i .copyin))
+
+      chosen-runs : (x : Choice) (c : State) (i : Interval) (q : MaybeTask) → c .table .columns ≡ columns → copying-out (i .copyout) ≡ false → x .pick ≡ q → x .free ≡ Tick t → x .seen ≡ NoTask
+          → Runs x (choose c t i q .phase)
+      unfolding choose
+      chosen-runs x c i NoTask e o p f s = (o, p, s)
+      chosen-runs x c i (Task n) e o p f s = (o, p, (t, f, ap (λ (l : List ℕ). later t (copyin-length l n)) e))
+
+      -- step e
+      e-free : (x : Choice) (c : State) (i : Interval) → c .table .columns ≡ columns → i .copyin ≡ Unchosen → copying-out (i .copyout) ≡ false → x .pick ≡ highest-of c (c .jobs .ready)
+          → x .free ≡ Tick t → x .seen ≡ NoTask → Runs x (step-e c t (Within i) .phase)
+      unfolding step-e choose-if
+      e-free x c i e u v p f s =
+          subst (λ (k : CopyIn). Runs x (choose-if c t i k .phase)) (sym u)
+          (subst (λ (b : Bool). Runs x (cond b c (choose c t i (highest-of c (c .jobs .ready))) .phase)) (sym v) (chosen-runs x c i (highest-of c (c .jobs .ready)) e v p f s))
+
+      e-keeps : (x : Choice) (c : State) → DecidedAt (c .phase) → Runs x (c .phase) → Runs x (step-e c t (c .phase) .phase)
+      e-keeps x c d r =
+          e-cases (λ z. Runs x (z .phase)) c t r
+          (λ i p u v. clash (copying-out (i .copyout)) (subst (λ (k : CopyIn). Decided k (i .copyout)) u (subst DecidedAt p d)) v)
+
+      e-runs : (x : Choice) (c : State) → c .table .columns ≡ columns → Ready x c (c .phase) → Runs x (step-e c t (c .phase) .phase)
+      e-runs x c e h = go (c .phase) refl h
+        where
+          go : (p : Phase) → c .phase ≡ p → Ready x c p → Runs x (step-e c t (c .phase) .phase)
+          go (Between next outgoing) p h = e-keeps x c (subst DecidedAt (sym p) tt) (subst (Runs x) (sym p) h)
+          go (Within i) p h =
+              ⊎-elim (λ r. subst (λ (q : Phase). Runs x (step-e c t q .phase)) (sym p) (e-free x c i e (r .0) (r .1) (r .2) (r .3) (r .4)))
+              (λ r. e-keeps x c (subst DecidedAt (sym p) (r .1)) (subst (Runs x) (sym p) (r .0))) h
+
+      -- one that gives way under way does so before its end
+      abbrev Early : Choice → ℕ → Type 0
+      Early x n = (c : ℕ) → x .seen ≡ NoTask → x .free ≡ Tick c → Tick t ≡ Tick (c + copyin-length columns n) → ⊥
+
+      abbrev Gave : Choice → State → State → Type 0
+      Gave x c z = ((n : ℕ) × (giving-events-in (c .phase) (z .phase) ≡ GivesWay n ∷ []) × (x .pick ≡ Task n) × Early x n × Ready (choice-by pr x (GivesWay n)) z (z .phase)) ⊎ (z ≡ c)
+
+      cancelled : (x : Choice) (c : State) (i : Interval) (n fate : ℕ) → copying-out (i .copyout) ≡ false → x .pick ≡ Task n
+          → let z : State = cancel c i n fate true in Ready (choice-by pr x (GivesWay n)) z (z .phase)
+      unfolding cancel
+      cancelled x c i n fate o p = inr ((o, p, refl), tt, tt)
+
+      d-gave : (x : Choice) (c : State) (taken : ℕ) → Ready x c (c .phase) → Gave x c (step-d c taken (c .phase))
+      d-gave x c taken h = d-fates (Gave x c) c taken (inr refl) (λ i n fate p held b. inl (gives i n fate p held (subst (Ready x c) p h)))
+        where
+          gives-it : (i : Interval) (n fate : ℕ) → HeldFor (i .copyin) n fate → giving-events-in (Within i) (cancel c i n fate true .phase) ≡ GivesWay n ∷ []
+          gives-it i n fate h =
+              unfold cancel giving-events-in giving-events in
+              ⊎-elim (λ z. ap (λ (c : CopyIn). giving-events (given-way c) (Task n)) (z .1)) (λ z. ap (λ (c : CopyIn). giving-events (given-way c) (Task n)) (z .0)) h
+
+          held-run : (i : Interval) (n fate : ℕ) → HeldFor (i .copyin) n fate → Ready x c (Within i) → (copying-out (i .copyout) ≡ false) × (x .pick ≡ Task n) × Early x n
+          held-run i n fate held r =
+              ⊎-elim (λ a. ⊎-elim (λ z. absurd (true≢false (ap is-unchosen (sym (a .0) ∙ z .1)))) (λ z. absurd (true≢false (ap is-unchosen (sym (a .0) ∙ z .0)))) held)
+              (λ a. ⊎-elim (λ z. copying (z .0) (z .1) (a .0) (a .2)) (λ z. loaded (z .0) (a .0)) held) r
+            where
+              early : (until b c : ℕ) → until ≡ later b (copyin-length columns n) → eqb until t ≡ false → until ≤ 3000000000 → Tick b ≡ Tick c → Tick t ≡ Tick (c + copyin-length columns n) → ⊥
+              early until b c e u l f z =
+                  let same : b ≡ c = cc in
+                  let now : t ≡ c + copyin-length columns n = cc in
+                  eqb-false until t u (e ∙ exact b (copyin-length columns n) (subst (λ (y : ℕ). y ≤ 3000000000) e l) ∙ ap (λ (j : ℕ). j + copyin-length columns n) same ∙ sym now)
+
+              no-task : (n : ℕ) → NoTask ≡ Task n → ⊥
+              no-task n e = let z : _≡_ {A = ℕ} 0 1 = cc in omega arith
+
+              is-unchosen : CopyIn → Bool
+              is-unchosen Unchosen = true
+              is-unchosen NoneChosen = false
+              is-unchosen (Copying n until) = false
+              is-unchosen (Loaded n) = false
+              is-unchosen (Cancelled n fate) = false
+
+              copying : (until : ℕ) → i .copyin ≡ Copying n until → Run x (i .copyout) (i .copyin) → Unended (i .copyin) → (copying-out (i .copyout) ≡ false) × (x .pick ≡ Task n) × Early x n
+              copying until e r u =
+                  let y : Run x (i .copyout) (Copying n until) = subst (Run x (i .copyout)) e r in
+                  let v : Unended (Copying n until) = subst Unended e u in
+                  (y .0, y .1, λ c s f z. early until (y .2 .0) c (y .2 .2) (v .0) (v .1) (sym (y .2 .1) ∙ f) z)
+
+              loaded : i .copyin ≡ Loaded n → Run x (i .copyout) (i .copyin) → (copying-out (i .copyout) ≡ false) × (x .pick ≡ Task n) × Early x n
+              loaded e r = let y : Run x (i .copyout) (Loaded n) = subst (Run x (i .copyout)) e r in (y .0, y .1, λ c s f z. absurd (no-task n (sym s ∙ y .2)))
+
+          gives : (i : Interval) (n fate : ℕ) → c .phase ≡ Within i → HeldFor (i .copyin) n fate → Ready x c (Within i)
+              → let z : State = cancel c i n fate true in (m : ℕ) × (giving-events-in (c .phase) (z .phase) ≡ GivesWay m ∷ []) × (x .pick ≡ Task m) × Early x m × Ready (choice-by pr x (GivesWay m)) z (z .phase)
+          gives i n fate p held r =
+              let h : (copying-out (i .copyout) ≡ false) × (x .pick ≡ Task n) × Early x n = held-run i n fate held r in
+              (n, subst (λ (q : Phase). giving-events-in q (cancel c i n fate true .phase) ≡ GivesWay n ∷ []) (sym p) (gives-it i n fate held), h .1, h .2, cancelled x c i n fate (h .0) (h .1))
+
+      -- step c
+      c-ready : (x : Choice) (b c : State) (taken : ℕ) (p : Phase) → Ready x c p → Ready x c (with-candidates b taken p)
+      unfolding with-candidates
+      c-ready x b c taken (Between next outgoing) h = h
+      c-ready x b c taken (Within i) h = h
+
+      gives-chosen : (x : Choice) (b : State) (taken deferred : ℕ) (ys : List Event) → step-c b t taken deferred .table .columns ≡ columns
+          → (let c : State = step-c b t taken deferred in Ready x c (c .phase))
+          → ((y : Choice) → Like x y → Runs y (steps-c-to-e b t taken deferred .phase) → T y ys)
+          → T x (giving-events-in (b .phase) (steps-c-to-e b t taken deferred .phase) ++ ys)
+      unfolding steps-c-to-e steps-c-d
+      gives-chosen x b taken deferred ys e h k =
+          let c : State = step-c b t taken deferred in
+          let y : State = step-d c taken (c .phase) in
+          let z : Phase = step-e y t (y .phase) .phase in
+          let same : giving-events-in (b .phase) z ≡ giving-events-in (c .phase) (y .phase) = sym (c-same [] b t taken deferred z) ∙ e-same [] y t (c .phase) in
+          ⊎-elim
+          (λ g. subst (λ (es : List Event). T x (es ++ ys)) (sym (same ∙ g .1)) (gone (g .0) (g .2) (g .3) (k (choice-by pr x (GivesWay (g .0))) (record { ready = refl; origins = λ j. refl })
+          (e-runs (choice-by pr x (GivesWay (g .0))) y (ap (λ (f : Frame). f .table .columns) (d-frame c taken) ∙ e) (g .4)))))
+          (λ g. subst (λ (es : List Event). T x (es ++ ys)) (sym (same ∙ ap (λ (s : State). giving-events-in (c .phase) (s .phase)) g ∙ gives-same [] (c .phase)))
+          (k x (like x) (subst (λ (s : State). Runs x (step-e s t (s .phase) .phase)) (sym g) (e-runs x c e h))))
+          (d-gave x c taken h)
+        where
+          number : (a b : ℕ) → Task a ≡ Task b → a ≡ b
+          number a b e = cc
+
+          gone : (n : ℕ) → x .pick ≡ Task n → Early x n → T (choice-by pr x (GivesWay n)) ys → T x (GivesWay n ∷ ys)
+          gone n p f h = unfold Chosen in (((λ n y z. absurd (false≢true y)), (λ m c y z. (p ∙ z, λ s e v. f c s e (v ∙ ap (λ (j : ℕ). Tick (c + copyin-length columns j)) (sym (number n m z))))), (λ y. absurd (false≢true y)), (λ n j y. absurd (false≢true y))), h)
+
+      -- ---- f
+
+      f-chosen : (x : Choice) (pending : ℕ) (s : Stage) (p : Phase) (ys : List Event) → s .state .phase ≡ p → Readies x pending p → Runs x p
+          → (Readies x pending (step-b s t p .state .phase) → Runs x (step-b s t p .state .phase) → T x ys) → T x (end-events t p (step-b s t p .state .phase) ++ ys)
+      unfolding step-b close-stage close end-events
+      f-chosen x pending s (Between next outgoing) ys e h m k = k (subst (Readies x pending) (sym e) h) (subst (Runs x) (sym e) m)
+      f-chosen x pending s (Within i) ys e h m k = go (over i) refl k
+        where
+          stays : (q : Phase) → q ≡ Within i → (Readies x pending q → Runs x q → T x ys) → T x (end-events t (Within i) q ++ ys)
+          stays q z k = rw z (k (subst (Readies x pending) (sym z) h) (subst (Runs x) (sym z) m))
+
+          go : (b : Bool) → over i ≡ b → (Readies x pending (close-stage s t i b .state .phase) → Runs x (close-stage s t i b .state .phase) → T x ys)
+              → T x (end-events t (Within i) (close-stage s t i b .state .phase) ++ ys)
+          go true o k =
+              unfold Chosen in (
+                ((λ n y z. absurd (false≢true y)), (λ n j y. absurd (false≢true y)), (λ y. run-seen x (i .copyout) (i .copyin) (settles i o) m), (λ n j y. absurd (false≢true y))),
+                k (λ j l. omega (arith, h j l, b-outgoing-bit present tasks j (i .processor) (rests i o), b-copyout-bit present tasks j (i .copyout) (no-copyout i o))) (run-seen x (i .copyout) (i .copyin) (settles i o) m),
+              )
+          go false o k = stays (s .state .phase) e k
+
+      -- ---- g
+
+      bit-most : (b : Bool) → bit b ≤ 1
+      bit-most true = omega arith
+      bit-most false = omega arith
+
+      bit-same : (a b : Bool) → bit a ≡ bit b → a ≡ b
+      bit-same true true h = refl
+      bit-same true false h = absurd (omega arith)
+      bit-same false true h = absurd (omega arith)
+      bit-same false false h = refl
+
+      -- the job that an interval executes is not to be executed any more
+      off : (table : Table) (next : Next) (k s : ℕ) → k < 32 → next-bit k next ≤ bit (member k s)
+          → bit (member k (without-task (processor-task (begin-processor table t next)) s)) + next-bit k next ≡ bit (member k s)
+      off table NoneNext k s l h = omega arith
+      off table (LoadedNext n) k s l h = rw (removed n s k l) (by-test (eqb k n) (λ e. rw e (let z : 1 ≤ bit (member k s) = rw e at h in omega (arith, bit-most (member k s)))) (λ e. rw e (omega arith)))
+      off table (PromotedNext n) k s l h = rw (removed n s k l) (by-test (eqb k n) (λ e. rw e (let z : 1 ≤ bit (member k s) = rw e at h in omega (arith, bit-most (member k s)))) (λ e. rw e (omega arith)))
+
+      -- where an interval begins
+      abbrev begun : Choice → Table → Next → Outgoing → Choice
+      begun x table next outgoing = choice-by pr x (Begins t (processor-task (begin-processor table t next)) (copyout-task (begin-copyout table t outgoing)))
+
+      module _ (x : Choice) (f : State) (taken : ℕ) (next : Next) (outgoing : Outgoing) (e : f .table .priority ≡ pr) (c : f .table .columns ≡ columns)
+          (h : Parted present tasks f (Between next outgoing)) (readies : Readies x (f .jobs .pending) (Between next outgoing)) (since : (k : ℕ) → k < 32 → x .origins k .since ≡ getD (f .jobs .release) k 0) where
+        left-over : (k : ℕ) → k < 32 → bit (member k (begun x (f .table) next outgoing .ready)) + next-bit k next ≡ bit (member k (x .ready))
+        left-over k l = off (f .table) next k (x .ready) l (omega (arith, readies k l, h .parts k l))
+
+        begun-readies : Readies (begun x (f .table) next outgoing) (f .jobs .pending) (begin f t taken next outgoing .phase)
+        unfolding begin
+        begun-readies k l = omega (arith, left-over k l, readies k l, g-processor present tasks k (f .table) t next, g-copyout present tasks k (f .table) t outgoing)
+
+      begun-runs : (x : Choice) (f : State) (taken : ℕ) (next : Next) (outgoing : Outgoing) → f .table .priority ≡ pr → f .table .columns ≡ columns
+          → Parted present tasks f (Between next outgoing) → Readies x (f .jobs .pending) (Between next outgoing) → ((k : ℕ) → k < 32 → x .origins k .since ≡ getD (f .jobs .release) k 0)
+          → let b : State = begin f t taken next outgoing in
+          Runs (begun x (f .table) next outgoing) (step-e b t (b .phase) .phase)
+      begun-runs x f taken next outgoing e c h readies since = e-runs (begun x (f .table) next outgoing) (begin f t taken next outgoing) (unfold begin in c) (go outgoing h readies)
+        where
+          go : (outgoing : Outgoing) → Parted present tasks f (Between next outgoing) → Readies x (f .jobs .pending) (Between next outgoing)
+              → let b : State = begin f t taken next outgoing in Ready (begun x (f .table) next outgoing) b (b .phase)
+          go (AwaitsCopyOut m start) h readies = unfold begin in inr ((refl, refl), refl, tt)
+          go NoneOutgoing h readies =
+              unfold begin in
+              inl (
+                refl, refl,
+                highest-same pr (λ k. x .origins k .since) (λ k. getD (f .jobs .release) k 0) (begun x (f .table) next NoneOutgoing .ready) (f .jobs .ready)
+                    (λ k l. bit-same _ _ (omega (arith, left-over x f taken next NoneOutgoing e c h readies since k l, readies k l, h .parts k l))) since
+                    ∙ ap (λ (p : List ℕ). highest p (λ k. getD (f .jobs .release) k 0) (f .jobs .ready)) (sym e),
+                refl, refl,
+              )
+
+      -- ---- the places that a step leaves
+
+      c-spots : (k : ℕ) (d : State) (taken : ℕ) (p : Phase) → spots k (with-candidates d taken p) ≡ spots k p
+      unfolding with-candidates
+      c-spots k d taken (Between next outgoing) = refl
+      c-spots k d taken (Within i) = refl
+
+      d-spots : (k : ℕ) (d : State) (taken : ℕ) → spots k (step-d d taken (d .phase) .phase) ≡ spots k (d .phase)
+      unfolding cancel
+      d-spots k d taken = d-cases (λ x. spots k (x .phase) ≡ spots k (d .phase)) d taken refl (λ i n u e s b. rw e)
+
+      choose-spots : (k : ℕ) (d : State) (i : Interval) (q : MaybeTask) → spots k (choose d t i q .phase) ≡ spots k (Within i)
+      unfolding choose
+      choose-spots k d i NoTask = refl
+      choose-spots k d i (Task q) = refl
+
+      e-spots : (k : ℕ) (d : State) → spots k (step-e d t (d .phase) .phase) ≡ spots k (d .phase)
+      e-spots k d = e-cases (λ x. spots k (x .phase) ≡ spots k (d .phase)) d t refl (λ i e s u. choose-spots k d i (highest-of d (d .jobs .ready)) ∙ ap (spots k) (sym e))
+
+      spots-e : (k : ℕ) (d : State) (set : ℕ) → spots k (at-e d t set .phase) ≡ spots k (at-b d t .state .phase)
+      unfolding at-e step-c
+      spots-e k d set =
+          let b : State = at-b d t .state in
+          let taken : ℕ = taken-at d t set in
+          let c : State = step-c b t taken (deferred-at d t set) in
+          e-spots k (step-d c taken (c .phase)) ∙ d-spots k c taken ∙ c-spots k b taken (b .phase)
+
+      -- ---- an interval that begins
+
+      opens-chosen : (x : Choice) (table : Table) (next : Next) (outgoing : Outgoing) (q : Phase) (ys : List Event)
+          → Both (table .columns) t (begin-processor table t next) (begin-copyout table t outgoing) q → T (begun x table next outgoing) ys → T x (begin-events t (Between next outgoing) q ++ ys)
+      unfolding begin-events
+      opens-chosen x table next outgoing (Between y z) ys b h = absurd b
+      opens-chosen x table next outgoing (Within j) ys b h =
+          subst (λ (o : CopyOut). T x (Begins t (processor-task (j .processor)) (copyout-task o) ∷ ys)) (sym (b .1))
+          (subst (λ (q : Processor). T x (Begins t (processor-task q) (copyout-task (begin-copyout table t outgoing)) ∷ ys)) (sym (b .0))
+          (on (Begins t (processor-task (begin-processor table t next)) (copyout-task (begin-copyout table t outgoing))) refl refl refl refl x (Tick t) ys h))
+
+      shut-chosen : (x : Choice) (next : Next) (outgoing : Outgoing) (q : Phase) (ys : List Event) → q ≡ Between next outgoing → T x ys → T x (begin-events t (Between next outgoing) q ++ ys)
+      unfolding begin-events
+      shut-chosen x next outgoing q ys e h = rw e h
+
+      -- the same times
+      abbrev SinceAs : Choice → State → Type 0
+      SinceAs x f = (k : ℕ) → k < 32 → x .origins k .since ≡ getD (f .jobs .release) k 0
+
+      g-chosen : (x : Choice) (f : State) (taken : ℕ) (p : Phase) (ys : List Event) → f .phase ≡ p → f .table .priority ≡ pr → f .table .columns ≡ columns → Parted present tasks f p
+          → Readies x (f .jobs .pending) p → Runs x p → SinceAs x f
+          → ((y : Choice) → ((k : ℕ) → y .origins k ≡ x .origins k) → Readies y (f .jobs .pending) (step-g f t taken p .phase) → Runs y (step-g f t taken p .phase) → T y ys)
+          → T x (begin-events t p (step-g f t taken p .phase) ++ ys)
+      unfolding step-g begin-events
+      g-chosen x f taken (Within i) ys e a c h readies runs since k = k x (λ j. refl) (subst (Readies x (f .jobs .pending)) (sym e) readies) (subst (Runs x) (sym e) runs)
+      g-chosen x f taken (Between next outgoing) ys e a c h readies runs since k = go (wanted next outgoing (f .jobs .ready)) k
+        where
+          b : State
+          b = begin f t taken next outgoing
+
+          go : (z : Bool) → ((y : Choice) → ((k : ℕ) → y .origins k ≡ x .origins k) → Readies y (f .jobs .pending) (cond z (step-e b t (b .phase)) f .phase) → Runs y (cond z (step-e b t (b .phase)) f .phase) → T y ys)
+              → T x (begin-events t (Between next outgoing) (cond z (step-e b t (b .phase)) f .phase) ++ ys)
+          go true k =
+              opens-chosen x (f .table) next outgoing (step-e b t (b .phase) .phase) ys
+              (begun-both (f .table .columns) t b (begin-processor (f .table) t next) (begin-copyout (f .table) t outgoing) (unfold begin in (refl, refl)))
+              (k (begun x (f .table) next outgoing) (λ j. refl)
+              (λ j l. ap (λ (s : ℕ). bit (member j (begun x (f .table) next outgoing .ready)) + s) (e-spots j b) ∙ begun-readies x f taken next outgoing a c h readies since j l)
+              (begun-runs x f taken next outgoing a c h readies since))
+          go false k = shut-chosen x next outgoing (f .phase) ys e (k x (λ j. refl) (subst (Readies x (f .jobs .pending)) (sym e) readies) (subst (Runs x) (sym e) runs))
+
+      -- ---- the releases
+
+      run-as : (x y : Choice) (o : CopyOut) (c : CopyIn) → y .free ≡ x .free → y .seen ≡ x .seen → y .pick ≡ x .pick → Run x o c → Run y o c
+      run-as x y o Unchosen f s p r = (p ∙ r .0, s ∙ r .1)
+      run-as x y o NoneChosen f s p r = (r .0, p ∙ r .1, s ∙ r .2)
+      run-as x y o (Copying n until) f s p r = (r .0, p ∙ r .1, (r .2 .0, f ∙ r .2 .1, r .2 .2))
+      run-as x y o (Loaded n) f s p r = (r .0, p ∙ r .1, s ∙ r .2)
+      run-as x y o (Cancelled n fate) f s p r = (r .0, p ∙ r .1, s ∙ r .2)
+
+      runs-as : (x y : Choice) (p : Phase) → y .free ≡ x .free → y .seen ≡ x .seen → y .pick ≡ x .pick → Runs x p → Runs y p
+      runs-as x y (Between next outgoing) f s p r = s ∙ r ∙ sym p
+      runs-as x y (Within i) f s p r = run-as x y (i .copyout) (i .copyin) f s p r
+
+      abbrev took : Choice → ℕ → ℕ → Choice
+      took x taken w = after (choice-by pr) x (take-events 32 taken w t)
+
+      abbrev held : Choice → ℕ → ℕ → ℕ → Choice
+      held x taken w deferred = after (choice-by pr) (took x taken w) (defer-events 32 deferred t)
+
+      module _ (x : Choice) (b : State) (taken deferred w : ℕ) (e : b .table .priority ≡ pr) (h : Parted present tasks b (b .phase)) (readies : Readies x (b .jobs .pending) (b .phase))
+          (origins : (k : ℕ) → k < 32 → OriginIs k (x .origins k) (b .jobs .release) (b .waiting)) (new : (k : ℕ) → k < 32 → member k taken ≡ true → member k (b .jobs .pending) ≡ false) where
+        abbrev c : State
+        c = step-c b t taken deferred
+
+        took-ready : (k : ℕ) → k < 32 → member k ((took x taken w) .ready) ≡ (member k (x .ready) || member k taken)
+        took-ready k l = ap (member k) (readies-of (take-events 32 taken w t) x) ∙ takes-ready taken w k (x .ready) l
+
+        held-readies : (k : ℕ) → k < 32 → bit (member k ((held x taken w deferred) .ready)) + spots k (b .phase) ≡ bit (member k (union (b .jobs .pending) taken))
+        held-readies k l =
+            ap (λ (r : ℕ). bit (member k r) + spots k (b .phase)) (defers-same deferred (took x taken w) .ready)
+            ∙ ap (λ (z : Bool). bit z + spots k (b .phase)) (took-ready k l)
+            ∙ go (member k taken) (member k (x .ready)) (member k (b .jobs .pending)) (new k l) (readies k l)
+            ∙ ap bit (sym (united (b .jobs .pending) taken k l))
+          where
+            go : (a r p : Bool) → (a ≡ true → p ≡ false) → bit r + spots k (b .phase) ≡ bit p → bit (r || a) + spots k (b .phase) ≡ bit (p || a)
+            go true true p f z = absurd (omega (arith, ap bit (f refl)))
+            go true false true f z = absurd (true≢false (f refl))
+            go true false false f z = omega arith
+            go false true true f z = z
+            go false true false f z = z
+            go false false true f z = z
+            go false false false f z = z
+
+        took-origin : (k : ℕ) (l : k < 32) → (took x taken w) .origins k ≡ taken-origin k l taken t (x .origins k)
+        took-origin k l = origins-of (take-events 32 taken w t) x k ∙ takes-origin k l taken w t (x .origins k)
+
+        held-origin : (k : ℕ) (l : k < 32) → (held x taken w deferred) .origins k ≡ deferred-origin k l deferred t (taken-origin k l taken t (x .origins k))
+        held-origin k l = origins-of (defer-events 32 deferred t) (took x taken w) k ∙ defers-origin k l deferred t ((took x taken w) .origins k) ∙ ap (deferred-origin k l deferred t) (took-origin k l)
+
+        held-origins : (k : ℕ) → k < 32 → OriginIs k ((held x taken w deferred) .origins k) (c .jobs .release) (c .waiting)
+        held-origins k l = subst (λ (o : Origin). OriginIs k o (c .jobs .release) (c .waiting)) (sym (held-origin k l)) (c-origin k l b t taken deferred (x .origins k) (origins k l))
+
+        took-since : (k : ℕ) → k < 32 → (took x taken w) .origins k .since ≡ getD (c .jobs .release) k 0
+        took-since k l =
+            ap (λ (o : Origin). o .since) (took-origin k l) ∙ sym (still (member k deferred) (taken-origin k l taken t (x .origins k)))
+            ∙ c-origin k l b t taken deferred (x .origins k) (origins k l) .since-is
+          where
+            still : (d : Bool) (o : Origin) → cond d (record { waits = Tick t; since = o .since }) o .since ≡ o .since
+            still true o = refl
+            still false o = refl
+
+        took-same : (i : Interval) → b .phase ≡ Within i → i .copyin ≡ Unchosen → (k : ℕ) → k < 32 → member k ((took x taken w) .ready) ≡ member k (union (b .jobs .ready) taken)
+        took-same i p u k l =
+            took-ready k l ∙ ap (λ (z : Bool). z || member k taken) (bit-same (member k (x .ready)) (member k (b .jobs .ready)) (go (b .phase) p (readies k l) (h .parts k l)))
+            ∙ sym (united (b .jobs .ready) taken k l)
+          where
+            go : (q : Phase) → q ≡ Within i → bit (member k (x .ready)) + spots k q ≡ bit (member k (b .jobs .pending)) → bit (member k (b .jobs .pending)) ≡ bit (member k (b .jobs .ready)) + stage k q
+                → bit (member k (x .ready)) ≡ bit (member k (b .jobs .ready))
+            go q z = rw z (λ m n. omega (arith, ap (copyin-bit k) u))
+
+        held-ready : Mode x (b .phase) → Ready (held x taken w deferred) c (c .phase)
+        unfolding step-c
+        held-ready m = c-ready (held x taken w deferred) b c taken (b .phase) (go (b .phase) refl m)
+          where
+            same : Same (took x taken w) (held x taken w deferred)
+            same = defers-same deferred (took x taken w)
+
+            keep : Keeps x (took x taken w)
+            keep = takes-keep taken w x
+
+            go : (p : Phase) → b .phase ≡ p → Mode x p → Ready (held x taken w deferred) c p
+            go (Between next outgoing) z m =
+                ⊎-elim (λ n. absurd (n .1)) (λ n. runs-as x (held x taken w deferred) (Between next outgoing) (same .free ∙ keep .free) (same .seen ∙ keep .seen) (same .pick ∙ keep .keeps (n .0)) (n .1)) m
+            go (Within i) z m =
+                ⊎-elim
+                (λ n. inl (
+                  n .1 .0,
+                  n .1 .1,
+                  same .pick ∙ keep .picks (n .0) (n .1 .2)
+                      ∙ highest-same pr (λ k. (took x taken w) .origins k .since) (λ k. getD (c .jobs .release) k 0) ((took x taken w) .ready) (union (b .jobs .ready) taken) (took-same i z (n .1 .0)) took-since
+                      ∙ ap (λ (q : List ℕ). highest q (λ k. getD (c .jobs .release) k 0) (union (b .jobs .ready) taken)) (sym e),
+                  same .free ∙ keep .free ∙ n .1 .3,
+                  same .seen ∙ keep .seen ∙ n .1 .4,
+                ))
+                (λ n. inr (run-as x (held x taken w deferred) (i .copyout) (i .copyin) (same .free ∙ keep .free) (same .seen ∙ keep .seen) (same .pick ∙ keep .keeps (n .0)) (n .1), n .2, n .3)) m
+
+      -- ---- an instant
+
+      module _ (d : State) (set : ℕ) (known : Sub set present) (priority : d .table .priority ≡ pr) (lengths : d .table .columns ≡ columns) (h : Parted present tasks d (d .phase)) where
+        abbrev B : State
+        B = at-b d t .state
+
+        abbrev E : State
+        E = at-e d t set
+
+        abbrev F : State
+        F = at-f d t set .state
+
+        abbrev G : State
+        G = at-g d t set
+
+        parted-b : Parted present tasks B (B .phase)
+        parted-b = to-b present tasks d t h .parted
+
+        parted-e : Parted present tasks E (E .phase)
+        parted-e = to-e present tasks d t set known parted-b .parted
+
+        parted-f : Parted present tasks F (F .phase)
+        unfolding at-f
+        parted-f = b-moves present tasks (fresh-stage E) t (E .phase) refl parted-e .parted
+
+        frame-f : frame F ≡ frame (at-c d t set)
+        unfolding at-f
+        frame-f = b-frame (fresh-stage E) t ∙ frame-e d t set
+
+        pending-f : F .jobs .pending ≡ union (B .jobs .pending) (taken-at d t set)
+        pending-f = ap (λ (y : Frame). y .pending) (frame-f ∙ sym (frame-g d t set)) ∙ pending-g d t set
+
+        tail-chosen : (x : Choice) (ys : List Event) → Readies x (B .jobs .pending) (B .phase) → ((k : ℕ) → k < 32 → OriginIs k (x .origins k) (B .jobs .release) (B .waiting)) → Mode x (B .phase)
+            → ((y : Choice) → Agrees y G → T y ys) → T x (take-events 32 (taken-at d t set) (d .marked) t ++ (tail-of d t set ++ ys))
+        unfolding at-e at-f at-g
+        tail-chosen x ys readies origins mode k =
+            let taken : ℕ = taken-at d t set in
+            let deferred : ℕ = deferred-at d t set in
+            let starts : List Event = start-events t (F .phase) (G .phase) ++ ys in
+            takes-run taken (d .marked) 32 x (tail-of d t set ++ ys)
+            (rw (tail-parts d t set ys)
+            (defers-run deferred 32 (took x taken (d .marked)) _
+            (gives-chosen (held x taken (d .marked) deferred) B taken deferred _ (ap (λ (y : Table). y .columns) table-c ∙ lengths) (held-ready x B taken deferred (d .marked) priority-b parted-b readies origins new mode)
+            (λ y a runs. f-chosen y (union (B .jobs .pending) taken) (fresh-stage E) (E .phase) _ refl (readies-e y a) runs
+            (λ r m. g-chosen y F (held-at d t set) (F .phase) starts refl (ap (λ (z : Table). z .priority) table-f ∙ priority) (ap (λ (z : Table). z .columns) table-f ∙ lengths) parted-f
+            (subst (λ (p : ℕ). Readies y p (F .phase)) (sym pending-f) r) m (λ j l. ap (λ (o : Origin). o .since) (a .origins j) ∙ held-is j l .since-is ∙ ap (λ (z : Frame). getD (z .release) j 0) (sym frame-f))
+            (λ z o r m. by-starts (T z) t (λ n es q. on (Starts n t) refl refl refl refl z (Tick t) es q) (F .phase) (G .phase) ys
+            (k z (record {
+              readies = subst (λ (p : ℕ). Readies z p (G .phase)) (pending-f ∙ sym (pending-g d t set)) r;
+              origins = λ j l. rw (release-g d t set, waiting-g d t set) (subst (λ (u : Origin). OriginIs j u (at-c d t set .jobs .release) (at-c d t set .waiting)) (sym (o j ∙ a .origins j)) (held-is j l));
+              runs = m;
+            }))))))))
+          where
+            new : (j : ℕ) → j < 32 → member j (taken-at d t set) ≡ true → member j (at-b d t .state .jobs .pending) ≡ false
+            new j l m = taken-not-pending (at-b d t .state) (passed d t set) j (unfold taken-at in m)
+
+            table-c : at-c d t set .table ≡ d .table
+            table-c = c-table (at-b d t .state) t (taken-at d t set) (deferred-at d t set) ∙ table-b d t
+
+            table-f : at-f d t set .state .table ≡ d .table
+            table-f = ap (λ (y : Frame). y .table) frame-f ∙ table-c
+
+            priority-b : at-b d t .state .table .priority ≡ pr
+            priority-b = ap (λ (y : Table). y .priority) (table-b d t) ∙ priority
+
+            held-is : (j : ℕ) → j < 32 → OriginIs j (held x (taken-at d t set) (d .marked) (deferred-at d t set) .origins j) (at-c d t set .jobs .release) (at-c d t set .waiting)
+            held-is = held-origins x (at-b d t .state) (taken-at d t set) (deferred-at d t set) (d .marked) priority-b parted-b readies origins new
+
+            readies-e : (y : Choice) → Like (held x (taken-at d t set) (d .marked) (deferred-at d t set)) y → Readies y (union (at-b d t .state .jobs .pending) (taken-at d t set)) (at-e d t set .phase)
+            readies-e y a j l =
+                ap (λ (r : ℕ). bit (member j r) + spots j (at-e d t set .phase)) (a .ready)
+                ∙ ap (λ (z : ℕ). bit (member j (held x (taken-at d t set) (d .marked) (deferred-at d t set) .ready)) + z) (spots-e j d set)
+                ∙ held-readies x (at-b d t .state) (taken-at d t set) (deferred-at d t set) (d .marked) priority-b parted-b readies origins new j l
+
+        front-chosen : (x : Choice) (later : List Event) → Times Plain (d .phase) → DecidedAt (d .phase) → x .choosing ≡ false → Agrees x d
+            → ((y : Choice) → Readies y (B .jobs .pending) (B .phase) → ((k : ℕ) → k < 32 → OriginIs k (y .origins k) (B .jobs .release) (B .waiting)) → Mode y (B .phase) → T y later)
+            → T x (processor-events-in t (d .phase) ++ (finish-events-in t (d .phase) ++ (completion-events (at-a d t .done) ++ (end-events t (at-a d t .state .phase) (B .phase) ++ later))))
+        unfolding at-b at-a
+        front-chosen x later times decided c agrees k =
+            let a : Stage = at-a d t in
+            a-chosen (at-clock d t) (d .phase) x (end-events t (a .state .phase) (B .phase) ++ later) refl
+            (record { few = h .few; marks = h .marks; pending = h .pending; ready = h .ready; waits = h .waits; known = h .known; parts = h .parts }) times (agrees .readies) (agrees .runs) decided c
+            (λ y l r m. b-chosen y (a .state .jobs .pending) a (a .state .phase) later refl r m
+            (λ r m. k y (subst (λ (p : ℕ). Readies y p (B .phase)) (sym (ap (λ (z : Frame). z .pending) (b-frame a t))) r)
+            (λ j s. rw (release-b d t, waiting-b d t) (subst (λ (o : Origin). OriginIs j o (d .jobs .release) (d .waiting)) (sym (l .origins j)) (agrees .origins j s))) m))
+
+        -- no instant comes behind the end of a copy-in
+        abbrev InTime : Choice → Type 0
+        InTime x = (n c : ℕ) → x .pick ≡ Task n → x .seen ≡ NoTask → x .free ≡ Tick c → t ≤ c + copyin-length columns n
+
+        comes-on : (x : Choice) (w : Due) (es : List Event) → InTime x → T (choice-by pr x (Comes t)) es → Chosen x w (Comes t ∷ es)
+        unfolding Chosen
+        comes-on x w es f h = (((λ n y z. absurd (false≢true y)), (λ n c y. absurd (false≢true y)), (λ y. absurd (false≢true y)), (λ n c y. f n c)), h)
+
+        in-time : (x : Choice) (p : Phase) → Times Plain p → Times (λ u. t ≤ u) p → Runs x p → InTime x
+        in-time x (Between next outgoing) times due r n c p s f = absurd (let z : NoTask ≡ Task n = sym s ∙ r ∙ p in let y : _≡_ {A = ℕ} 0 1 = cc in omega arith)
+        in-time x (Within i) times due r n c p s f = go (i .copyin) (times .2) (due .2) r
+          where
+            no-task : NoTask ≡ Task n → t ≤ c + copyin-length columns n
+            no-task e = absurd (let y : _≡_ {A = ℕ} 0 1 = cc in omega arith)
+
+            go : (k : CopyIn) → copyin-times Plain k → copyin-times (λ u. t ≤ u) k → Run x (i .copyout) k → t ≤ c + copyin-length columns n
+            go Unchosen a b r = no-task (sym (r .0) ∙ p)
+            go NoneChosen a b r = no-task (sym (r .1) ∙ p)
+            go (Copying m until) a b r =
+                let same : m ≡ n = let z : Task m ≡ Task n = sym (r .1) ∙ p in cc in
+                let at : r .2 .0 ≡ c = let z : Tick (r .2 .0) ≡ Tick c = sym (r .2 .1) ∙ f in cc in
+                let l : until ≡ r .2 .0 + copyin-length columns m = r .2 .2 ∙ exact (r .2 .0) (copyin-length columns m) (subst (λ (y : ℕ). y ≤ 3000000000) (r .2 .2) a) in
+                subst (λ (z : ℕ). t ≤ z + copyin-length columns n) at (subst (λ (z : ℕ). t ≤ r .2 .0 + copyin-length columns z) same (subst (λ (z : ℕ). t ≤ z) l b))
+            go (Loaded m) a b r = no-task (sym s ∙ r .2 ∙ sym (r .1) ∙ p)
+            go (Cancelled m fate) a b r = no-task (sym s ∙ r .2 ∙ sym (r .1) ∙ p)
+
+        happens-chosen : (x : Choice) (w : Due) (ys : List Event) → Times Plain (d .phase) → Times (λ u. t ≤ u) (d .phase) → DecidedAt (d .phase) → Agrees x d → ((y : Choice) → Agrees y G → T y ys) → Chosen x w (happens d t set ++ ys)
+        happens-chosen x w ys times due decided agrees k =
+            let later : List Event = take-events 32 (taken-at d t set) (d .marked) t ++ (tail-of d t set ++ ys) in
+            rw (happens-parts d t set ys, front-parts d t later)
+            (comes-on x w _ (in-time x (d .phase) times due (agrees .runs))
+            (front-chosen (choice-by pr x (Comes t)) later times decided refl (record { readies = agrees .readies; origins = agrees .origins; runs = runs-as x (choice-by pr x (Comes t)) (d .phase) refl refl refl (agrees .runs) })
+            (λ y r o m. tail-chosen y ys r o m k)))
+
+-- ---- along the calls
+
+module _ (table : Table) (marks : ℕ) (fair : Fair table marks) where
+  chosen : (cs : List Call) (d : State) → Good table marks fair d → (x : Choice) (w : Due) → Agrees (table .priority) (table .columns) x d → Chosen (table .priority) (table .columns) x w (history d cs)
+  chosen =
+      walk (λ d h. Good table marks fair d → (x : Choice) (w : Due) → Agrees (table .priority) (table .columns) x d → Chosen (table .priority) (table .columns) x w h)
+      (λ d g x w a. unfold Chosen in tt)
+      (λ d t set cs e k g x w a.
+      let s : Served-at d t set = served-at d t set e in
+      happens-chosen (table .priority) (table .columns) t (table .present) (fair .present) d set (subst (λ (y : Table). Sub set (y .present)) (g .table-is) (s .known))
+      (ap (λ (y : Table). y .priority) (g .table-is)) (ap (λ (y : Table). y .columns) (g .table-is)) (g .parted) x w (history (at-g d t set) cs) (plain table marks fair d g) (s .due) (g .settled .decided) a
+      (λ y b. k (good-next table marks fair d t set g s) y (Tick t) b))
+      (λ d m e h k g x w a. k (good-quiet table marks fair d m e g) x w (record { readies = a .readies; origins = a .origins; runs = a .runs }))
+
+  -- every list of calls from the state that opening returned
+  pub all-copies : (cs : List Call) → Copies (table .priority) (table .columns) (history (opened table marks) cs)
+  all-copies cs = copies (table .priority) (table .columns) (history (opened table marks) cs) (chosen cs (opened table marks) (good-opened table marks fair) no-choice Never first)
+    where
+      first : Agrees (table .priority) (table .columns) no-choice (opened table marks)
+      first = record { readies = unfold opened in λ k l. rw (none k) refl; origins = λ k l. opened-origin table marks k l; runs = unfold opened in refl }

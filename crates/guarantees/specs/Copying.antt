@@ -1,0 +1,72 @@
+-- What the engine copies in, by a history: whom it chooses where it becomes free, and how long the copy-in lasts. What stands between
+-- quotation marks is document 01.
+use Rattle.guarantees.specs.Types.{_≡_, Bool, true, false, cond, _&&_, _||_, List, _∷_, _++_, ℕ, _+_, _≤_, MaybeTask, NoTask, Task, Due, Never, Tick}
+use Rattle.sets.specs.Sets.{remove}
+use Rattle.table.specs.Table.{copyin-length}
+use Rattle.rules.specs.Order.{highest}
+use Rattle.guarantees.specs.History.{Event, Comes, Finishes, Ends, GivesWay}
+use Rattle.guarantees.specs.Queries.{details, comes, finishes, completes, takes, begins, gives-way, after, Origin, no-origin, origin-by}
+use Rattle.guarantees.specs.Pending.{now}
+use Rattle.guarantees.specs.Intervals.{with-task}
+
+-- the jobs that were taken and that no interval has executed; whether the engine has become free at the instant that came last; since when
+-- it has been, in the last interval to begin; the job that it chose then, and the one whose copy-in has finished or given way
+pub record Choice : Type 0 where
+  pub ready : ℕ
+  pub origins : ℕ → Origin
+  pub choosing : Bool
+  pub free : Due
+  pub pick : MaybeTask
+  pub seen : MaybeTask
+
+abbrev pub no-choice : Choice
+no-choice = record { ready = 0; origins = λ n. no-origin; choosing = false; free = Never; pick = NoTask; seen = NoTask }
+
+abbrev pub without-task : MaybeTask → ℕ → ℕ
+without-task NoTask s = s
+without-task (Task n) s = remove n s
+
+abbrev pub ready-by : ℕ → Event → ℕ
+ready-by s e = cond (takes e) (with-task (details e .task) s) (cond (begins e) (without-task (details e .task) s) s)
+
+-- "The engine copies out the job executed in the interval before; without one the choice is made now."
+abbrev pub free-from : MaybeTask → ℕ → Due
+free-from NoTask t = Tick t
+free-from (Task n) t = Never
+
+abbrev pub chosen-from : MaybeTask → MaybeTask → MaybeTask
+chosen-from NoTask q = q
+chosen-from (Task n) q = NoTask
+
+module _ (priority : List ℕ) where
+  -- "the highest-priority ready job begins copy-in, or none does (R2)": of those taken by the end of that instant's releases
+  abbrev pub highest-ready : Choice → Event → MaybeTask
+  highest-ready x e = highest priority (λ n. origin-by n (x .origins n) e .since) (ready-by (x .ready) e)
+
+  abbrev pub choice-by : Choice → Event → Choice
+  choice-by x e = record {
+    ready = ready-by (x .ready) e;
+    origins = λ n. origin-by n (x .origins n) e;
+    choosing = cond (comes e || begins e) false (completes e || x .choosing);
+    free = cond (begins e) (free-from (details e .out) (details e .tick)) (cond (completes e) (Tick (details e .tick)) (x .free));
+    pick = cond (begins e) (chosen-from (details e .out) (highest-ready x e))
+        (cond (completes e || (takes e && x .choosing)) (highest-ready x e) (x .pick));
+    seen = cond (begins e) NoTask (cond (finishes e || gives-way e) (details e .task) (x .seen));
+  }
+
+  abbrev pub choice : List Event → Choice
+  choice = after choice-by no-choice
+
+  pub record Copies (columns : List ℕ) (h : List Event) : Type 0 where
+    -- it copies that job in, and "a phase lasts exactly its table length"
+    pub each-finish : (before after : List Event) (n : ℕ) → h ≡ before ++ (Finishes n ∷ after)
+        → (c : ℕ) × (choice before .pick ≡ Task n) × (choice before .free ≡ Tick c) × (now before ≡ Tick (c + copyin-length columns n))
+    -- no other gives way, and one under way does so before its end
+    pub each-giving : (before after : List Event) (n c : ℕ) → h ≡ before ++ (GivesWay n ∷ after)
+        → (choice before .pick ≡ Task n)
+        × (choice before .seen ≡ NoTask → choice before .free ≡ Tick c → now before ≡ Tick (c + copyin-length columns n) → ⊥)
+    -- no instant comes behind the end of one under way
+    pub each-instant : (before after : List Event) (n t c : ℕ) → h ≡ before ++ (Comes t ∷ after)
+        → choice before .pick ≡ Task n → choice before .seen ≡ NoTask → choice before .free ≡ Tick c → t ≤ c + copyin-length columns n
+    -- and an interval ends when that copy-in has finished or given way, or nobody was ready
+    pub each-end : (before after : List Event) (t : ℕ) → h ≡ before ++ (Ends t ∷ after) → choice before .seen ≡ choice before .pick
