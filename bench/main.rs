@@ -1,5 +1,5 @@
 //! Times the proved functions against plain Rust, in one run: that of records, that which reads them, that of waveforms, and an instant of a
-//! dispatcher that is kept; and such an instant with a view after it against one without.
+//! dispatcher that is kept, a commit and an enquiry; and such an instant with a view after it against one without.
 //! For each input the ratio proved/plain of the times, its median and spread over the repetitions. Both must give the same number, value and
 //! bytes, and at each instant the same answer.
 
@@ -112,7 +112,7 @@ fn alternate<S: ?Sized, T, U>(name: &str, instants: u64, lent: &mut S, proved: i
     let times = Times { proved: median(&mut slow), plain: median(&mut fast), ratio: median(&mut ratios) };
     let each = |seconds: f64| seconds * 1e9 / instants.max(1) as f64;
     println!(
-        "{name:36} {instants:6} {:9.2} {:9.2} {:7.1} {:7.1} {:6.2} {:6.2} .. {:.2}",
+        "{name:40} {instants:6} {:9.2} {:9.2} {:7.1} {:7.1} {:6.2} {:6.2} .. {:.2}",
         times.proved * 1e6,
         times.plain * 1e6,
         each(times.proved),
@@ -147,7 +147,7 @@ fn median(values: &mut [f64]) -> f64 {
 
 fn heading(what: &str) {
     println!(
-        "{what:36} {:>6} {:>9} {:>9} {:>7} {:>7} {:>6} least .. most",
+        "{what:40} {:>6} {:>9} {:>9} {:>7} {:>7} {:>6} least .. most",
         "inst.", "proved us", "plain us", "ns/inst", "ns/inst", "ratio"
     );
 }
@@ -239,19 +239,23 @@ fn waveforms() -> (f64, f64) {
     (exact, spare)
 }
 
-/// Instants of a dispatcher that is kept, with nothing around them; the largest ratio.
-fn kept_instants() -> f64 {
-    heading("an instant by itself");
+/// The inputs whose calls are made one by one.
+fn called(tasks: u8) -> [(&'static str, Vec<u8>); 4] {
+    [
+        ("with releases", inputs::dense(tasks)),
+        ("mostly without", inputs::sparse(tasks)),
+        ("equal priorities", inputs::equal(tasks)),
+        ("spacing on every task", inputs::spaced(tasks)),
+    ]
+}
+
+/// Calls on a dispatcher that is kept, with nothing around them, as a function measures them; the largest ratio.
+fn by_calls(heading_of: &str, kind: &str, measure: impl Fn(&str, &[u8]) -> Times) -> f64 {
+    heading(heading_of);
     let mut worst: f64 = 0.0;
     for tasks in [4, 32] {
-        let rows = [
-            ("with releases", inputs::dense(tasks)),
-            ("mostly without", inputs::sparse(tasks)),
-            ("equal priorities", inputs::equal(tasks)),
-            ("spacing on every task", inputs::spaced(tasks)),
-        ];
-        for (name, input) in rows {
-            worst = worst.max(measure_instants(&format!("kept, {name}, {tasks} tasks"), &input).ratio);
+        for (name, input) in called(tasks) {
+            worst = worst.max(measure(&format!("{kind}, {name}, {tasks} tasks"), &input).ratio);
         }
     }
     worst
@@ -259,7 +263,7 @@ fn kept_instants() -> f64 {
 
 /// The instants by themselves with a view after each, against the same without: how much of an instant a view takes at most.
 fn views() -> f64 {
-    println!("{:36} here `proved` is with a view after each, and `plain` the proved function without", "an instant and a view");
+    println!("{:40} here `proved` is with a view after each, and `plain` the proved function without", "an instant and a view");
     heading("");
     let mut worst: f64 = 0.0;
     for tasks in [4, 32] {
@@ -292,15 +296,49 @@ fn measure_instants(name: &str, input: &[u8]) -> Times {
     )
 }
 
+/// The same calls as commits.
+fn measure_commits(name: &str, input: &[u8]) -> Times {
+    let made = instants::calls(name, input);
+    let opened = gateway::Dispatcher::open(&made.entries).expect("it was opened before");
+    let plain_opened = plain::Dispatcher::open(&made.entries);
+    alternate(
+        name,
+        made.calls.len() as u64,
+        &mut (gateway::Told::default(), plain::Told::default()),
+        |told| instants::committed(&opened, black_box(&made.calls), &mut told.0),
+        |told| instants::committed_plain(&plain_opened, black_box(&made.calls), &mut told.1),
+    )
+}
+
+/// Enquiries, each of a dispatcher as it is before one of the calls.
+fn measure_enquiries(name: &str, input: &[u8]) -> Times {
+    let made = instants::calls(name, input);
+    let opened = gateway::Dispatcher::open(&made.entries).expect("it was opened before");
+    let plain_opened = plain::Dispatcher::open(&made.entries);
+    let (mut told, mut other) = (gateway::Told::default(), plain::Told::default());
+    let proved = instants::looked(&opened, &made.calls, |d, time, set| assert_eq!(d.instant_into(time, set, &mut told), 0));
+    let plain = instants::looked(&plain_opened, &made.calls, |d, time, set| assert_eq!(d.instant(time, set, &mut other), 0));
+    alternate(
+        name,
+        (proved.len() * instants::ROUNDS) as u64,
+        &mut (instants::Proved::default(), instants::Plain::default()),
+        |lent| instants::enquired(black_box(&proved), &mut lent.0),
+        |lent| instants::enquired_plain(black_box(&plain), &mut lent.1),
+    )
+}
+
 fn main() {
     let worst = records().max(true_records());
     let hostile = hostile_records();
     let (exact, spare) = waveforms();
-    let by_itself = kept_instants();
+    let by_itself = by_calls("an instant by itself", "kept", measure_instants);
+    let commit = by_calls("a commit by itself", "committed", measure_commits);
+    let enquiry = by_calls("an enquiry by itself", "enquired", measure_enquiries);
     let view = views();
     println!("the largest median ratio is {worst:.2}");
     println!("a hostile record takes at most {hostile:.2} times a true one of its length");
     println!("the largest median ratio of a waveform is {exact:.2}, and with room to spare {spare:.2}");
     println!("the largest median ratio of an instant by itself is {by_itself:.2}");
+    println!("the largest median ratio of a commit is {commit:.2}, and of an enquiry {enquiry:.2}");
     println!("a view takes at most {view:.2} of an instant");
 }

@@ -896,11 +896,35 @@ impl Events for Told {
     }
 }
 
+/// What goes on after an instant, as the proved function shows it: begin and ends; pending, waiting and marked; whether an interval is open, its work, and who
+/// is where, with the half.
+#[derive(Clone, Copy, Default, PartialEq, Debug)]
+pub struct View {
+    pub ticks: [u64; 4],
+    pub tasks: [u32; 3],
+    pub units: [u8; 6],
+}
+
+impl State {
+    #[inline]
+    fn view(&self) -> View {
+        let [processor, copy_in, copy_out, half] = self.shown().to_le_bytes();
+        let until = |task: u8, end: u64| if task == NONE { 0 } else { end };
+        let (begin, work) = if self.open { (self.begin, self.work) } else { (0, 0) };
+        View {
+            ticks: [begin, until(processor, self.processor_end), until(copy_in, self.engine_end), until(copy_out, self.engine_end)],
+            tasks: [self.pending, self.waiting, self.marked],
+            units: [u8::from(self.open), work, processor, copy_in, copy_out, half],
+        }
+    }
+}
+
 /// A dispatcher that is advanced in place.
 #[derive(Clone)]
 pub struct Dispatcher {
     state: State,
     last: Option<u64>,
+    ticket: u64,
 }
 
 impl Dispatcher {
@@ -908,12 +932,11 @@ impl Dispatcher {
     pub fn open(entries: &[u8]) -> Dispatcher {
         let mut state = opened();
         assert_eq!(read_table(entries, &mut state), Ok(entries.len()));
-        Dispatcher { state, last: None }
+        Dispatcher { state, last: None, ticket: 0 }
     }
 
-    /// A function of its own, as a library's is for its caller.
-    #[inline(never)]
-    pub fn instant(&mut self, time: u64, set: u32, told: &mut Told) -> u8 {
+    #[inline]
+    fn refusal(&self, time: u64, set: u32) -> u8 {
         if set & !self.state.present != 0 {
             return 16;
         }
@@ -926,12 +949,50 @@ impl Dispatcher {
         if self.state.due() < time {
             return 15;
         }
+        0
+    }
+
+    #[inline]
+    fn serve(&mut self, time: u64, set: u32, told: &mut Told) -> u8 {
+        let number = self.refusal(time, set);
+        if number != 0 {
+            return number;
+        }
         self.last = Some(time);
+        self.ticket = self.ticket.wrapping_add(1);
         told.flags[0] = 0;
         told.flags[1] = 0;
         self.state.instant(time, set, told);
         told.due = self.state.due();
         told.flags[2] = u8::from(told.due != u64::MAX);
+        0
+    }
+
+    /// A function of its own, as a library's is for its caller; and so are those below.
+    #[inline(never)]
+    pub fn instant(&mut self, time: u64, set: u32, told: &mut Told) -> u8 {
+        self.serve(time, set, told)
+    }
+
+    #[inline(never)]
+    pub fn commit(&mut self, ticket: u64, time: u64, set: u32, told: &mut Told) -> u8 {
+        if ticket != self.ticket {
+            return 20;
+        }
+        self.serve(time, set, told)
+    }
+
+    /// What is not refused is stepped in a copy.
+    #[inline(never)]
+    pub fn enquire(&self, time: u64, set: u32, told: &mut Told, next: &mut View, ticket: &mut u64) -> u8 {
+        let number = self.refusal(time, set);
+        if number != 0 {
+            return number;
+        }
+        let mut copy = self.clone();
+        copy.serve(time, set, told);
+        *next = copy.state.view();
+        *ticket = self.ticket;
         0
     }
 }

@@ -1,6 +1,6 @@
 #!/usr/bin/env bash
 # Time the proved functions against plain Rust in one program, and print the ratios of their times: that of records, that which reads them, that of
-# waveforms, and an instant of a dispatcher that is kept; and such an instant with a view after it against one without.
+# waveforms, and an instant of a dispatcher that is kept, a commit and an enquiry; and such an instant with a view after it against one without.
 set -eu
 cd "$(dirname "$0")/.."
 link/library.sh

@@ -26,10 +26,10 @@ can() {
 build() {
     local compiler=$1 name
     shift
-    for name in example driver session any_bytes spacings hardware; do
+    for name in example driver session any_bytes spacings tickets hardware; do
         "$compiler" -std=c11 "${strict[@]}" "$@" -o "$built/$name" "link/$name.c" $library
     done
-    "$built/hardware" 300 2 >"$built/log" && "$built/any_bytes" >"$built/log" && "$built/spacings" >"$built/log" && "$built/example" link/builds.sh >"$built/log" || {
+    "$built/hardware" 300 2 >"$built/log" && "$built/any_bytes" >"$built/log" && "$built/spacings" >"$built/log" && "$built/tickets" >"$built/log" && "$built/example" link/builds.sh >"$built/log" || {
         cat "$built/log"
         echo "a program built by $compiler $* fails"
         exit 1

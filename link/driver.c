@@ -1,4 +1,5 @@
-/* A driver as one would write it: it keeps one dispatcher for each core and calls it at every release and at every due time.
+/* A driver as one would write it: it keeps one dispatcher for each core and calls it at every release and at every due time. It looks first, programs the
+ * core's hardware by what it is shown, and then commits.
  *
  *     driver TASKS < RELEASES
  *
@@ -31,6 +32,7 @@ typedef struct {
     unsigned long held[TASKS]; /* releases of each task that are to be handed in */
     bool has_last[TASKS];      /* a release of the task was handed in and not skipped */
     uint64_t last[TASKS];      /* the last of them, in ticks of the driver's clock */
+    gateway_view programmed;   /* what the core's hardware was told to do */
 } core_state;
 
 typedef struct {
@@ -163,13 +165,49 @@ static bool holds(const core_state *core)
     return false;
 }
 
+/* What a core's engine and processor are to do, before the dispatcher goes on. Here it is kept; link/hardware.c has the commands that follow from what was
+ * programmed before and this, and hardware that carries them out. */
+static void program(core_state *core, const gateway_view *next)
+{
+    core->programmed = *next;
+}
+
+/* What the dispatcher counts is what the hardware was told. */
+static void hold_programmed(const core_state *core)
+{
+    gateway_view now;
+    gateway_now(&core->dispatcher, &now);
+    const gateway_view *p = &core->programmed;
+    if (now.begin != p->begin || now.processor_until != p->processor_until || now.copy_in_until != p->copy_in_until ||
+        now.copy_out_until != p->copy_out_until || now.work != p->work || now.processor != p->processor || now.copy_in != p->copy_in ||
+        now.copy_out != p->copy_out || now.half != p->half) {
+        fail("the dispatcher goes on with something else than the hardware was told");
+    }
+}
+
+/* Looks first, programs the hardware, and then commits. No other call of this driver comes between: one that has several threads looks again where its
+ * commit is refused by GATEWAY_OLD_TICKET. */
+static uint8_t look_and_commit(core_state *core, uint64_t tick, uint32_t set, gateway_answer *answer)
+{
+    gateway_view next;
+    uint64_t ticket = 0;
+    uint8_t refused = gateway_enquire(&core->dispatcher, tick, set, answer, &next, &ticket);
+    if (refused != GATEWAY_SERVED) {
+        return refused;
+    }
+    program(core, &next);
+    refused = gateway_commit(&core->dispatcher, ticket, tick, set, answer);
+    hold_programmed(core);
+    return refused;
+}
+
 /* One call. Where the count is over nothing is handed in, and what is due goes on. */
 static void instant(unsigned number, core_state *core, uint64_t now)
 {
     uint64_t tick = now - core->base;
     uint32_t set = tick > GATEWAY_LAST_TICK ? 0 : hand_in(core), soon = too_soon(core, set, now);
     gateway_answer answer = {0};
-    uint8_t refused = gateway_instant(&core->dispatcher, tick, set & ~soon, &answer);
+    uint8_t refused = look_and_commit(core, tick, set & ~soon, &answer);
     if (refused != GATEWAY_SERVED) {
         fprintf(stderr, "driver: core %u, tick %" PRIu64 ": %s (refusal %u)\n", number, now, gateway_refusal_text(refused), refused);
         exit(1);

@@ -8,7 +8,10 @@
 #include <string.h>
 
 /* Of this header, the library, the pkg-config file and the Rust package: it stands here, and the others are held to it. */
-#define GATEWAY_VERSION "0.7.0"
+#define GATEWAY_VERSION "0.8.0"
+
+/* It has enquiries and commits by tickets: gateway_enquire, gateway_commit. */
+#define GATEWAY_TICKETS 1
 
 #ifdef __cplusplus
 extern "C" {
@@ -45,7 +48,8 @@ enum {
     GATEWAY_UNKNOWN_TASK = 16,
     GATEWAY_TASK_BUSY = 17,
     GATEWAY_NO_LIST = 18,
-    GATEWAY_BAD_SPACING = 19
+    GATEWAY_BAD_SPACING = 19,
+    GATEWAY_OLD_TICKET = 20
 };
 
 /* `work` of an interval and of a view. */
@@ -81,6 +85,7 @@ static inline const char *gateway_refusal_text(uint8_t number)
     case GATEWAY_TASK_BUSY: return "a mark change while a job is pending or a release waits";
     case GATEWAY_NO_LIST: return "no list of releases of these tasks makes this record";
     case GATEWAY_BAD_SPACING: return "a spacing outside 1 to 1,000,000,000, or a second one for a task";
+    case GATEWAY_OLD_TICKET: return "a ticket that is not the present one";
     default: return "no refusal has this number";
     }
 }
@@ -116,12 +121,13 @@ uint8_t gateway_waveform(const uint8_t *input, size_t input_length, uint8_t *out
  * A dispatcher is plain memory with no pointer in it: it is kept, copied and moved freely. Nothing is asked of what it holds: memory that
  * no call made gets an answer too. Each call answers 0, or the number of a refusal (docs/FORMATS.md lists them); one that is refused leaves
  * *d and *answer as they were. The pointers are not null, and what they point to does not overlap. Calls on one dispatcher come one after
- * the other; calls on different ones may run at once. */
+ * the other; calls on different ones may run at once, and so may enquiries and views of one dispatcher, which only read it, as long as no other
+ * call on it runs beside them. */
 
-/* 7 times, of each task its last release and the release that waits, 8 sets, three lengths and the spacing of each task, 9 codes, of each task its
+/* The ticket, 7 times, of each task its last release and the release that waits, 8 sets, three lengths and the spacing of each task, 9 codes, of each task its
  * priority and the blocked intervals of its job. There is no gap between them. */
 typedef struct {
-    uint64_t times[7], release[32], waits[32];
+    uint64_t ticket, times[7], release[32], waits[32];
     uint32_t sets[8], columns[128];
     uint8_t codes[9], priority[32], blocked[32], unused[7];
 } gateway_dispatcher;
@@ -139,7 +145,7 @@ typedef struct {
     uint8_t half, task, work, copied_out, chosen, fate, promoted, unused;
 } gateway_interval;
 
-/* What an instant tells. Where `done`, `closed` or `is_due` is 0, `job`, `interval` or `due` is as it was. */
+/* What an instant tells, and what an enquiry tells of one. Where `done`, `closed` or `is_due` is 0, `job`, `interval` or `due` is as it was. */
 typedef struct {
     uint64_t due;
     uint32_t skipped; /* the set of tasks whose release was skipped now, since it came too soon or one of theirs waits: bit n stands for task n */
@@ -151,7 +157,7 @@ typedef struct {
     gateway_interval interval;
 } gateway_answer;
 
-/* The library tells an answer as so many numbers: gateway_instant puts them into their places. */
+/* The library tells an answer as so many numbers: gateway_put_answer puts them into their places. */
 #define GATEWAY_ANSWER_WORDS 19
 
 /* What goes on now: what the processor and the engine do, with whom and until when. Where nobody is named the end is 0; where no interval is open
@@ -174,8 +180,8 @@ typedef struct {
 #else
 #define GATEWAY_ASSERT(fact, text) extern int gateway_assertion[(fact) ? 1 : -1]
 #endif
-GATEWAY_ASSERT(sizeof(gateway_dispatcher) == 1192, "a dispatcher has no gap");
-GATEWAY_ASSERT(offsetof(gateway_dispatcher, sets) == 568 && offsetof(gateway_dispatcher, codes) == 1112, "a dispatcher's arrays stand one behind the other");
+GATEWAY_ASSERT(sizeof(gateway_dispatcher) == 1200, "a dispatcher has no gap");
+GATEWAY_ASSERT(offsetof(gateway_dispatcher, sets) == 576 && offsetof(gateway_dispatcher, codes) == 1120, "a dispatcher's arrays stand one behind the other");
 GATEWAY_ASSERT(sizeof(gateway_answer) == 72, "an answer has no gap");
 /* A view is lent as 4 ticks, 3 sets and 6 bytes, each kind one behind the other: a copy would take as long as the call. */
 GATEWAY_ASSERT(offsetof(gateway_view, copy_out_until) == 24 && offsetof(gateway_view, pending) == 32, "a view's ticks have no gap");
@@ -184,42 +190,37 @@ GATEWAY_ASSERT(offsetof(gateway_view, half) == 49 && sizeof(gateway_view) == 56,
 
 /* What is exported lends each array of a dispatcher by itself. The functions below find them. The names carry the version of the layout, of what a
  * dispatcher keeps and what an answer tells: a program with the header of another layout is not linked. */
-uint8_t gateway_open_v4(const uint8_t *entries, size_t length, uint64_t *times, uint32_t *sets, uint8_t *codes, uint8_t *priority,
-                        uint32_t *columns, uint64_t *release, uint8_t *blocked, uint64_t *waits, size_t *place);
-uint8_t gateway_instant_v4(uint64_t time, uint32_t set, uint64_t *times, uint32_t *sets, uint8_t *codes, uint64_t *told,
-                           const uint8_t *priority, const uint32_t *columns, uint64_t *release, uint8_t *blocked, uint64_t *waits);
-uint8_t gateway_mark_v4(uint32_t *sets, uint8_t task, uint8_t mark);
-uint64_t gateway_longest_interval_v4(const uint32_t *sets, const uint32_t *columns);
-uint64_t gateway_completes_after_v4(const uint32_t *sets, const uint32_t *columns, uint8_t task, uint32_t h);
-void gateway_now_v4(const uint64_t *times, const uint32_t *sets, const uint8_t *codes, uint64_t *ticks, uint32_t *tasks, uint8_t *units);
+uint8_t gateway_open_v5(const uint8_t *entries, size_t length, uint64_t *times, uint32_t *sets, uint8_t *codes, uint8_t *priority,
+                        uint32_t *columns, uint64_t *release, uint8_t *blocked, uint64_t *waits, uint64_t *ticket, size_t *place);
+uint8_t gateway_instant_v5(uint64_t time, uint32_t set, uint64_t *times, uint32_t *sets, uint8_t *codes, uint64_t *told,
+                           const uint8_t *priority, const uint32_t *columns, uint64_t *release, uint8_t *blocked, uint64_t *waits,
+                           uint64_t *ticket);
+uint8_t gateway_commit_v5(uint64_t given, uint64_t time, uint32_t set, uint64_t *times, uint32_t *sets, uint8_t *codes, uint64_t *told,
+                          const uint8_t *priority, const uint32_t *columns, uint64_t *release, uint8_t *blocked, uint64_t *waits,
+                          uint64_t *ticket);
+uint8_t gateway_enquire_v5(uint64_t time, uint32_t set, const uint64_t *times, const uint32_t *sets, const uint8_t *codes, uint64_t *told,
+                           const uint8_t *priority, const uint32_t *columns, const uint64_t *release, const uint8_t *blocked,
+                           const uint64_t *waits, const uint64_t *ticket, uint64_t *given, uint64_t *ticks, uint32_t *tasks, uint8_t *units);
+uint8_t gateway_mark_v5(uint32_t *sets, uint64_t *ticket, uint8_t task, uint8_t mark);
+uint64_t gateway_longest_interval_v5(const uint32_t *sets, const uint32_t *columns);
+uint64_t gateway_completes_after_v5(const uint32_t *sets, const uint32_t *columns, uint8_t task, uint32_t h);
+void gateway_now_v5(const uint64_t *times, const uint32_t *sets, const uint8_t *codes, uint64_t *ticks, uint32_t *tasks, uint8_t *units);
 
 /* Opens a dispatcher from `length` bytes: task entries, and behind them the spacings, where tasks have some. *place is the place of the entry that is
  * refused, and 0 where there is none. */
 static inline uint8_t gateway_open(const uint8_t *entries, size_t length, gateway_dispatcher *d, size_t *place)
 {
-    uint8_t number = gateway_open_v4(entries, length, d->times, d->sets, d->codes, d->priority, d->columns, d->release, d->blocked, d->waits, place);
+    uint8_t number = gateway_open_v5(entries, length, d->times, d->sets, d->codes, d->priority, d->columns, d->release, d->blocked, d->waits, &d->ticket,
+                                     place);
     if (number == 0) {
         memset(d->unused, 0, sizeof d->unused); /* so that every byte of it is written, and two can be compared */
     }
     return number;
 }
 
-/* An instant: the releases of the set at the time. It is to be called at every release and at every due time: 15 otherwise. Of a task that has a
- * pending job one release waits, and is taken at the instant at which that job is done, before the releases of that instant. Of a task with a spacing
- * a release that comes sooner than that after the last one taken or set waiting is skipped before anything else is asked of it.
- *
- * Phases are counted from the time that is handed in and not from the call: a task's lengths must include how late the driver may be. Ticks are
- * counted from the opening, and releases behind GATEWAY_LAST_TICK are refused; an empty set is served at any time, so that one empty call far in the future
- * ends the count. A new dispatcher can take over only where nothing is due. So a driver chooses its tick long enough, and late in a count it holds
- * releases back until then, as link/driver.c does. A new one knows no last release: whether the first one of a task that has a spacing comes too soon
- * after one that its predecessor served is for the driver to say (gateway_spacing). */
-static inline uint8_t gateway_instant(gateway_dispatcher *d, uint64_t time, uint32_t set, gateway_answer *answer)
+/* What is told put into the places of an answer. */
+static inline void gateway_put_answer(const uint64_t *told, gateway_answer *answer)
 {
-    uint64_t told[GATEWAY_ANSWER_WORDS];
-    uint8_t number = gateway_instant_v4(time, set, d->times, d->sets, d->codes, told, d->priority, d->columns, d->release, d->blocked, d->waits);
-    if (number != 0) {
-        return number;
-    }
     answer->skipped = (uint32_t)told[1];
     answer->done = (uint8_t)told[2];
     answer->closed = (uint8_t)told[3];
@@ -237,7 +238,56 @@ static inline uint8_t gateway_instant(gateway_dispatcher *d, uint64_t time, uint
                                      (uint8_t)told[15], (uint8_t)told[16], (uint8_t)told[17], (uint8_t)told[18], 0};
         answer->interval = interval;
     }
-    return 0;
+}
+
+/* An instant: the releases of the set at the time. It is to be called at every release and at every due time: 15 otherwise. Of a task that has a
+ * pending job one release waits, and is taken at the instant at which that job is done, before the releases of that instant. Of a task with a spacing
+ * a release that comes sooner than that after the last one taken or set waiting is skipped before anything else is asked of it.
+ *
+ * Phases are counted from the time that is handed in and not from the call: a task's lengths must include how late the driver may be. Ticks are
+ * counted from the opening, and releases behind GATEWAY_LAST_TICK are refused; an empty set is served at any time, so that one empty call far in the future
+ * ends the count. A new dispatcher can take over only where nothing is due. So a driver chooses its tick long enough, and late in a count it holds
+ * releases back until then, as link/driver.c does. A new one knows no last release: whether the first one of a task that has a spacing comes too soon
+ * after one that its predecessor served is for the driver to say (gateway_spacing).
+ *
+ * It is an enquiry and its commit in one, and served it raises the ticket by one. */
+static inline uint8_t gateway_instant(gateway_dispatcher *d, uint64_t time, uint32_t set, gateway_answer *answer)
+{
+    uint64_t told[GATEWAY_ANSWER_WORDS];
+    uint8_t number =
+        gateway_instant_v5(time, set, d->times, d->sets, d->codes, told, d->priority, d->columns, d->release, d->blocked, d->waits, &d->ticket);
+    if (number == 0) {
+        gateway_put_answer(told, answer);
+    }
+    return number;
+}
+
+/* Look first, then act. An enquiry answers what an instant with this time and set would: its refusals, or what would occur, with *next what would go on
+ * after it, as gateway_now would show it then, and *ticket the present ticket. Nothing changes: *d is only read, so that several enquiries of one dispatcher
+ * may run at once; one that is refused leaves *answer, *next and *ticket as they were. A driver programs its hardware by *next, and then commits. */
+static inline uint8_t gateway_enquire(const gateway_dispatcher *d, uint64_t time, uint32_t set, gateway_answer *answer, gateway_view *next, uint64_t *ticket)
+{
+    uint64_t told[GATEWAY_ANSWER_WORDS];
+    uint8_t number = gateway_enquire_v5(time, set, d->times, d->sets, d->codes, told, d->priority, d->columns, d->release, d->blocked, d->waits,
+                                        &d->ticket, ticket, &next->begin, &next->pending, &next->is_open);
+    if (number == 0) {
+        gateway_put_answer(told, answer);
+    }
+    return number;
+}
+
+/* Does what an enquiry with this time and set showed, by the ticket that it gave: 20 where another commit, instant or mark call was served since then, and
+ * otherwise exactly the instant, its refusals too. The ticket is the number of commits and mark calls that were served since the opening, instants among the
+ * commits, modulo 2 to the 64th: so long it tells one state of the dispatcher from every other. With another time or set it does what that instant would. */
+static inline uint8_t gateway_commit(gateway_dispatcher *d, uint64_t ticket, uint64_t time, uint32_t set, gateway_answer *answer)
+{
+    uint64_t told[GATEWAY_ANSWER_WORDS];
+    uint8_t number =
+        gateway_commit_v5(ticket, time, set, d->times, d->sets, d->codes, told, d->priority, d->columns, d->release, d->blocked, d->waits, &d->ticket);
+    if (number == 0) {
+        gateway_put_answer(told, answer);
+    }
+    return number;
 }
 
 /* The spacing of a task, 0 where it has none or is not in the table. */
@@ -246,13 +296,15 @@ static inline uint32_t gateway_spacing(const gateway_dispatcher *d, uint8_t task
     return task < 32 ? d->columns[96 + task] : 0;
 }
 
-/* Changes a task's mark from now on, while it has no pending job and no release that waits: 1 latency-sensitive, 0 not. */
+/* Changes a task's mark from now on, while it has no pending job and no release that waits: 1 latency-sensitive, 0 not. Served, it raises the ticket by
+ * one: what was shown before can no longer be committed. */
 static inline uint8_t gateway_mark(gateway_dispatcher *d, uint8_t task, uint8_t mark)
 {
-    return gateway_mark_v4(d->sets, task, mark);
+    return gateway_mark_v5(d->sets, &d->ticket, task, mark);
 }
 
-/* What goes on now. A driver commands its hardware by the views before and after a call: `b` and `a`, and `t` the time of the call. In this order:
+/* What goes on now. A driver commands its hardware by the views before and after a call: `b` and `a`, and `t` the time of the call. It has both before it
+ * commits: the first of gateway_now, the second of the enquiry. In this order:
  *
  *     begins = a.is_open && !(b.is_open && b.begin == a.begin);
  *     goes_on = b.copy_in == a.copy_in && b.copy_in_until == a.copy_in_until;
@@ -268,14 +320,14 @@ static inline uint8_t gateway_mark(gateway_dispatcher *d, uint8_t task, uint8_t 
  * this and checks it. */
 static inline void gateway_now(const gateway_dispatcher *d, gateway_view *view)
 {
-    gateway_now_v4(d->times, d->sets, d->codes, &view->begin, &view->pending, &view->is_open);
+    gateway_now_v5(d->times, d->sets, d->codes, &view->begin, &view->pending, &view->is_open);
 }
 
 /* A figure to plan on. No interval lasts longer than this many ticks: the larger of the table's greatest L + C and the sum of its greatest L and its
  * greatest U. */
 static inline uint64_t gateway_longest_interval(const gateway_dispatcher *d)
 {
-    return gateway_longest_interval_v4(d->sets, d->columns);
+    return gateway_longest_interval_v5(d->sets, d->columns);
 }
 
 /* And a job of the task is done at most this many ticks after it was taken, where h other jobs that are not lower in priority execute between its taking and
@@ -283,7 +335,7 @@ static inline uint64_t gateway_longest_interval(const gateway_dispatcher *d)
  * the instant at which its task's job is done. Of a number that is no task of the table the answer means nothing. */
 static inline uint64_t gateway_completes_after(const gateway_dispatcher *d, uint8_t task, uint32_t h)
 {
-    return gateway_completes_after_v4(d->sets, d->columns, task, h);
+    return gateway_completes_after_v5(d->sets, d->columns, task, h);
 }
 
 #ifdef __cplusplus

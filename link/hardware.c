@@ -1,5 +1,6 @@
 /* A model of a core's hardware, an engine that copies, a processor and a local memory in two halves, and a driver that commands it by link/gateway.h
- * alone: by the views before and after each call. Every command is checked, and after each call every phase is held to the dispatcher's.
+ * alone: by the view before each call and the one that an enquiry shows, before it commits. Every command is checked, and after each call every phase is
+ * held to the dispatcher's.
  *
  *     hardware ROUNDS SEED             random rounds; status 0 with no fault, 1 at the first one
  *     hardware ROUNDS SEED COMMAND     the same, with one command left out: copy-in, break-off, copy-out, run, copy-in-and-run, or `again`, the commands
@@ -44,7 +45,7 @@ typedef struct {
 
 static hardware core;
 static lengths length_of[TASKS];
-static unsigned long copies_in, broken_off, begun_again, thrown_out, promoted, jobs, came_too_soon;
+static unsigned long copies_in, broken_off, begun_again, thrown_out, promoted, jobs, came_too_soon, looked_again;
 
 static void must(bool good, const char *what)
 {
@@ -324,17 +325,54 @@ static size_t make_spacings(uint8_t *entries, unsigned count, uint32_t longest)
     return (size_t)(e - entries);
 }
 
-/* One call and its commands; whether there is a due time, and when. */
-static bool call(gateway_dispatcher *d, uint64_t now, uint32_t set, uint32_t *owed, uint64_t *due)
+/* What an instant would do, with nothing of the dispatcher changed; its ticket. */
+static uint64_t look(const gateway_dispatcher *d, uint64_t now, uint32_t set, gateway_answer *answer, gateway_view *next)
+{
+    gateway_dispatcher before = *d;
+    uint64_t ticket;
+    memset(answer, 0, sizeof *answer);
+    memset(next, 0, sizeof *next);
+    must(gateway_enquire(d, now, set, answer, next, &ticket) == GATEWAY_SERVED, "an enquiry is refused");
+    must(memcmp(d, &before, sizeof before) == 0, "an enquiry has changed the dispatcher");
+    return ticket;
+}
+
+/* A mark call on some task, refused where it is busy; whether it was served. */
+static bool change_mark(gateway_dispatcher *d, unsigned count)
+{
+    unsigned task = below(count), mark = below(2);
+    return gateway_mark(d, (uint8_t)task, (uint8_t)mark) == GATEWAY_SERVED;
+}
+
+/* The commit of what was shown and commanded: it tells what the enquiry told, and what goes on is what it showed. */
+static void commit(gateway_dispatcher *d, uint64_t ticket, uint64_t now, uint32_t set, const gateway_answer *shown, const gateway_view *next)
+{
+    gateway_answer answer;
+    gateway_view after;
+    memset(&answer, 0, sizeof answer);
+    memset(&after, 0, sizeof after);
+    must(gateway_commit(d, ticket, now, set, &answer) == GATEWAY_SERVED, "a commit is refused");
+    gateway_now(d, &after);
+    must(memcmp(&answer, shown, sizeof answer) == 0 && memcmp(&after, next, sizeof after) == 0, "a commit does something else than its enquiry showed");
+}
+
+/* One instant, looked at, commanded and committed; whether there is a due time, and when. Where a mark changes after the look, the ticket is old, and it looks
+ * again. */
+static bool call(gateway_dispatcher *d, unsigned count, uint64_t now, uint32_t set, uint32_t *owed, uint64_t *due)
 {
     gateway_view before, after;
     gateway_answer answer;
-    memset(&answer, 0, sizeof answer);
     gateway_now(d, &before);
     pass(now);
-    must(gateway_instant(d, now, set, &answer) == GATEWAY_SERVED, "a call is refused");
-    gateway_now(d, &after);
+    uint64_t ticket = look(d, now, set, &answer, &after);
+    if (below(4) == 0 && change_mark(d, count)) {
+        gateway_answer none;
+        must(gateway_commit(d, ticket, now, set, &none) == GATEWAY_OLD_TICKET, "a commit by an old ticket is not refused by 20");
+        ticket = look(d, now, set, &answer, &after);
+        looked_again++;
+    }
     command_hardware(&before, &after, now);
+    commit(d, ticket, now, set, &answer, &after);
     compare(&after, &answer);
     compare_skipped(&before, &answer, set);
     for (uint32_t rest = set & ~answer.skipped; rest != 0; rest &= rest - 1) {
@@ -369,10 +407,7 @@ static void play(void)
             left--;
             next += 1 + below(gap);
         }
-        if (below(4) == 0) {
-            gateway_mark(&d, (uint8_t)below(count), (uint8_t)below(2)); /* refused where the task is busy */
-        }
-        is_due = call(&d, now, set, &owed, &due);
+        is_due = call(&d, count, now, set, &owed, &due);
     }
     must(owed == 0, "a release that was taken or waited came to no job");
 }
@@ -401,7 +436,7 @@ int main(int argc, char **argv)
         play();
     }
     printf("%ld rounds: %lu copy-ins, %lu broken off, %lu of them begun again at once, %lu thrown out, %lu by the processor, %lu jobs, %lu releases too "
-           "soon, no fault\n",
-           rounds, copies_in, broken_off, begun_again, thrown_out, promoted, jobs, came_too_soon);
+           "soon, %lu times looked again, no fault\n",
+           rounds, copies_in, broken_off, begun_again, thrown_out, promoted, jobs, came_too_soon, looked_again);
     return 0;
 }

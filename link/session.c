@@ -6,6 +6,9 @@
 #include <stdlib.h>
 #include <string.h>
 
+/* The kinds of call entries. */
+enum { INSTANT = 64, MARK = 65, ENQUIRY = 66, COMMIT = 67 };
+
 static uint64_t number_at(const uint8_t *bytes, int count)
 {
     uint64_t value = 0;
@@ -24,7 +27,8 @@ static void print_task(uint8_t task)
     }
 }
 
-static void print_answer(const gateway_answer *a)
+/* What occurs: the job and the interval, then a line of a letter, the skipped set and the due time, which is left open. */
+static void print_occurred(const gateway_answer *a, char letter)
 {
     if (a->done) {
         printf("J %u %llu %llu %llu %u\n", a->job.task, (unsigned long long)a->job.release, (unsigned long long)a->job.start,
@@ -41,35 +45,83 @@ static void print_answer(const gateway_answer *a)
         print_task(i->promoted);
         printf("\n");
     }
-    printf("A %lu", (unsigned long)a->skipped);
+    printf("%c %lu", letter, (unsigned long)a->skipped);
     if (a->is_due) {
-        printf(" %llu\n", (unsigned long long)a->due);
+        printf(" %llu", (unsigned long long)a->due);
     } else {
-        printf(" -\n");
+        printf(" -");
     }
 }
 
-/* A refused call is to leave everything as it was: both are held to a copy. */
+/* A refused call is to leave everything as it was, and an enquiry the dispatcher: they are held to a copy. */
 static void hold(const void *now, const void *before, size_t size)
 {
     if (memcmp(now, before, size) != 0) {
-        printf("a refused call has changed memory\n");
+        printf("a refused call or an enquiry has changed memory\n");
     }
 }
 
-static void instant(gateway_dispatcher *d, gateway_answer *a, uint64_t time, uint32_t set)
+/* An instant, or where a ticket is lent a commit. */
+static void instant(gateway_dispatcher *d, gateway_answer *a, const uint64_t *ticket, uint64_t time, uint32_t set)
 {
     gateway_dispatcher d_before = *d;
     gateway_answer a_before;
     memcpy(&a_before, a, sizeof a_before);
-    uint8_t refused = gateway_instant(d, time, set, a);
+    uint8_t refused = ticket == NULL ? gateway_instant(d, time, set, a) : gateway_commit(d, *ticket, time, set, a);
     if (refused == 0) {
-        print_answer(a);
+        print_occurred(a, 'A');
+        printf("\n");
         return;
     }
     printf("R %u\n", refused);
     hold(d, &d_before, sizeof d_before);
     hold(a, &a_before, sizeof a_before);
+}
+
+/* What an enquiry fills in. Memory that no call wrote is the same in two of them. */
+typedef struct {
+    gateway_answer answer;
+    gateway_view next;
+    uint64_t ticket;
+} shown;
+
+static void fill(shown *s)
+{
+    memset(s, 0xA5, sizeof *s);
+}
+
+/* A commit in a copy of the dispatcher does what an enquiry showed, and raises the ticket by one. */
+static void hold_to_commit(const gateway_dispatcher *d, uint64_t time, uint32_t set, const shown *enquired)
+{
+    gateway_dispatcher moved = *d;
+    shown done;
+    fill(&done);
+    done.ticket = enquired->ticket;
+    if (gateway_commit(&moved, enquired->ticket, time, set, &done.answer) != 0 || moved.ticket != enquired->ticket + 1) {
+        printf("a commit with the ticket of an enquiry is refused, or raises the ticket by another number\n");
+    }
+    gateway_now(&moved, &done.next);
+    if (memcmp(&done, enquired, sizeof done) != 0) {
+        printf("a commit does something else than its enquiry showed\n");
+    }
+}
+
+static void enquiry(const gateway_dispatcher *d, uint64_t time, uint32_t set)
+{
+    gateway_dispatcher before = *d;
+    shown untouched, s;
+    fill(&untouched);
+    fill(&s);
+    uint8_t refused = gateway_enquire(d, time, set, &s.answer, &s.next, &s.ticket);
+    hold(d, &before, sizeof before);
+    if (refused == 0) {
+        print_occurred(&s.answer, 'E');
+        printf(" %llu\n", (unsigned long long)s.ticket);
+        hold_to_commit(d, time, set, &s);
+        return;
+    }
+    printf("R %u\n", refused);
+    hold(&s, &untouched, sizeof s);
 }
 
 static void mark(gateway_dispatcher *d, uint8_t task, uint8_t value)
@@ -84,6 +136,32 @@ static void mark(gateway_dispatcher *d, uint8_t task, uint8_t value)
     hold(d, &before, sizeof before);
 }
 
+/* The length of a call entry by its kind; 0 of another kind. */
+static size_t size_of(uint8_t kind)
+{
+    switch (kind) {
+    case INSTANT:
+    case ENQUIRY: return 13;
+    case MARK: return 3;
+    case COMMIT: return 21;
+    default: return 0;
+    }
+}
+
+/* One call, by its entry. */
+static void call(gateway_dispatcher *d, gateway_answer *answer, const uint8_t *entry)
+{
+    uint64_t ticket;
+    switch (entry[0]) {
+    case INSTANT: instant(d, answer, NULL, number_at(entry + 1, 8), (uint32_t)number_at(entry + 9, 4)); break;
+    case MARK: mark(d, entry[1], entry[2]); break;
+    case ENQUIRY: enquiry(d, number_at(entry + 1, 8), (uint32_t)number_at(entry + 9, 4)); break;
+    default:
+        ticket = number_at(entry + 1, 8);
+        instant(d, answer, &ticket, number_at(entry + 9, 8), (uint32_t)number_at(entry + 17, 4));
+    }
+}
+
 /* The calls, each answered by a copy of the dispatcher in another place: it is plain memory. */
 static void calls(gateway_dispatcher *d, const uint8_t *input, size_t length)
 {
@@ -91,16 +169,12 @@ static void calls(gateway_dispatcher *d, const uint8_t *input, size_t length)
     memset(&answer, 0xA5, sizeof answer);
     for (size_t at = 0; at < length;) {
         gateway_dispatcher moved = *d;
-        size_t size = input[at] == 64 ? 13 : input[at] == 65 ? 3 : length + 1;
-        if (size > length - at) {
+        size_t size = size_of(input[at]);
+        if (size == 0 || size > length - at) {
             printf("X\n");
             return;
         }
-        if (size == 13) {
-            instant(&moved, &answer, number_at(input + at + 1, 8), (uint32_t)number_at(input + at + 9, 4));
-        } else {
-            mark(&moved, input[at + 1], input[at + 2]);
-        }
+        call(&moved, &answer, input + at);
         *d = moved;
         at += size;
     }

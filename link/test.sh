@@ -103,6 +103,10 @@ passed=$((passed + 1))
 target/link/spacings_c
 passed=$((passed + 1))
 
+# tickets: what counts in them, what is refused, and that a commit does what its enquiry showed
+target/link/tickets_c
+passed=$((passed + 1))
+
 # the model of the hardware, commanded by views alone: no fault, and one with a command of any kind left out
 target/link/hardware_c 3000 "${SEED:-1}"
 passed=$((passed + 1))

@@ -4,14 +4,18 @@ Steps a to g of document 01's instant list are one method each, in that order. W
 by `standing`, and who gives way or blocks by `is_higher`, which looks at priorities alone.
 """
 
+from copy import deepcopy
 from dataclasses import dataclass, field, replace
-from typing import NamedTuple, Optional
+from typing import Any, NamedTuple, Optional
 
 from sim import notes
 from sim.entries import Refused
 from sim.table import Task, read_table
 
 LAST_RELEASE_TIME = 1_000_000_000
+
+# A ticket is counted modulo this many (9/13).
+TICKETS = 2**64
 
 # The work of the processor in an interval.
 IDLE, EXECUTE, COPY_IN_AND_EXECUTE = 0, 1, 2
@@ -89,6 +93,13 @@ class Answer:
     due: Optional[int] = None
 
 
+class Enquiry(NamedTuple):
+    """What an instant would do: what would occur, the dispatcher as it would be after it, and the ticket with which it can be committed."""
+    answer: Answer
+    after: Any
+    ticket: int
+
+
 def standing(job):
     """By what the highest of several jobs is found, the smallest first: the priority; among equals the original time of the release, and then
     the task number (6/13)."""
@@ -136,6 +147,7 @@ class Dispatcher:
     promoted: Optional[Job] = None
     executed: Optional[Job] = None  # to be copied out
 
+    ticket: int = 0  # how many commits and mark calls were served, modulo TICKETS
     begun: int = 0  # how many intervals
     notes: Optional[list] = None  # where there is a list, what each step decided is noted in it (sim/notes.py); nothing goes by it
 
@@ -153,9 +165,20 @@ class Dispatcher:
 
     # Calls. All checks come before the first change, so that a refusal leaves no trace.
 
+    def enquire(self, now, released):
+        """What an instant with the set of tasks released at it would do, or its refusal; nothing changes (9/13)."""
+        after = deepcopy(self, {id(self.notes): None})  # what does not happen is not noted
+        return Enquiry(after.instant(now, released), after, self.ticket)
+
+    def commit(self, ticket, now, released):
+        """Do it, with the ticket of an enquiry since which no commit and no mark call was served (9/13)."""
+        self._check_ticket(ticket)
+        return self.instant(now, released)
+
     def instant(self, now, released):
-        """Serve an instant with the set of tasks released at it."""
+        """Serve an instant with the set of tasks released at it: an enquiry and its commit in one."""
         self._check_instant(now, released)
+        self._count_ticket()
         self.last = now
         answer = Answer()
         self._step_a(now, answer)
@@ -171,6 +194,7 @@ class Dispatcher:
     def mark(self, number, mark):
         """Change one task's mark while it has no pending job and no release that waits."""
         self._check_mark(number, mark)
+        self._count_ticket()
         self.table[number] = replace(self.table[number], mark=mark)
 
     def due(self):
@@ -180,7 +204,11 @@ class Dispatcher:
         units = (self.interval.processor, self.interval.engine)
         return min((phase.end for phase in units if phase is not None), default=None)
 
-    # Refusals, in document 01's order.
+    # Refusals, in document 01's order; of a commit its ticket comes first.
+
+    def _check_ticket(self, ticket):
+        if ticket != self.ticket:
+            raise Refused(20)
 
     def _check_instant(self, now, released):
         if any(number not in self.table for number in members(released)):
@@ -290,6 +318,10 @@ class Dispatcher:
         self._note(notes.Began(now, self.interval))
         self._begin_engine(now)
         self._begin_processor(now)
+
+    def _count_ticket(self):
+        """A commit or a mark call is served."""
+        self.ticket = (self.ticket + 1) % TICKETS
 
     # The parts of the steps.
 

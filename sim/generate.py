@@ -2,14 +2,15 @@
 
 Releases and calls are mostly found by following a dispatcher: at its due time, or just before. Tasks are released again while their job is
 pending, so that releases wait, and on the tick on which it completes; and beside one of their own priority, at once with it, behind it, or while it
-is copied in; and one spacing after their last release, or a tick beside that.
+is copied in; and one spacing after their last release, or a tick beside that. In most sessions instants are looked at first and then committed, some of
+them with another ticket than the present one.
 """
 
-from sim.dispatcher import COPY_IN_DONE, COPY_OUT, LAST_RELEASE_TIME, Dispatcher, members
+from sim.dispatcher import COPY_IN_DONE, COPY_OUT, LAST_RELEASE_TIME, TICKETS, Dispatcher, members
 from sim.entries import FIELDS, RELEASE, SPACING, TASK, Refused, decode, encode, entry_length, release_entry, spacing_entry
 from sim.files import MOST_RELEASES
 from sim.generate_tables import longest_length, random_table, small_length, some_tasks, task_numbers
-from sim.sessions import INSTANT, MARK, call_entry, session_bytes
+from sim.sessions import COMMIT, ENQUIRY, INSTANT, MARK, call_entry, make_call, session_bytes
 from sim.table import HEAD_KINDS, LAST_TASK, LENGTH_LIMIT, LONGEST_SPACING
 
 LAST_TICK = 2**64 - 1
@@ -45,6 +46,11 @@ SKIP_AT_COMPLETION_CHANCE = 0.6
 # How often an instant is looked for where a task's spacing ends, a tick before or behind; and how often that task is then released.
 EDGE_TIME_CHANCE = 0.25
 EDGE_CHANCE = 0.7
+
+# How often an instant of a session is looked at first and committed, or only one of both: in some sessions never, and in some nearly always. How often
+# a commit with a ticket that is not the present one stands before them.
+LOOKS = (0, 0.3, 0.9)
+STALE_CHANCE = 0.25
 
 # Values at and beside the limits of the fields of each size.
 BOUNDARIES = {
@@ -545,13 +551,39 @@ def _next_call(rng, dispatcher, gap, density, refused):
     return (INSTANT, *served_instant(rng, dispatcher, gap, density))
 
 
-def make_call(dispatcher, call):
-    """Make a call: a served instant's answer, None for a served mark, or raise its refusal."""
+def _other_ticket(rng, dispatcher):
+    """An old ticket, one to come, that of the opening, the last that there is, or any: 20, unless it is the present one by chance."""
+    present = dispatcher.ticket
+    near = (present - 1) % TICKETS, (present + 1) % TICKETS
+    return rng.choice((*near, *near, rng.randint(0, present), present + rng.randint(1, 9), 0, TICKETS - 1, rng.getrandbits(64)))
+
+
+def _stale(rng, dispatcher, instant):
+    """A commit with another ticket: of the instant, or of one that is refused for something else too."""
+    time, released = instant
+    committed = rng.choice((instant, (time, rng.getrandbits(32)), (rng.choice(BOUNDARIES[8]), released)))
+    return COMMIT, _other_ticket(rng, dispatcher), *committed
+
+
+def _looked_at(rng, dispatcher, instant):
+    """An instant that is looked at and committed: with the ticket that the enquiry gave; twice, of which the second is old; behind an enquiry of something
+    else, or a mark call, by which the ticket is old; only looked at; or only committed. Before it there may be a commit with another ticket."""
+    enquiry, commit = (ENQUIRY, *instant), (COMMIT, dispatcher.ticket, *instant)
+    another = ENQUIRY, *served_instant(rng, dispatcher, 5, 0.1)
+    stale = [_stale(rng, dispatcher, instant)] if rng.random() < STALE_CHANCE else []
+    return stale + rng.choice(([enquiry, commit], [enquiry, commit], [enquiry, commit], [commit], [commit], [enquiry], [enquiry, commit, commit],
+                               [enquiry, another, commit], [another, commit], [enquiry, _mark(rng, dispatcher), commit]))
+
+
+def _as_called(rng, dispatcher, call, looks):
+    """A call, or where it is an instant what a driver that looks first makes of it."""
     kind, *fields = call
-    return dispatcher.instant(*fields) if kind == INSTANT else dispatcher.mark(*fields)
+    return _looked_at(rng, dispatcher, fields) if kind == INSTANT and looks and rng.random() < looks else [call]
 
 
 def _follow(dispatcher, call):
+    if call[0] == ENQUIRY:
+        return  # it changes nothing
     try:
         make_call(dispatcher, call)
     except Refused:
@@ -565,16 +597,18 @@ def _drain(dispatcher, calls):
         _follow(dispatcher, calls[-1])
 
 
-def random_calls(rng, table, count, drained=False):
-    """Calls found by following a dispatcher that opens from a table's entries; most of them are served."""
+def random_calls(rng, table, count, drained=False, looks=0):
+    """Calls found by following a dispatcher that opens from a table's entries; most of them are served. `looks` says how often an instant is looked at
+    first, which makes several calls of one."""
     dispatcher = Dispatcher.open(b"".join(table))
     gap = 2 * longest_length(table)
     density = _density(rng, dispatcher)
     refused = rng.choice((0, 0.1, 0.2))
     calls = []
     for _ in range(count):
-        calls.append(_next_call(rng, dispatcher, gap, density, refused))
-        _follow(dispatcher, calls[-1])
+        for call in _as_called(rng, dispatcher, _next_call(rng, dispatcher, gap, density, refused), looks):
+            calls.append(call)
+            _follow(dispatcher, call)
     if drained:
         _drain(dispatcher, calls)
     return calls
@@ -583,7 +617,7 @@ def random_calls(rng, table, count, drained=False):
 def session_parts(rng):
     """A table's entries and the calls of a session whose opening is served."""
     table = random_table(rng)
-    return table, random_calls(rng, table, rng.choice((0, 5, 20, 60, 200)), drained=rng.random() < 0.5)
+    return table, random_calls(rng, table, rng.choice((0, 5, 20, 60, 200)), drained=rng.random() < 0.5, looks=rng.choice(LOOKS))
 
 
 def random_session(rng):
@@ -625,7 +659,7 @@ def _call_kind_unknown(rng):
     table, calls = session_parts(rng)
     before = rng.randint(0, len(calls))
     data = session_bytes(b"".join(table), calls[:before])
-    kind = rng.choice((0, 1, 2, 16, 63, 66, 255))
+    kind = rng.choice((0, 1, 2, 16, 63, 69, 255))
     return data + bytes([kind]) + b"".join(call_entry(*call) for call in calls[before:])
 
 
@@ -634,7 +668,10 @@ def _session_cut(rng):
 
 
 def _last_call_cut(rng):
-    return random_session(rng) + bytes([rng.choice((INSTANT, MARK))]) + rng.randbytes(rng.randint(0, 1))
+    """A call of each kind cut short, often by its last byte."""
+    kind, *fields = rng.choice(((INSTANT, 2**63, 0), (MARK, 1, 1), (ENQUIRY, 2**63, 0), (COMMIT, 0, 2**63, 0)))
+    whole = call_entry(kind, *fields)
+    return random_session(rng) + whole[:rng.choice((len(whole) - 1, rng.randint(1, len(whole) - 1)))]
 
 
 def _session_flipped(rng):

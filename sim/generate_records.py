@@ -9,11 +9,11 @@ from sim.dispatcher import LAST_RELEASE_TIME, Dispatcher
 from sim.earlier import NothingWaits
 from sim.entries import FIELDS, INTERVAL, JOB_DONE, NO_TASK, SKIPPED, SPACING, TASK, Refused, decode, encode, entries, release_entry, two_parts
 from sim.files import MOST_RELEASES, instant_entries, run
-from sim.generate import (LAST_TICK, change_kind, change_many_fields, change_one_field, crowded_releases, damage_bytes, damage_entries,
-                          drop, duplicate, make_call, random_calls, swap, table_and_releases, too_short, wrong_length)
+from sim.generate import (LAST_TICK, LOOKS, change_kind, change_many_fields, change_one_field, crowded_releases, damage_bytes, damage_entries,
+                          drop, duplicate, random_calls, swap, table_and_releases, too_short, wrong_length)
 from sim.generate_tables import random_table, task_numbers, tasks_of
 from sim.reading import RECORD_KINDS
-from sim.sessions import INSTANT
+from sim.sessions import instant_of, make_call
 from sim.table import LONGEST_SPACING, read_table
 
 # What the reader keeps of a record: no list yields one that is as long.
@@ -224,13 +224,14 @@ def _made_by_calls(rng):
     """What a list of calls left: a record that a list of releases yields, unless a mark was changed on the way."""
     table = random_table(rng)
     dispatcher, stored = Dispatcher.open(b"".join(table)), []
-    for call in random_calls(rng, table, rng.choice((5, 20, 60)), drained=True):
+    for call in random_calls(rng, table, rng.choice((5, 20, 60)), drained=True, looks=rng.choice(LOOKS)):
         try:
             answer = make_call(dispatcher, call)
         except Refused:
             continue
-        if call[0] == INSTANT:
-            stored += instant_entries(call[1], answer)
+        if instant_of(call) is not None:
+            time, _ = instant_of(call)
+            stored += instant_entries(time, answer)
     return stored_bytes(table, stored)
 
 

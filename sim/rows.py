@@ -11,10 +11,10 @@ import textwrap
 from sim.dispatcher import Dispatcher
 from sim.entries import FIELDS, INTERVAL, JOB_DONE, NO_TASK, RELEASE, SKIPPED, SPACING, TASK, Refused, decode, entry_length, release_entry
 from sim.files import instant_entries, record
-from sim.generate import damage_entries, make_call, random_calls
+from sim.generate import damage_entries, random_calls
 from sim.generate_tables import small_length, some_tasks, task_numbers, with_spacings
 from sim.lines import OPTIONAL_TASKS
-from sim.sessions import INSTANT, MARK
+from sim.sessions import INSTANT, MARK, make_call
 
 MOST_TASKS = 4
 MOST_RELEASES = 8
@@ -58,7 +58,7 @@ def rows(seed, count):
 
 
 def answer_of(dispatcher, call):
-    """The answer of a call: an instant's, None of a mark call, or the refusal."""
+    """The answer of a call: an instant's, a commit's or an enquiry's, None of a mark call, or the refusal."""
     try:
         return make_call(dispatcher, call)
     except Refused as refused:

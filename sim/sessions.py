@@ -11,10 +11,14 @@ from sim.lines import record_lines, refusal_line
 
 INSTANT = 64
 MARK = 65
+ENQUIRY = 66
+COMMIT = 67
 
 CALL_FIELDS = {
-    INSTANT: (8, 4),  # time, set
-    MARK: (1, 1),     # task, mark
+    INSTANT: (8, 4),    # time, set
+    MARK: (1, 1),       # task, mark
+    ENQUIRY: (8, 4),    # time, set
+    COMMIT: (8, 8, 4),  # ticket, time, set
 }
 
 
@@ -23,27 +27,62 @@ def call_entry(kind, *fields):
 
 
 def session_bytes(opening, calls):
-    """A session's input from its opening bytes and its calls (kind, first field, second field)."""
+    """A session's input from its opening bytes and its calls: the kind of each, and its fields."""
     return two_parts(opening, b"".join(call_entry(*call) for call in calls))
 
 
-def answer_lines(answer):
-    """A served instant: the job done (step a) and the interval closed if any, then A, skipped set, due time."""
+def occurred_lines(answer, letter):
+    """What occurs at an instant: the job done (step a) and the interval closed if any, then a line of a letter, the skipped set and the due time."""
     written = b""
     if answer.job_done is not None:
         written += job_entry(answer.job_done)
     if answer.interval is not None:
         written += interval_entry(answer.interval)
     due = "-" if answer.due is None else answer.due
-    return record_lines(written) + [f"A {answer.skipped} {due}"]
+    return record_lines(written) + [f"{letter} {answer.skipped} {due}"]
 
 
-def call_lines(dispatcher, kind, fields):
+def answer_lines(answer):
+    """A served instant or commit."""
+    return occurred_lines(answer, "A")
+
+
+def enquiry_lines(enquiry):
+    """What an instant would do, with the ticket behind it."""
+    *lines, last = occurred_lines(enquiry.answer, "E")
+    return [*lines, f"{last} {enquiry.ticket}"]
+
+
+def mark_lines(_):
+    return ["M"]
+
+
+# Of each kind of call the dispatcher's method for it, and the lines of what that answers.
+CALLS = {
+    INSTANT: ("instant", answer_lines),
+    MARK: ("mark", mark_lines),
+    ENQUIRY: ("enquire", enquiry_lines),
+    COMMIT: ("commit", answer_lines),
+}
+
+
+def make_call(dispatcher, call):
+    """Make a call: what it answers, None for a served mark, or raise its refusal."""
+    kind, *fields = call
+    method, _ = CALLS[kind]
+    return getattr(dispatcher, method)(*fields)
+
+
+def instant_of(call):
+    """The time and the set that an instant or a commit hands in; None of a call that hands in none."""
+    kind, *fields = call
+    return tuple(fields[-2:]) if kind in (INSTANT, COMMIT) else None
+
+
+def call_lines(dispatcher, call):
+    _, lines = CALLS[call[0]]
     try:
-        if kind == INSTANT:
-            return answer_lines(dispatcher.instant(*fields))
-        dispatcher.mark(*fields)
-        return ["M"]
+        return lines(make_call(dispatcher, call))
     except Refused as refused:
         return [f"R {refused.number}"]
 
@@ -53,7 +92,7 @@ def calls_lines(dispatcher, data):
     lines = []
     try:
         for _, kind, fields in entries(data, kinds=CALL_FIELDS, formats=CALL_FIELDS):
-            lines += call_lines(dispatcher, kind, fields)
+            lines += call_lines(dispatcher, (kind, *fields))
     except Refused:  # only `entries` itself gets here: a refused call has its own line
         lines.append("X")
     return lines

@@ -26,6 +26,9 @@ class Task:
     copy_out: int  # U
     spacing: Optional[int] = None  # the ticks from one release to the next that its desk promised; None: not tested
 
+    def __deepcopy__(self, _):
+        return self  # it never changes
+
 
 def _add_task(table, fields, place):
     """Check one task entry against the table so far and add it (refusals 3, 4, 6, 7)."""

@@ -8,6 +8,7 @@ says which, two numbers of 4 bytes and the bytes of a slice; it writes the answe
 import random
 from typing import Callable, NamedTuple
 
+from sim.dispatcher import TICKETS
 from sim.entries import FIELDS, INTERVAL, JOB_DONE, NO_TASK, RELEASE, SKIPPED, SPACING, TASK
 from sim.entries import decode, encode, entry_length, release_entry, spacing_entry, task_entry
 from sim.lines import line
@@ -116,6 +117,11 @@ def completes(a, b, s):
     return number(min((b + (2 if marked else 3)) * longest(a, s) + own, 2**64 - 1))
 
 
+def raised(a, b, s):
+    """The ticket behind the one whose upper half is a and whose lower half is b (9/13)."""
+    return number((2**32 * a + b + 1) % TICKETS)
+
+
 # Arguments: lists of a, b and s.
 
 def some_set(rng):
@@ -191,6 +197,12 @@ def table_and_number(rng):
     return made
 
 
+def halves_of_a_ticket(rng):
+    """The first and the last tickets, those beside them, and those at which the lower half runs over."""
+    ends = (0, 1, 2**32 - 2, 2**32 - 1)
+    return [(a, b, b"") for a in ends for b in ends] + [(rng.getrandbits(32), rng.getrandbits(32), b"") for _ in range(9)]
+
+
 CALLS = (
     Call("say(if sets::contains(a, task) { 1 } else { 0 })", lambda a, b, s: number(int(b in members(a))), set_and_task),
     Call("say(sets::insert(a, task) as u64)", lambda a, b, s: task_set(members(a) | {b}), set_and_task),
@@ -213,9 +225,10 @@ CALLS = (
     Call("say(blockable(s, a) as u64)", blockable, set_and_interval),
     Call("say(guarantees::longest_interval(&columns_of(s), a))", lambda a, b, s: number(longest(a, s)), table_and_number),
     Call("say(guarantees::completes_after(&columns_of(s), a, s[512], s[513] == 1, b))", completes, table_and_number),
+    Call("say(dispatcher::raised(4294967296 * a as u64 + b as u64))", raised, halves_of_a_ticket),
 )
 
-NEEDS = ("entries", "guarantees", "record_lines", "rules", "run", "sets", "words", "io", "libc")
+NEEDS = ("dispatcher", "entries", "guarantees", "record_lines", "rules", "run", "sets", "words", "io", "libc")
 
 SOURCE = """
 use entries::Entry;

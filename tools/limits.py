@@ -1,6 +1,6 @@
 """Inputs at the limits of document 01, beside the random ones: a cut at each byte, each field at and beside its limits, exactly as many
 releases as there may be and one more, times at the end of what a number holds, a release on each tick around a copy-in, releases that wait,
-tasks of one priority, and releases around the end of a spacing."""
+tasks of one priority, releases around the end of a spacing, and commits with tickets of every kind."""
 
 from sim import other_orders, other_spacings
 from sim.dispatcher import LAST_RELEASE_TIME, Dispatcher, members
@@ -8,7 +8,7 @@ from sim.earlier import NothingWaits
 from sim.entries import JOB_DONE, SKIPPED, decode, encode, release_entry, spacing_entry, task_entry, two_parts
 from sim.files import MOST_RELEASES, released_sets, run
 from sim.generate_records import LONGEST_KEPT, record_entries
-from sim.sessions import INSTANT, MARK, call_entry, session_bytes
+from sim.sessions import COMMIT, ENQUIRY, INSTANT, MARK, call_entry, session_bytes
 from sim.table import LAST_TASK, LENGTH_LIMIT, LONGEST_SPACING, read_table
 
 LAST_TICK = 2**64 - 1
@@ -243,14 +243,51 @@ def spaced_sessions():
     return [*found, spaced_session(full_head(), full_releases())]
 
 
+# Plan A up to the promotion of 1, as instants (time, set).
+PLAN_A = ((0, 8), (2, 4), (3, 2), (7, 0), (9, 0))
+
+# An enquiry and a commit, refused and served, and what may stand between them: the old call, mark calls served and refused, other enquiries, the
+# same commit again, and commits of another time and set.
+LOOKED_AT = (
+    (ENQUIRY, 0, 8), (COMMIT, 0, 0, 8), (ENQUIRY, 2, 4), (INSTANT, 1, 0), (COMMIT, 1, 2, 4), (COMMIT, 2, 2, 4), (COMMIT, 2, 3, 2), (ENQUIRY, 3, 2),
+    (MARK, 1, 1), (COMMIT, 3, 3, 2), (ENQUIRY, 3, 2), (MARK, 2, 1), (MARK, 9, 1), (MARK, 1, 2), (COMMIT, 4, 3, 1), (COMMIT, 4, 2, 0), (COMMIT, 4, 8, 0),
+    (COMMIT, 4, LAST_RELEASE_TIME + 1, 2), (ENQUIRY, 3, 1), (ENQUIRY, 2, 0), (ENQUIRY, 8, 0), (ENQUIRY, LAST_RELEASE_TIME + 1, 2), (COMMIT, 4, 3, 2),
+    (ENQUIRY, 7, 0), (COMMIT, 5, 4, 4), (ENQUIRY, 7, 14), (COMMIT, 6, 7, 14), (ENQUIRY, 9, 0), (ENQUIRY, 8, 14), (COMMIT, 7, 9, 0))
+
+
+def other_tickets(present):
+    """Tickets beside the present one: old ones, those to come, the first and the last, and such as differ from it in one byte alone."""
+    near = {present + by for by in (-2, -1, 1, 2, 256)} | {present ^ 1 << 8 * byte for byte in range(8)}
+    return sorted(ticket for ticket in near | {0, 2**63, LAST_TICK - 1, LAST_TICK} if 0 <= ticket != present)
+
+
+def at_each_ticket(refused):
+    """Plan A by commits, before each of them those with each other ticket, of the same instant and of one that is refused, and that one with the present
+    ticket."""
+    calls = []
+    for present, instant in enumerate(PLAN_A):
+        calls += [(COMMIT, ticket, *given) for ticket in other_tickets(present) for given in (instant, refused)]
+        calls += [(ENQUIRY, *refused), (COMMIT, present, *refused), (ENQUIRY, *instant), (COMMIT, present, *instant)]
+    return calls
+
+
+def ticket_sessions():
+    """Enquiries and commits: between all else, with each ticket, after many served calls, and cut at each byte."""
+    many = [call for ticket in range(300) for call in ((COMMIT, max(0, ticket - 1), ticket, 0), (COMMIT, ticket, ticket, 0))]
+    marks = [call for ticket in range(260) for call in ((MARK, 2, ticket % 2), (ENQUIRY, 0, 0))] + [(COMMIT, 260 - 256, 0, 0), (COMMIT, 260, 0, 0)]
+    refused = ((0, 1), (0, 9), (LAST_RELEASE_TIME + 1, 2), (LAST_RELEASE_TIME + 1, 3))
+    found = [session_bytes(TABLE, calls) for calls in (LOOKED_AT, many, marks, *map(at_each_ticket, refused))]
+    return found + [session_bytes(TABLE, LOOKED_AT[:1]) + part for part in cuts(b"".join(call_entry(*call) for call in LOOKED_AT[1:4]))]
+
+
 def sessions():
     """Cuts of the opening bytes, which may end in a release, and of the calls; openings of other tasks; times at the limits; what waits; equals;
-    spacings."""
+    spacings; tickets."""
     calls = b"".join(call_entry(*call) for call in CALLS)
     found = [session_bytes(opening, CALLS) for opening in cuts(TABLE + RELEASES[0])]
     found += [session_bytes(TABLE, ()) + part for part in cuts(calls)]
     found += [session_bytes(TABLE + other, CALLS) for other in other_tasks()]
-    found += waiting_sessions() + equal_sessions() + spaced_sessions()
+    found += waiting_sessions() + equal_sessions() + spaced_sessions() + ticket_sessions()
     spaced = b"".join(spaced_head(((1, 6), (3, 4)))) + RELEASES[0]
     found += [session_bytes(opening, CALLS) for opening in cuts(spaced)[len(TABLE):]]
     found += [session_bytes(TABLE + other, CALLS) for other in bad_spacings()]

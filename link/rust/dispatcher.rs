@@ -6,7 +6,7 @@ use std::fmt;
 mod raw {
     #[link(name = "gateway", kind = "static")]
     unsafe extern "C" {
-        pub fn gateway_open_v4(
+        pub fn gateway_open_v5(
             entries: *const u8,
             length: usize,
             times: &mut [u64; 7],
@@ -17,10 +17,11 @@ mod raw {
             release: &mut [u64; 32],
             blocked: &mut [u8; 32],
             waits: &mut [u64; 32],
+            ticket: &mut u64,
             place: &mut usize,
         ) -> u8;
 
-        pub fn gateway_instant_v4(
+        pub fn gateway_instant_v5(
             time: u64,
             set: u32,
             times: &mut [u64; 7],
@@ -32,15 +33,51 @@ mod raw {
             release: &mut [u64; 32],
             blocked: &mut [u8; 32],
             waits: &mut [u64; 32],
+            ticket: &mut u64,
         ) -> u8;
 
-        pub fn gateway_mark_v4(sets: &mut [u32; 8], task: u8, mark: u8) -> u8;
+        pub fn gateway_commit_v5(
+            given: u64,
+            time: u64,
+            set: u32,
+            times: &mut [u64; 7],
+            sets: &mut [u32; 8],
+            codes: &mut [u8; 9],
+            told: &mut super::Told,
+            priority: &[u8; 32],
+            columns: &[u32; 128],
+            release: &mut [u64; 32],
+            blocked: &mut [u8; 32],
+            waits: &mut [u64; 32],
+            ticket: &mut u64,
+        ) -> u8;
 
-        pub fn gateway_longest_interval_v4(sets: &[u32; 8], columns: &[u32; 128]) -> u64;
+        pub fn gateway_enquire_v5(
+            time: u64,
+            set: u32,
+            times: &[u64; 7],
+            sets: &[u32; 8],
+            codes: &[u8; 9],
+            told: &mut super::Told,
+            priority: &[u8; 32],
+            columns: &[u32; 128],
+            release: &[u64; 32],
+            blocked: &[u8; 32],
+            waits: &[u64; 32],
+            ticket: &u64,
+            given: &mut u64,
+            ticks: &mut [u64; 4],
+            tasks: &mut [u32; 3],
+            units: &mut [u8; 6],
+        ) -> u8;
 
-        pub fn gateway_completes_after_v4(sets: &[u32; 8], columns: &[u32; 128], task: u8, h: u32) -> u64;
+        pub fn gateway_mark_v5(sets: &mut [u32; 8], ticket: &mut u64, task: u8, mark: u8) -> u8;
 
-        pub fn gateway_now_v4(
+        pub fn gateway_longest_interval_v5(sets: &[u32; 8], columns: &[u32; 128]) -> u64;
+
+        pub fn gateway_completes_after_v5(sets: &[u32; 8], columns: &[u32; 128], task: u8, h: u32) -> u64;
+
+        pub fn gateway_now_v5(
             times: &[u64; 7],
             sets: &[u32; 8],
             codes: &[u8; 9],
@@ -131,6 +168,17 @@ pub struct Answer {
     pub due: Option<u64>,
 }
 
+/// What an instant would do, and the ticket by which it is committed.
+#[derive(Clone, Copy, Debug, PartialEq, Eq)]
+pub struct Enquiry {
+    /// What would occur, and the due time that there would be.
+    pub answer: Answer,
+    /// What would go on after it: a driver programs its hardware by it, and then commits.
+    pub next: View,
+    /// The present ticket: as long as no commit, no instant and no mark call is served, a commit by it does just this.
+    pub ticket: u64,
+}
+
 /// A phase under way.
 #[derive(Clone, Copy, Debug, PartialEq, Eq)]
 pub struct Phase {
@@ -140,7 +188,7 @@ pub struct Phase {
     pub until: u64,
 }
 
-/// What goes on now. A driver commands its hardware by the views before and after a call, as link/gateway.h says: an interval began where
+/// What goes on now, or would after an enquiry. A driver commands its hardware by the views before and after a call, as link/gateway.h says: an interval began where
 /// [`View::begins_after`]; a copy goes on where it is the same phase in both; one that was under way, had not ended and is not the same was broken off.
 #[derive(Clone, Copy, Debug, PartialEq, Eq)]
 pub struct View {
@@ -185,6 +233,7 @@ impl View {
 #[repr(C)]
 #[derive(Clone)]
 pub struct Dispatcher {
+    ticket: u64,
     times: [u64; 7],
     release: [u64; 32],
     waits: [u64; 32],
@@ -196,13 +245,14 @@ pub struct Dispatcher {
     unused: [u8; 7],
 }
 
-const _: () = assert!(std::mem::size_of::<Dispatcher>() == 1192);
-const _: () = assert!(std::mem::offset_of!(Dispatcher, sets) == 568 && std::mem::offset_of!(Dispatcher, codes) == 1112);
+const _: () = assert!(std::mem::size_of::<Dispatcher>() == 1200);
+const _: () = assert!(std::mem::offset_of!(Dispatcher, sets) == 576 && std::mem::offset_of!(Dispatcher, codes) == 1120);
 
 impl Dispatcher {
     /// Opens a dispatcher from task entries, 16 bytes each, and behind them the spacings, 6 bytes each, as an input has them.
     pub fn open(entries: &[u8]) -> Result<Dispatcher, Refusal> {
         let mut d = Dispatcher {
+            ticket: 0,
             times: [0; 7],
             sets: [0; 8],
             codes: [0; 9],
@@ -216,7 +266,7 @@ impl Dispatcher {
         let mut place = 0;
         // The slice and the arrays are live, and Rust lets no two of them overlap: the function asks no more.
         let number = unsafe {
-            raw::gateway_open_v4(
+            raw::gateway_open_v5(
                 entries.as_ptr(),
                 entries.len(),
                 &mut d.times,
@@ -227,6 +277,7 @@ impl Dispatcher {
                 &mut d.release,
                 &mut d.blocked,
                 &mut d.waits,
+                &mut d.ticket,
                 &mut place,
             )
         };
@@ -239,6 +290,8 @@ impl Dispatcher {
     /// Hands in the releases of a set at a time. It is to be called at every release and at every due time. Of a task that has a pending job one release
     /// waits, and is taken at the instant at which that job is done, before the releases of that instant. Of a task with a spacing a release that comes
     /// sooner than that after the last one taken or set waiting is skipped before anything else is asked of it.
+    ///
+    /// It is an enquiry and its commit in one, and served it raises the ticket by one.
     #[inline]
     pub fn instant(&mut self, time: u64, set: Set) -> Result<Answer, Refusal> {
         let mut told = Told::default();
@@ -253,7 +306,7 @@ impl Dispatcher {
     pub fn instant_into(&mut self, time: u64, set: Set, told: &mut Told) -> u8 {
         // The arrays are live, and Rust lets no two of them overlap: the function asks no more.
         unsafe {
-            raw::gateway_instant_v4(
+            raw::gateway_instant_v5(
                 time,
                 set,
                 &mut self.times,
@@ -265,14 +318,90 @@ impl Dispatcher {
                 &mut self.release,
                 &mut self.blocked,
                 &mut self.waits,
+                &mut self.ticket,
             )
         }
     }
 
-    /// Changes a task's mark from now on, while it has no pending job and no release that waits.
+    /// What an instant with this time and set would do, or its refusal. Nothing changes, and several enquiries of one dispatcher may run at once.
+    #[inline]
+    pub fn enquire(&self, time: u64, set: Set) -> Result<Enquiry, Refusal> {
+        let (mut told, mut shown, mut ticket) = (Told::default(), Shown::default(), 0);
+        match self.enquire_into(time, set, &mut told, &mut shown, &mut ticket) {
+            0 => Ok(Enquiry { answer: told.answer(), next: shown.view(), ticket }),
+            number => Err(Refusal::alone(number)),
+        }
+    }
+
+    /// The same, with what is told and shown, and the ticket, in memory that the caller keeps: 0, or the number of the refusal.
+    #[inline]
+    pub fn enquire_into(&self, time: u64, set: Set, told: &mut Told, shown: &mut Shown, ticket: &mut u64) -> u8 {
+        // As above.
+        unsafe {
+            raw::gateway_enquire_v5(
+                time,
+                set,
+                &self.times,
+                &self.sets,
+                &self.codes,
+                told,
+                &self.priority,
+                &self.columns,
+                &self.release,
+                &self.blocked,
+                &self.waits,
+                &self.ticket,
+                ticket,
+                &mut shown.ticks,
+                &mut shown.tasks,
+                &mut shown.units,
+            )
+        }
+    }
+
+    /// Does what an enquiry with this time and set showed, by its ticket: [`Refusal::OLD_TICKET`] where another commit, instant or mark call was served since
+    /// then, and otherwise exactly the instant. With another time or set it does what that instant would.
+    #[inline]
+    pub fn commit(&mut self, ticket: u64, time: u64, set: Set) -> Result<Answer, Refusal> {
+        let mut told = Told::default();
+        match self.commit_into(ticket, time, set, &mut told) {
+            0 => Ok(told.answer()),
+            number => Err(Refusal::alone(number)),
+        }
+    }
+
+    /// The same, with what is told in memory that the caller keeps: 0, or the number of the refusal.
+    #[inline]
+    pub fn commit_into(&mut self, ticket: u64, time: u64, set: Set, told: &mut Told) -> u8 {
+        // As above.
+        unsafe {
+            raw::gateway_commit_v5(
+                ticket,
+                time,
+                set,
+                &mut self.times,
+                &mut self.sets,
+                &mut self.codes,
+                told,
+                &self.priority,
+                &self.columns,
+                &mut self.release,
+                &mut self.blocked,
+                &mut self.waits,
+                &mut self.ticket,
+            )
+        }
+    }
+
+    /// The present ticket: the number of commits, instants and mark calls that were served since the opening, modulo 2 to the 64th.
+    pub fn ticket(&self) -> u64 {
+        self.ticket
+    }
+
+    /// Changes a task's mark from now on, while it has no pending job and no release that waits. Served, it raises the ticket by one.
     pub fn mark(&mut self, task: u8, latency_sensitive: bool) -> Result<(), Refusal> {
         // As above.
-        match unsafe { raw::gateway_mark_v4(&mut self.sets, task, latency_sensitive.into()) } {
+        match unsafe { raw::gateway_mark_v5(&mut self.sets, &mut self.ticket, task, latency_sensitive.into()) } {
             0 => Ok(()),
             number => Err(Refusal::alone(number)),
         }
@@ -290,21 +419,21 @@ impl Dispatcher {
     #[inline]
     pub fn now_into(&self, shown: &mut Shown) {
         // As above.
-        unsafe { raw::gateway_now_v4(&self.times, &self.sets, &self.codes, &mut shown.ticks, &mut shown.tasks, &mut shown.units) }
+        unsafe { raw::gateway_now_v5(&self.times, &self.sets, &self.codes, &mut shown.ticks, &mut shown.tasks, &mut shown.units) }
     }
 
     /// A figure to plan on: no interval lasts longer than this many ticks. It is the larger of the table's greatest L + C and the sum of its greatest L
     /// and its greatest U.
     pub fn longest_interval(&self) -> u64 {
         // As above.
-        unsafe { raw::gateway_longest_interval_v4(&self.sets, &self.columns) }
+        unsafe { raw::gateway_longest_interval_v5(&self.sets, &self.columns) }
     }
 
     /// By how many ticks after its taking a job of the task is done at the latest, where `h` other jobs that are not lower in priority execute between its
     /// taking and its own execution; by the mark that the task has now. Of a number that is no task of the table the answer means nothing.
     pub fn completes_after(&self, task: u8, h: u32) -> u64 {
         // As above.
-        unsafe { raw::gateway_completes_after_v4(&self.sets, &self.columns, task, h) }
+        unsafe { raw::gateway_completes_after_v5(&self.sets, &self.columns, task, h) }
     }
 
     /// The spacing of a task, where it has one. A dispatcher that takes over from another knows no last release: whether the first one of a task comes too
@@ -333,6 +462,7 @@ impl fmt::Debug for Dispatcher {
             .field("pending", &format_args!("{:#b}", self.sets[1]))
             .field("waiting", &format_args!("{:#b}", self.sets[5]))
             .field("last", &last)
+            .field("ticket", &self.ticket)
             .finish_non_exhaustive()
     }
 }

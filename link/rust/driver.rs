@@ -1,4 +1,5 @@
-//! A driver as one would write it: it keeps one dispatcher for each core and calls it at every release and at every due time.
+//! A driver as one would write it: it keeps one dispatcher for each core and calls it at every release and at every due time. It looks first, programs the
+//! core's hardware by what it is shown, and then commits.
 //!
 //!     driver TASKS < RELEASES
 //!
@@ -7,7 +8,7 @@
 //! core in front. It goes on for ever: late in its count a core goes on with a new dispatcher at an idle moment, and where none comes in time its releases are
 //! held back until there is one. The status is 2 where what it reads is rubbish, and 1 where the dispatcher refuses it.
 
-use gateway::{Answer, Dispatcher, Interval, LAST_TICK, Refusal};
+use gateway::{Answer, Dispatcher, Interval, LAST_TICK, Refusal, View};
 use std::collections::BTreeMap;
 use std::fmt::Display;
 use std::io::{self, BufRead, BufWriter, Write};
@@ -77,9 +78,17 @@ struct Core {
     has_release: bool,
     /// Of each task the last release that was handed in and not skipped, in ticks of the driver's clock.
     last: [Option<u64>; TASKS],
+    /// What the core's hardware was told to do.
+    programmed: View,
 }
 
 impl Core {
+    /// A core begins with a copy of a dispatcher that is opened.
+    fn begun(opened: &Dispatcher) -> Core {
+        let (dispatcher, programmed) = (opened.clone(), opened.now());
+        Core { dispatcher, base: 0, due: None, held: [0; TASKS], has_release: false, last: [None; TASKS], programmed }
+    }
+
     /// With no due time nothing is pending and nothing waits, and a new dispatcher can take over, which is told the marks. Of the last releases it knows
     /// nothing: see `too_soon`.
     fn count_anew(&mut self, opened: &Dispatcher, now: u64) -> Result<(), Refusal> {
@@ -115,12 +124,28 @@ impl Core {
         (0..TASKS).filter(|&task| set >> task & 1 == 1 && comes_sooner(task)).fold(0, |soon, task| soon | 1 << task)
     }
 
+    /// What the engine and the processor are to do, before the dispatcher goes on. Here it is kept; link/hardware.c has the commands that follow from what was
+    /// programmed before and this, and hardware that carries them out.
+    fn program(&mut self, next: View) {
+        self.programmed = next;
+    }
+
+    /// Looks first, programs the hardware, and then commits. No other call of this driver comes between: one that has several threads looks again where its
+    /// commit is refused by `Refusal::OLD_TICKET`.
+    fn look_and_commit(&mut self, tick: u64, set: u32) -> Result<Answer, Refusal> {
+        let shown = self.dispatcher.enquire(tick, set)?;
+        self.program(shown.next);
+        let answer = self.dispatcher.commit(shown.ticket, tick, set)?;
+        assert_eq!((answer, self.dispatcher.now()), (shown.answer, self.programmed), "the dispatcher goes on with what the hardware was told");
+        Ok(answer)
+    }
+
     /// One call. Where the count is over nothing is handed in, and what is due goes on.
     fn instant(&mut self, now: u64) -> Result<Answer, Refusal> {
         let tick = now - self.base;
         let set = if tick > LAST_TICK { 0 } else { self.hand_in() };
         let soon = self.too_soon(set, now);
-        let mut answer = self.dispatcher.instant(tick, set & !soon)?;
+        let mut answer = self.look_and_commit(tick, set & !soon)?;
         answer.skipped |= soon;
         for task in (0..TASKS).filter(|task| (set & !answer.skipped) >> task & 1 == 1) {
             self.last[task] = Some(now);
@@ -233,8 +258,7 @@ struct Driver {
 
 impl Driver {
     fn take(&mut self, event: Event) {
-        let fresh = || Core { dispatcher: self.opened.clone(), base: 0, due: None, held: [0; TASKS], has_release: false, last: [None; TASKS] };
-        let core = self.cores.entry(event.core).or_insert_with(fresh);
+        let core = self.cores.entry(event.core).or_insert_with(|| Core::begun(&self.opened));
         let held = &mut core.held[usize::from(event.task)];
         let Some(value) = event.mark else {
             *held += 1;

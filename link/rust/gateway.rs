@@ -7,7 +7,7 @@ mod dispatcher;
 #[path = "refusal.rs"]
 mod refusal;
 
-pub use dispatcher::{Answer, Dispatcher, Fate, Interval, Job, Phase, Set, Shown, Told, View, Work};
+pub use dispatcher::{Answer, Dispatcher, Enquiry, Fate, Interval, Job, Phase, Set, Shown, Told, View, Work};
 pub use refusal::Refusal;
 
 /// The last tick at which a release is taken: behind it, it is refused by [`Refusal::PAST_LAST_TICK`].

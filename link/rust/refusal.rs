@@ -49,6 +49,7 @@ numbers! {
     TASK_BUSY = 17: "a mark change while a job is pending or a release waits",
     NO_LIST = 18: "no list of releases of these tasks makes this record",
     BAD_SPACING = 19: "a spacing outside 1 to 1,000,000,000, or a second one for a task",
+    OLD_TICKET = 20: "a ticket that is not the present one",
 }
 
 impl Refusal {

@@ -246,6 +246,57 @@ fn a_refused_call_changes_nothing() {
     assert_eq!(d.instant(7, 0), before.clone().instant(7, 0));
 }
 
+/// Plan A, looked at and committed: each commit does what its enquiry showed, and what an instant would.
+#[test]
+fn look_first_then_act() {
+    let (mut d, mut by_instants) = (Dispatcher::open(&plan()).unwrap(), Dispatcher::open(&plan()).unwrap());
+    let calls = [(0, 1 << 3), (2, 1 << 2), (3, 1 << 1), (7, 0), (9, 0), (11, 0), (12, 0), (13, 0), (16, 0), (17, 0)];
+    for (count, (time, set)) in (0..).zip(calls) {
+        let before = d.clone();
+        let shown = d.enquire(time, set).unwrap();
+        assert_eq!((shown.ticket, format!("{d:?}")), (count, format!("{before:?}")));
+        assert_eq!(d.enquire(time, set), Ok(shown));
+        assert_eq!(d.commit(shown.ticket, time, set), Ok(shown.answer));
+        assert_eq!((d.now(), d.ticket()), (shown.next, count + 1));
+        assert_eq!(by_instants.instant(time, set), Ok(shown.answer));
+        assert_eq!(d.commit(shown.ticket, time + 1, 0).unwrap_err().number, Refusal::OLD_TICKET);
+    }
+    assert_eq!((d.pending(), d.ticket(), by_instants.ticket()), (0, 10, 10));
+}
+
+#[test]
+fn an_old_ticket() {
+    let mut d = Dispatcher::open(&plan()).unwrap();
+    let shown = d.enquire(0, 1 << 3).unwrap();
+    d.mark(2, true).unwrap();
+    let refusal = d.commit(shown.ticket, 0, 1 << 3).unwrap_err();
+    assert_eq!(refusal.to_string(), "a ticket that is not the present one (refusal 20)");
+    // it comes before all that an instant is refused by
+    for (ticket, time, set, number) in [(0, 0, 1 << 9, 20), (u64::MAX, 0, 0, 20), (2, 0, 0, 20), (1, 0, 1 << 9, 16), (1, 1_000_000_001, 2, 10)] {
+        assert_eq!(d.commit(ticket, time, set).unwrap_err().number, number);
+    }
+    assert_eq!(d.enquire(0, 1 << 9).unwrap_err().number, 16);
+    assert_eq!(d.ticket(), 1);
+    // with another time or set it does what that instant would
+    let mut other = d.clone();
+    assert_eq!(d.commit(1, 4, 1 << 1), other.instant(4, 1 << 1));
+    for (time, number) in [(4, 14), (7, 15)] {
+        assert_eq!(d.enquire(time, 0).unwrap_err().number, number);
+    }
+}
+
+/// Enquiries only read the dispatcher, so that several threads may make them at once.
+#[test]
+fn enquiries_beside_each_other() {
+    let mut d = Dispatcher::open(&plan()).unwrap();
+    d.instant(0, 1 << 3).unwrap();
+    let alone = [0, 1 << 1, 1 << 2, 1 << 3].map(|set| d.enquire(2, set).unwrap());
+    let beside = std::thread::scope(|scope| {
+        [0, 1 << 1, 1 << 2, 1 << 3].map(|set| scope.spawn({ let d = &d; move || (0..1000).map(|_| d.enquire(2, set).unwrap()).last() })).map(|made| made.join().unwrap())
+    });
+    assert_eq!(beside, alone.map(Some));
+}
+
 #[test]
 fn marks() {
     let mut d = Dispatcher::open(&plan()).unwrap();

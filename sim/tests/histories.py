@@ -3,8 +3,7 @@
 from sim.dispatcher import Dispatcher
 from sim.entries import Refused, entries, parts_of
 from sim.files import read_file, released_sets, run
-from sim.generate import make_call
-from sim.sessions import CALL_FIELDS, INSTANT
+from sim.sessions import CALL_FIELDS, MARK, instant_of, make_call
 from sim.tests.history import History
 
 
@@ -27,9 +26,9 @@ def list_history(opening, calls):
             answer = make_call(dispatcher, call)
         except Refused:
             continue
-        if call[0] == INSTANT:
-            history.instant(*call[1:], answer)
-        else:
+        if instant_of(call) is not None:
+            history.instant(*instant_of(call), answer)
+        elif call[0] == MARK:
             history.mark(*call[1:])
     return history
 

@@ -5,8 +5,8 @@ import functools
 import random
 import unittest
 
-from sim import other_orders, other_spacings
-from sim.dispatcher import Dispatcher
+from sim import other_orders, other_spacings, other_tickets
+from sim.dispatcher import TICKETS, Dispatcher, Enquiry
 from sim.entries import Refused, parts_of
 from sim.files import instant_entries, read_file, run
 from sim.generate import LONGEST_CHECKED, damaged_file, damaged_session, random_file, random_session
@@ -15,7 +15,7 @@ from sim.generate_records import (LONGEST_KEPT, damaged_stored, longer_than_kept
 from sim.lines import file_lines, record_lines
 from sim.reading import read_lines
 from sim.rows import answer_of
-from sim.sessions import MARK, calls_lines, session_lines
+from sim.sessions import COMMIT, ENQUIRY, MARK, calls_lines, instant_of, session_lines
 from sim.table import LONGEST_SPACING
 from sim.tests.histories import file_history, list_history, session_calls
 from sim.tests.history import is_too_soon
@@ -208,6 +208,42 @@ class Spacings(unittest.TestCase):
         self.assertGreater(refused.count(False), SEEDS / 20)
 
 
+class Tickets(unittest.TestCase):
+    """9/13: instants are looked at and committed, with tickets of every kind, and each wrong way of counting or looking at them shows."""
+
+    def test_sessions(self):
+        for kind, count in sessions_told(other_tickets.ALL).items():
+            with self.subTest(kind=kind.__name__):
+                self.assertGreater(count, SOME / 10)
+
+    def test_tickets(self):
+        seen = collections.Counter()
+        for data in made(random_session):
+            opening, calls = session_calls(data)
+            dispatcher, shown = Dispatcher.open(opening), None
+            for call in calls:
+                if call[0] == COMMIT:
+                    ticket, present = call[1], dispatcher.ticket
+                    seen.update({"right": ticket == present, "old": ticket < present, "future": ticket > present, "first": ticket == 0 < present,
+                                 "last": ticket == TICKETS - 1, "shown": ticket == present and shown == call[2:]})
+                    seen["refused and another"] += ticket != present and refuses(dispatcher, call[2:])
+                answer = answer_of(dispatcher, call)
+                shown = call[1:] if isinstance(answer, Enquiry) else shown
+        for name in ("right", "old", "future", "first", "last", "shown", "refused and another"):
+            with self.subTest(ticket=name):
+                self.assertGreater(seen[name], SEEDS / 4)
+
+    def test_some_sessions_have_none(self):
+        kinds = [{call[0] for call in session_calls(data)[1]} for data in made(random_session)]
+        self.assertGreater(sum(not kind & {ENQUIRY, COMMIT} for kind in kinds), SEEDS / 4)
+        self.assertGreater(sum({ENQUIRY, COMMIT} <= kind for kind in kinds), SEEDS / 4)
+
+
+def refuses(dispatcher, instant):
+    """Whether a dispatcher refuses an instant."""
+    return isinstance(answer_of(dispatcher, (ENQUIRY, *instant)), Refused)
+
+
 class FileCoverage(unittest.TestCase):
     def test_random_files_are_served(self):
         for data in made(random_file):
@@ -275,9 +311,9 @@ class SessionCoverage(unittest.TestCase):
                 letters[line[0]] += 1
                 if line[0] == "R":
                     seen[refusal(line)] += 1
-        self.assertEqual(sorted(seen), [6, 10, 14, 15, 16, 17])
+        self.assertEqual(sorted(seen), [6, 10, 14, 15, 16, 17, 20])
         self.assertGreater(min(seen.values()), 50)
-        self.assertEqual(sorted(letters), ["A", "I", "J", "M", "O", "R"])
+        self.assertEqual(sorted(letters), ["A", "E", "I", "J", "M", "O", "R"])
         self.assertGreater(letters["A"], 2 * letters["R"], "most calls are served")
 
     def test_every_refusal_of_an_opening_and_cut_entries(self):
@@ -294,14 +330,10 @@ class SessionCoverage(unittest.TestCase):
     def test_far_ahead_in_idle_time(self):
         far = 0
         for data in made(random_session):
-            at = 4 + int.from_bytes(data[:4], "little")
-            lines = iter(session_lines(data)[1:])
-            while at < len(data):
-                line = next(line for line in lines if line[0] in "ARM")
-                time = int.from_bytes(data[at + 1:at + 9], "little")
-                if data[at] == 64 and time > 2**40 and line == "A 0 -":
-                    far += 1
-                at += 13 if data[at] == 64 else 3
+            _, calls = session_calls(data)
+            answers = [line for line in session_lines(data) if line[0] in "AERM"]
+            for call, line in zip(calls, answers, strict=True):
+                far += instant_of(call) is not None and instant_of(call)[0] > 2**40 and line == "A 0 -"
         self.assertGreater(far, 5)
 
 

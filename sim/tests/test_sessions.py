@@ -97,7 +97,7 @@ class BadEntries(unittest.TestCase):
     START = session_bytes(TASKS, [instant(0, 1)])
 
     def test_another_kind(self):
-        for kind in (0, 1, 2, 63, 66, 255):
+        for kind in (0, 1, 2, 63, 69, 255):
             self.assertEqual(session_lines(self.START + bytes([kind]) + call_entry(*instant(2))), ["O", "A 0 2", "X"])
 
     def test_cut_short(self):

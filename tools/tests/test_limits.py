@@ -1,9 +1,9 @@
-"""The inputs with releases that wait show each wrong way of waiting, those with tasks of one priority each wrong order among them, and those with
-spacings each wrong reading of them."""
+"""The inputs with releases that wait show each wrong way of waiting, those with tasks of one priority each wrong order among them, those with
+spacings each wrong reading of them, and those with enquiries and commits each wrong way with tickets."""
 
 import unittest
 
-from sim import other_orders, other_spacings
+from sim import other_orders, other_spacings, other_tickets
 from sim.dispatcher import Dispatcher, members
 from sim.earlier import NothingWaits
 from sim.entries import Refused, parts_of, release_entry, two_parts
@@ -12,7 +12,7 @@ from sim.generate import LONGEST_CHECKED
 from sim.lines import file_lines
 from sim.other_orders import EqualBlocks, HighestNumberFirst, LatestFirst, PromotedByNumber
 from sim.reading import read_lines
-from sim.sessions import calls_lines
+from sim.sessions import calls_lines, session_bytes, session_lines
 from tools import limits
 
 
@@ -217,6 +217,35 @@ class Spacings(unittest.TestCase):
         self.assertLessEqual(set(limits.spaced_files()), set(limits.files()))
         self.assertLessEqual(set(limits.spaced_sessions()), set(limits.sessions()))
         self.assertLessEqual(set(limits.spaced_records()), set(limits.stored_records()))
+
+
+class FourBytes(Dispatcher):
+    """Only the lower half of a ticket is looked at."""
+
+    def _check_ticket(self, ticket):
+        super()._check_ticket(ticket if ticket % 2**32 != self.ticket else self.ticket)
+
+
+class OneByte(Dispatcher):
+    """The ticket is counted in one byte."""
+
+    def _count_ticket(self):
+        self.ticket = (self.ticket + 1) % 256
+
+
+class Tickets(unittest.TestCase):
+    def test_sessions_show_each_wrong_way(self):
+        for wrong in (*other_tickets.ALL, FourBytes, OneByte):
+            with self.subTest(wrong=wrong.__name__):
+                self.assertTrue(any(lines_by(wrong, data) != lines_by(Dispatcher, data) for data in limits.ticket_sessions()))
+
+    def test_what_is_said_of_one_that_looks_first(self):
+        lines = session_lines(session_bytes(limits.TABLE, limits.LOOKED_AT))
+        self.assertEqual({line for line in lines if line[0] == "R"}, {f"R {number}" for number in (6, 10, 14, 15, 16, 17, 20)})
+        self.assertEqual([line.split()[-1] for line in lines if line[0] == "E"], ["0", "1", "3", "4", "5", "6", "7", "7"])
+
+    def test_they_are_among_the_limits(self):
+        self.assertLessEqual(set(limits.ticket_sessions()), set(limits.sessions()))
 
 
 if __name__ == "__main__":

@@ -2,5 +2,5 @@
 pub use Rattle.rules.specs.Types.{State}
 pub use Rattle.rules.specs.declared.Call.the-variants.{Instant, Mark}
 pub use Rattle.entries.specs.declared.CallEntry.{CallEntry}
-pub use Rattle.entries.specs.declared.CallEntry.the-variants.{CutShort, OtherKind, InstantCall, MarkCall}
+pub use Rattle.entries.specs.declared.CallEntry.the-variants.{CutShort, OtherKind, InstantCall, MarkCall, EnquiryCall, CommitCall}
 pub use Rattle.call_entries.specs.declared.Answered.{Answered}

@@ -3,7 +3,7 @@ use dispatcher::Dispatcher;
 use entries::CallEntry;
 use lines::Text;
 ghost use Rattle.call_entries.specs.Calls.{answered, NotServed, AnswersWith};
-ghost use Rattle.dispatcher.specs.Dispatcher.{state-of};
+ghost use Rattle.dispatcher.specs.Dispatcher.{ticketed-of};
 
 // The dispatcher after a call, and the call's lines.
 pub struct Answered {
@@ -13,7 +13,7 @@ pub struct Answered {
 
 // The dispatcher called. A call that is refused, and what is no whole call, leave it as it was.
 pub fn answer(d: Dispatcher, entry: CallEntry) -> Answered
-    ensures { λ r. ⌜ AnswersWith d (answered (state-of d) entry) (NotServed (state-of d) entry) r ⌝ }
+    ensures { λ r. ⌜ AnswersWith d (answered (ticketed-of d) entry) (NotServed (ticketed-of d) entry) r ⌝ }
 {
     match entry {
         CallEntry::CutShort => {
@@ -36,6 +36,22 @@ pub fn answer(d: Dispatcher, entry: CallEntry) -> Answered
             let state = step.state;
             let answer = step.answer;
             let text = lines::mark_lines(answer);
+            Answered { state, text }
+        }
+        CallEntry::EnquiryCall { time, set } => {
+            let enquiry = d.enquire(time, set);
+            let ticket = enquiry.ticket;
+            let step = enquiry.step;
+            let answer = step.answer;
+            let text = lines::enquiry_lines(answer, ticket);
+            let state = d;
+            Answered { state, text }
+        }
+        CallEntry::CommitCall { ticket, time, set } => {
+            let step = d.commit(ticket, time, set);
+            let state = step.state;
+            let answer = step.answer;
+            let text = lines::instant_lines(answer);
             Answered { state, text }
         }
     }

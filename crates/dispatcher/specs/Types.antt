@@ -13,6 +13,7 @@ pub use Rattle.rules.specs.declared.Answer.{Answer}
 pub use Rattle.rules.specs.declared.Answer.the-variants.{Refused, Served}
 pub use Rattle.dispatcher.specs.declared.Dispatcher.{Dispatcher}
 pub use Rattle.dispatcher.specs.declared.Step.{Step}
+pub use Rattle.dispatcher.specs.declared.Enquiry.{Enquiry}
 pub use Rattle.dispatcher.specs.declared.MarkStep.{MarkStep}
 pub use Rattle.dispatcher.specs.declared.Opening.{Opening}
 pub use mathlib.Core.Path.{_≡_, refl, sym, _∙_}

@@ -5,13 +5,15 @@ use crate::answering::occurred_in;
 use crate::refusing::refusal;
 use crate::stepping::steps;
 use crate::telling::WORDS;
+use crate::ticket::raised;
 use rules::Answer;
 ghost use mathlib.Core.Path.{_≡_};
 ghost use Rattle.rules.specs.Calls as calls;
-ghost use Rattle.dispatcher.specs.Dispatcher.{state-of, step-of, Answers};
+ghost use Rattle.rules.specs.Tickets as tickets;
+ghost use Rattle.dispatcher.specs.Dispatcher.{state-of, step-of, Answers, Commits};
 
 fn served(d: Dispatcher, t: u64, set: u32) -> Step
-    ensures { λ x. ⌜ step-of x ≡ calls.served (state-of d) t set ⌝ }
+    ensures { λ x. ⌜ (step-of x ≡ calls.served (state-of d) t set) × (x .state .ticket ≡ tickets.raised (d .ticket)) ⌝ }
 {
     let mut times = d.times;
     let mut sets = d.sets;
@@ -34,6 +36,7 @@ fn served(d: Dispatcher, t: u64, set: u32) -> Step
         &mut told,
     );
     let next = Dispatcher {
+        ticket: raised(d.ticket),
         times,
         release,
         waits,
@@ -61,5 +64,18 @@ impl Dispatcher {
             state: self,
             answer: Answer::Refused(number),
         }
+    }
+
+    // 9/13: an instant that was enquired about, by the ticket that the enquiry gave. Where something was served since, it is refused.
+    pub fn commit(self, ticket: u64, time: u64, set: u32) -> Step
+        ensures { λ r. ⌜ Commits self ticket time set r ⌝ }
+    {
+        if ticket != self.ticket {
+            return Step {
+                state: self,
+                answer: Answer::Refused(20),
+            };
+        }
+        self.instant(time, set)
     }
 }

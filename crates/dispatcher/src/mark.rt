@@ -2,12 +2,14 @@
 use crate::Dispatcher;
 use crate::MarkStep;
 use crate::refusing::mark_refusal;
+use crate::ticket::raised;
 use rules::MarkAnswer;
 use rules::at;
 ghost use mathlib.Core.Path.{_≡_};
 ghost use Prim.Native.Nat.{_<_};
 ghost use lib.ListN.{length};
 ghost use Rattle.rules.specs.Calls as calls;
+ghost use Rattle.rules.specs.Tickets as tickets;
 ghost use Rattle.dispatcher.specs.Dispatcher.{state-of, MarkAnswers};
 ghost use Rattle.dispatcher.specs.Promises.{MarksAt};
 
@@ -34,11 +36,12 @@ pub fn marked_with(task: u8, mark: u8, sets: &mut at::Sets)
 }
 
 fn with_mark(d: Dispatcher, task: u8, mark: u8) -> Dispatcher
-    ensures { λ r. ⌜ state-of r ≡ calls.with-mark (state-of d) task mark ⌝ }
+    ensures { λ r. ⌜ (state-of r ≡ calls.with-mark (state-of d) task mark) × (r .ticket ≡ tickets.raised (d .ticket)) ⌝ }
 {
     let mut sets = d.sets;
     marked_with(task, mark, &mut sets);
-    Dispatcher { sets, ..d }
+    let ticket = raised(d.ticket);
+    Dispatcher { ticket, sets, ..d }
 }
 
 impl Dispatcher {

@@ -11,13 +11,14 @@ ghost use Rattle.dispatcher.specs.Dispatcher.{state-of, opening-of};
 
 // No task has a job, no release waits, and the first interval gives the processor half 0.
 pub fn opened(table: Table, marked: u32) -> Dispatcher
-    ensures { λ r. ⌜ state-of r ≡ calls.opened table marked ⌝ }
+    ensures { λ r. ⌜ (state-of r ≡ calls.opened table marked) × (r .ticket ≡ 0) ⌝ }
 {
     let present = table.present;
     let spaced = table.spaced;
     let priority = table.priority;
     let columns = table.columns;
     Dispatcher {
+        ticket: 0,
         times: [0; 7],
         release: [0; limits::TASKS],
         waits: [0; limits::TASKS],
@@ -32,7 +33,7 @@ pub fn opened(table: Table, marked: u32) -> Dispatcher
 // A dispatcher from a head alone, or the first refusal. What stands for the dispatcher where none opens is one without a task, so that a
 // refusal tells no more than it says.
 pub fn open(s: &[u8]) -> Opening
-    ensures { λ r. ⌜ opening-of r ≡ calls.opening (now (s .entry)) ⌝ }
+    ensures { λ r. ⌜ (opening-of r ≡ calls.opening (now (s .entry))) × (r .state .ticket ≡ 0) ⌝ }
 {
     let head = heads::head_alone(s);
     let table = head.table;

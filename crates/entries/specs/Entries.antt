@@ -18,7 +18,9 @@ size kind =
     (cond (eqb kind 17) 24
     (cond (eqb kind 18) 10
     (cond (eqb kind 64) 13
-    (cond (eqb kind 65) 3 0)))))))
+    (cond (eqb kind 65) 3
+    (cond (eqb kind 66) 13
+    (cond (eqb kind 67) 21 0)))))))))
 
 -- ---- An entry of the input, taken apart
 

@@ -9,11 +9,17 @@ const INSTANT_KIND: u8 = 64;
 
 const MARK_KIND: u8 = 65;
 
+const ENQUIRY_KIND: u8 = 66;
+
+const COMMIT_KIND: u8 = 67;
+
 const INSTANT_SIZE: usize = 13;
 
 const MARK_SIZE: usize = 3;
 
-// The places of a call's fields, the kind byte at 0.
+const COMMIT_SIZE: usize = 21;
+
+// The places of a call's fields, the kind byte at 0. Those of an enquiry are an instant's.
 const INSTANT_TIME: usize = 1;
 
 const INSTANT_SET: usize = 9;
@@ -21,6 +27,12 @@ const INSTANT_SET: usize = 9;
 const MARK_TASK: usize = 1;
 
 const MARK_MARK: usize = 2;
+
+const COMMIT_TICKET: usize = 1;
+
+const COMMIT_TIME: usize = 9;
+
+const COMMIT_SET: usize = 17;
 
 fn instant_at(s: &[u8], at: usize) -> CallEntry
     requires { ⌜ at < length (now s) ⌝ }
@@ -48,6 +60,33 @@ fn mark_at(s: &[u8], at: usize) -> CallEntry
     }
 }
 
+fn enquiry_at(s: &[u8], at: usize) -> CallEntry
+    requires { ⌜ at < length (now s) ⌝ }
+    ensures { λ r. ⌜ r ≡ calls.enquiry-at (now (s .entry)) at ⌝ }
+{
+    if s.len() - at < INSTANT_SIZE {
+        return CallEntry::CutShort;
+    }
+    CallEntry::EnquiryCall {
+        time: words::get_u64(s, at + INSTANT_TIME),
+        set: words::get_u32(s, at + INSTANT_SET),
+    }
+}
+
+fn commit_at(s: &[u8], at: usize) -> CallEntry
+    requires { ⌜ at < length (now s) ⌝ }
+    ensures { λ r. ⌜ r ≡ calls.commit-at (now (s .entry)) at ⌝ }
+{
+    if s.len() - at < COMMIT_SIZE {
+        return CallEntry::CutShort;
+    }
+    CallEntry::CommitCall {
+        ticket: words::get_u64(s, at + COMMIT_TICKET),
+        time: words::get_u64(s, at + COMMIT_TIME),
+        set: words::get_u32(s, at + COMMIT_SET),
+    }
+}
+
 // The call whose kind byte is at `at`.
 pub fn call_at(s: &[u8], at: usize) -> CallEntry
     ensures { λ r. ⌜ r ≡ calls.call-at (now (s .entry)) at ⌝ }
@@ -62,6 +101,12 @@ pub fn call_at(s: &[u8], at: usize) -> CallEntry
     if kind == MARK_KIND {
         return mark_at(s, at);
     }
+    if kind == ENQUIRY_KIND {
+        return enquiry_at(s, at);
+    }
+    if kind == COMMIT_KIND {
+        return commit_at(s, at);
+    }
     CallEntry::OtherKind
 }
 
@@ -74,5 +119,11 @@ pub fn call_size(entry: CallEntry) -> usize
         CallEntry::OtherKind => 0,
         CallEntry::InstantCall { time: _, set: _ } => INSTANT_SIZE,
         CallEntry::MarkCall { task: _, mark: _ } => MARK_SIZE,
+        CallEntry::EnquiryCall { time: _, set: _ } => INSTANT_SIZE,
+        CallEntry::CommitCall {
+            ticket: _,
+            time: _,
+            set: _,
+        } => COMMIT_SIZE,
     }
 }

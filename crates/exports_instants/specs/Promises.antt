@@ -1,14 +1,16 @@
 -- What the calls on a dispatcher that C or Rust keeps promise: the rules' outcome, of the states that are read before and after; a
 -- refused call leaves what is kept, and what was told before, as it was.
-use Rattle.guarantees.specs.Types.{List, ℕ, _≡_, Call, Occurred, Answer, Refused, Served, NoRefusal}
+use Rattle.guarantees.specs.Types.{List, ℕ, _≡_, State, Call, Mark, Occurred, Answer, Refused, Served, NoRefusal}
 use mathlib.Core.List.{[], _∷_}
 use Rattle.rules.specs.declared.View.{View}
 use Rattle.rules.specs.View.{viewed}
-use Rattle.rules.specs.Calls.{refusal, instant, mark-refusal, mark, opening}
+use Rattle.rules.specs.Calls.{refusal, mark-refusal, opening}
+use Rattle.rules.specs.Tickets.{Ticketed, after-ticketed, TicketedStep, instant-step, Enquiry, enquiry, commit-refusal, commit}
 use Rattle.rules.specs.Kept.{Kept, kept, Beside, read}
 use Rattle.table.specs.Refusals.{refusal-number, refusal-place}
 use Rattle.dispatcher.specs.Telling.{told-of, occurred-in}
 use Rattle.guarantees.specs.Claim.{Claim}
+use Rattle.guarantees.specs.Requests.{Request, fresh, LookFirst}
 
 -- ---- An instant
 
@@ -21,12 +23,25 @@ abbrev pub ToldAs : Answer → List ℕ → List ℕ → Type 0
 ToldAs (Refused n) told told' = told' ≡ told
 ToldAs (Served o) told told' = Tells o told told'
 
-pub record Answered (k : Kept) (b : Beside) (t set : ℕ) (told : List ℕ) (number : ℕ) (k' : Kept) (b' : Beside) (told' : List ℕ)
-    : Type 0 where
-  pub number-is : number ≡ refusal (read k b) t set
-  pub state-is : read k' b' ≡ instant (read k b) t set .state
-  pub told-is : ToldAs (instant (read k b) t set .answer) told told'
-  pub untouched : (refusal (read k b) t set ≡ 0 → ⊥) → (k' ≡ k) × (b' ≡ b)
+-- what is kept, read as a state with its ticket
+abbrev pub held : Kept → Beside → ℕ → Ticketed
+held k b ticket = record { state = read k b; ticket = ticket }
+
+-- a call does a step of the rules, whose refusal has a number
+pub record Does (step : TicketedStep) (refused : ℕ) (k : Kept) (b : Beside) (ticket : ℕ) (told : List ℕ) (number : ℕ)
+    (k' : Kept) (b' : Beside) (ticket' : ℕ) (told' : List ℕ) : Type 0 where
+  pub number-is : number ≡ refused
+  pub left-is : held k' b' ticket' ≡ step .left
+  pub told-is : ToldAs (step .answer) told told'
+  pub untouched : (refused ≡ 0 → ⊥) → (k' ≡ k) × (b' ≡ b) × (ticket' ≡ ticket)
+
+abbrev pub Answered : Kept → Beside → ℕ → ℕ → ℕ → List ℕ → ℕ → Kept → Beside → ℕ → List ℕ → Type 0
+Answered k b ticket t set = Does (instant-step (held k b ticket) t set) (refusal (read k b) t set) k b ticket
+
+-- 9/13: an instant by a ticket
+abbrev pub Committed : ℕ → Kept → Beside → ℕ → ℕ → ℕ → List ℕ → ℕ → Kept → Beside → ℕ → List ℕ → Type 0
+Committed given k b ticket t set =
+    Does (commit (held k b ticket) given t set) (commit-refusal (held k b ticket) given t set) k b ticket
 
 -- ---- What goes on now, in three arrays
 
@@ -38,22 +53,55 @@ pub record Shown (v : View) (ticks tasks units : List ℕ) : Type 0 where
 abbrev pub Shows : List ℕ → List ℕ → List ℕ → List ℕ → List ℕ → List ℕ → Type 0
 Shows times sets codes ticks tasks units = (b : Beside) → Shown (viewed (read (kept times sets codes) b)) ticks tasks units
 
--- ---- A mark call, which is lent the sets alone: whatever stands beside them
+-- ---- 9/13: an enquiry
 
-pub record MarkedIn (k : Kept) (b : Beside) (n m number : ℕ) (k' : Kept) : Type 0 where
+-- what it tells: the words of an instant, the ticket, and what would go on then
+pub record Shared : Type 0 where
+  pub told : List ℕ
+  pub given : ℕ
+  pub ticks : List ℕ
+  pub tasks : List ℕ
+  pub units : List ℕ
+
+abbrev pub shown : List ℕ → ℕ → List ℕ → List ℕ → List ℕ → Shared
+shown told given ticks tasks units = record { told = told; given = given; ticks = ticks; tasks = tasks; units = units }
+
+pub record Looked (o : Occurred) (next : State) (ticket : ℕ) (before after : Shared) : Type 0 where
+  pub told-is : Tells o (before .told) (after .told)
+  pub given-is : after .given ≡ ticket
+  pub view-is : Shown (viewed next) (after .ticks) (after .tasks) (after .units)
+
+-- one that is refused tells nothing
+abbrev pub LookedAs : Answer → State → ℕ → Shared → Shared → Type 0
+LookedAs (Refused n) next ticket before after = after ≡ before
+LookedAs (Served o) next ticket before after = Looked o next ticket before after
+
+pub record EnquiredAs (e : Enquiry) (refused number : ℕ) (before after : Shared) : Type 0 where
+  pub number-is : number ≡ refused
+  pub shown-is : LookedAs (e .step .answer) (e .step .left .state) (e .ticket) before after
+
+abbrev pub Enquired : Kept → Beside → ℕ → ℕ → ℕ → Shared → ℕ → Shared → Type 0
+Enquired k b ticket t set before number after =
+    EnquiredAs (enquiry (held k b ticket) t set) (refusal (read k b) t set) number before after
+
+-- ---- A mark call, which is lent the sets and the ticket alone: whatever stands beside them
+
+pub record MarkedIn (k : Kept) (b : Beside) (ticket n m number : ℕ) (k' : Kept) (ticket' : ℕ) : Type 0 where
   pub number-is : number ≡ mark-refusal (read k b) n m
-  pub state-is : read k' b ≡ mark (read k b) n m .state
-  pub untouched : (mark-refusal (read k b) n m ≡ 0 → ⊥) → k' ≡ k
+  pub left-is : held k' b ticket' ≡ after-ticketed (held k b ticket) (Mark n m)
+  pub untouched : (mark-refusal (read k b) n m ≡ 0 → ⊥) → (k' ≡ k) × (ticket' ≡ ticket)
 
-abbrev pub Marked : List ℕ → ℕ → ℕ → ℕ → List ℕ → Type 0
-Marked sets n m number sets' =
-    (times codes : List ℕ) (b : Beside) → MarkedIn (kept times sets codes) b n m number (kept times sets' codes)
+abbrev pub Marked : List ℕ → ℕ → ℕ → ℕ → ℕ → List ℕ → ℕ → Type 0
+Marked sets ticket n m number sets' ticket' =
+    (times codes : List ℕ) (b : Beside) → MarkedIn (kept times sets codes) b ticket n m number (kept times sets' codes) ticket'
 
--- ---- Opening: where it serves the bytes, the claim of demand 3 for every list of calls from the state that is kept then
+-- ---- Opening: where it serves the bytes, the claim of demand 3 for every list of calls and of requests from the state that is kept then
 
-pub record OpenedAt (bytes : List ℕ) (k : Kept) (b : Beside) (number place : ℕ) (k' : Kept) (b' : Beside) : Type 0 where
+pub record OpenedAt (bytes : List ℕ) (k : Kept) (b : Beside) (ticket number place : ℕ) (k' : Kept) (b' : Beside) (ticket' : ℕ)
+    : Type 0 where
   pub number-is : number ≡ refusal-number (opening bytes .refusal)
   pub place-is : place ≡ refusal-place (opening bytes .refusal)
-  pub state-is : opening bytes .refusal ≡ NoRefusal → read k' b' ≡ opening bytes .state
+  pub left-is : opening bytes .refusal ≡ NoRefusal → held k' b' ticket' ≡ fresh (opening bytes .state)
   pub claim : opening bytes .refusal ≡ NoRefusal → (calls : List Call) → Claim (read k' b') calls
-  pub untouched : (opening bytes .refusal ≡ NoRefusal → ⊥) → (k' ≡ k) × (b' ≡ b)
+  pub look-first : opening bytes .refusal ≡ NoRefusal → (requests : List Request) → LookFirst (read k' b') requests
+  pub untouched : (opening bytes .refusal ≡ NoRefusal → ⊥) → (k' ≡ k) × (b' ≡ b) × (ticket' ≡ ticket)

@@ -14,12 +14,12 @@ ghost use Rattle.sets.specs.Sets.{member};
 ghost use Rattle.guarantees.specs.Figure.{longest-interval, completes-after};
 ghost use Rattle.rules.specs.Kept.{kept, beside, by-task};
 ghost use Rattle.dispatcher.specs.Dispatcher.{kept-of, beside-of};
-ghost use Rattle.exports_instants.specs.Promises.{Answered, Shows, Marked, OpenedAt};
+ghost use Rattle.exports_instants.specs.Promises.{Answered, Committed, shown, Enquired, Shows, Marked, OpenedAt};
 
 // An instant of the dispatcher that the arrays keep: 0 and what occurred in `told`, or the number of the refusal. What every instant looks
 // at comes first, in registers.
 #[no_mangle]
-pub extern "C" fn gateway_instant_v4<'a>(
+pub extern "C" fn gateway_instant_v5<'a>(
     time: u64,
     set: u32,
     times: &mut at::Times,
@@ -31,14 +31,15 @@ pub extern "C" fn gateway_instant_v4<'a>(
     release: &mut [u64; 32],
     blocked: &mut [u8; 32],
     waits: &mut [u64; 32],
+    ticket: &mut u64,
 ) -> u8
     ensures { λ r. ⌜ Answered
         (kept (now (times .entry)) (now (sets .entry)) (now (codes .entry)))
         (beside (now (priority .entry)) (now (columns .entry)) (by-task (now (release .entry)) (now (blocked .entry)) (now (waits .entry))))
-        time set (now (told .entry)) r
+        (now (ticket .entry)) time set (now (told .entry)) r
         (kept (now (times .exit)) (now (sets .exit)) (now (codes .exit)))
         (beside (now (priority .entry)) (now (columns .entry)) (by-task (now (release .exit)) (now (blocked .exit)) (now (waits .exit))))
-        (now (told .exit)) ⌝ }
+        (now (ticket .exit)) (now (told .exit)) ⌝ }
 {
     let number = dispatcher::refusal(time, set, times, sets, codes);
     if number != 0 {
@@ -57,13 +58,109 @@ pub extern "C" fn gateway_instant_v4<'a>(
         waits,
         told,
     );
+    let present = *ticket;
+    let next = dispatcher::raised(present);
+    *ticket = next;
+    0
+}
+
+// 9/13: an instant by the ticket `given`: 20 where that is not the present one, else the instant's answer.
+#[no_mangle]
+pub extern "C" fn gateway_commit_v5<'a>(
+    given: u64,
+    time: u64,
+    set: u32,
+    times: &mut at::Times,
+    sets: &mut at::Sets,
+    codes: &mut at::Codes,
+    told: &mut [u64; WORDS],
+    priority: &'a [u8; 32],
+    columns: &'a Columns,
+    release: &mut [u64; 32],
+    blocked: &mut [u8; 32],
+    waits: &mut [u64; 32],
+    ticket: &mut u64,
+) -> u8
+    ensures { λ r. ⌜ Committed given
+        (kept (now (times .entry)) (now (sets .entry)) (now (codes .entry)))
+        (beside (now (priority .entry)) (now (columns .entry)) (by-task (now (release .entry)) (now (blocked .entry)) (now (waits .entry))))
+        (now (ticket .entry)) time set (now (told .entry)) r
+        (kept (now (times .exit)) (now (sets .exit)) (now (codes .exit)))
+        (beside (now (priority .entry)) (now (columns .entry)) (by-task (now (release .exit)) (now (blocked .exit)) (now (waits .exit))))
+        (now (ticket .exit)) (now (told .exit)) ⌝ }
+{
+    let present = *ticket;
+    if given != present {
+        return 20;
+    }
+    gateway_instant_v5(
+        time, set, times, sets, codes, told, priority, columns, release, blocked, waits, ticket,
+    )
+}
+
+// 9/13: what an instant of the dispatcher that the arrays keep would do: 0, what would occur in `told`, what would go on then in `ticks`,
+// `tasks` and `units` as `gateway_now` shows it, and in `given` the ticket by which it is committed; or the number of the refusal. The
+// dispatcher is read and copied, and stays as it is.
+#[no_mangle]
+pub extern "C" fn gateway_enquire_v5<'a>(
+    time: u64,
+    set: u32,
+    times: &'a at::Times,
+    sets: &'a at::Sets,
+    codes: &'a at::Codes,
+    told: &mut [u64; WORDS],
+    priority: &'a [u8; 32],
+    columns: &'a Columns,
+    release: &'a [u64; 32],
+    blocked: &'a [u8; 32],
+    waits: &'a [u64; 32],
+    ticket: &'a u64,
+    given: &mut u64,
+    ticks: &mut [u64; 4],
+    tasks: &mut [u32; 3],
+    units: &mut [u8; 6],
+) -> u8
+    ensures { λ r. ⌜ Enquired
+        (kept (now (times .entry)) (now (sets .entry)) (now (codes .entry)))
+        (beside (now (priority .entry)) (now (columns .entry)) (by-task (now (release .entry)) (now (blocked .entry)) (now (waits .entry))))
+        (now (ticket .entry)) time set
+        (shown (now (told .entry)) (now (given .entry)) (now (ticks .entry)) (now (tasks .entry)) (now (units .entry))) r
+        (shown (now (told .exit)) (now (given .exit)) (now (ticks .exit)) (now (tasks .exit)) (now (units .exit))) ⌝ }
+{
+    let present = *ticket;
+    let mut next_times = *times;
+    let mut next_sets = *sets;
+    let mut next_codes = *codes;
+    let mut next_release = *release;
+    let mut next_blocked = *blocked;
+    let mut next_waits = *waits;
+    let mut next_ticket = present;
+    let number = gateway_instant_v5(
+        time,
+        set,
+        &mut next_times,
+        &mut next_sets,
+        &mut next_codes,
+        told,
+        priority,
+        columns,
+        &mut next_release,
+        &mut next_blocked,
+        &mut next_waits,
+        &mut next_ticket,
+    );
+    if number != 0 {
+        return number;
+    }
+    *given = present;
+    gateway_now_v5(&next_times, &next_sets, &next_codes, ticks, tasks, units);
     0
 }
 
 // What goes on now in the dispatcher that the first three arrays keep: begin and ends; pending, waiting and marked; whether an interval
 // is open, its work, and the four values.
 #[no_mangle]
-pub extern "C" fn gateway_now_v4<'a>(
+pub extern "C" fn gateway_now_v5<'a>(
     times: &'a at::Times,
     sets: &'a at::Sets,
     codes: &'a at::Codes,
@@ -81,7 +178,7 @@ pub extern "C" fn gateway_now_v4<'a>(
 
 // 7/13: M, the most that an interval of the dispatcher lasts whose sets and columns are lent.
 #[no_mangle]
-pub extern "C" fn gateway_longest_interval_v4(sets: &at::Sets, columns: &Columns) -> u64
+pub extern "C" fn gateway_longest_interval_v5(sets: &at::Sets, columns: &Columns) -> u64
     ensures { λ r. ⌜ r ≡ longest-interval (getD (now (sets .entry)) 4 0) (now (columns .entry)) ⌝ }
 {
     guarantees::longest_interval(columns, sets[at::PRESENT])
@@ -90,7 +187,7 @@ pub extern "C" fn gateway_longest_interval_v4(sets: &at::Sets, columns: &Columns
 // 7/13: by how many ticks after its taking a job of the task is done, where h other jobs that are not lower execute between; by the mark
 // that the task has now.
 #[no_mangle]
-pub extern "C" fn gateway_completes_after_v4(
+pub extern "C" fn gateway_completes_after_v5(
     sets: &at::Sets,
     columns: &Columns,
     task: u8,
@@ -103,16 +200,19 @@ pub extern "C" fn gateway_completes_after_v4(
     guarantees::completes_after(columns, sets[at::PRESENT], task, marked, h)
 }
 
-// A mark call on the dispatcher whose sets are lent: 0, or the number of the refusal.
+// A mark call on the dispatcher whose sets and ticket are lent: 0, or the number of the refusal.
 #[no_mangle]
-pub extern "C" fn gateway_mark_v4(sets: &mut at::Sets, task: u8, mark: u8) -> u8
-    ensures { λ r. ⌜ Marked (now (sets .entry)) task mark r (now (sets .exit)) ⌝ }
+pub extern "C" fn gateway_mark_v5(sets: &mut at::Sets, ticket: &mut u64, task: u8, mark: u8) -> u8
+    ensures { λ r. ⌜ Marked (now (sets .entry)) (now (ticket .entry)) task mark r (now (sets .exit)) (now (ticket .exit)) ⌝ }
 {
     let number = dispatcher::mark_refusal(task, mark, sets);
     if number != 0 {
         return number;
     }
     dispatcher::marked_with(task, mark, sets);
+    let present = *ticket;
+    let behind_mark = dispatcher::raised(present);
+    *ticket = behind_mark;
     0
 }
 
@@ -154,7 +254,7 @@ fn put_tasks(
 
 // Opens a dispatcher from task entries into the arrays that keep it: 0, or the number of the refusal, whose place `place` then has.
 #[no_mangle]
-pub extern "C" fn gateway_open_v4(
+pub extern "C" fn gateway_open_v5(
     entries: &[u8],
     times: &mut at::Times,
     sets: &mut at::Sets,
@@ -164,14 +264,16 @@ pub extern "C" fn gateway_open_v4(
     release: &mut [u64; 32],
     blocked: &mut [u8; 32],
     waits: &mut [u64; 32],
+    ticket: &mut u64,
     place: &mut usize,
 ) -> u8
     ensures { λ r. ⌜ OpenedAt (now (entries .entry))
         (kept (now (times .entry)) (now (sets .entry)) (now (codes .entry)))
         (beside (now (priority .entry)) (now (columns .entry)) (by-task (now (release .entry)) (now (blocked .entry)) (now (waits .entry))))
-        r (now (place .exit))
+        (now (ticket .entry)) r (now (place .exit))
         (kept (now (times .exit)) (now (sets .exit)) (now (codes .exit)))
-        (beside (now (priority .exit)) (now (columns .exit)) (by-task (now (release .exit)) (now (blocked .exit)) (now (waits .exit)))) ⌝ }
+        (beside (now (priority .exit)) (now (columns .exit)) (by-task (now (release .exit)) (now (blocked .exit)) (now (waits .exit))))
+        (now (ticket .exit)) ⌝ }
 {
     let opening = guarantees::open(entries);
     let refusal = opening.refusal;
@@ -179,6 +281,7 @@ pub extern "C" fn gateway_open_v4(
     match refusal {
         Refusal::NoRefusal => {
             let state = opening.state;
+            *ticket = state.ticket;
             put_numbers(state, times, sets, codes);
             put_tasks(state, priority, columns, release, blocked, waits);
             0

@@ -47,4 +47,5 @@ pub mod Choices
 pub mod Serving
 pub mod Arithmetic
 pub mod Chosen
+pub mod Requests
 pub mod Demand3

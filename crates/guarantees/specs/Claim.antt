@@ -5,11 +5,8 @@ use lib.Dec.{leb}
 use lib.ListN.{getD, length}
 use Rattle.sets.specs.Sets.{member, size}
 use Rattle.table.specs.Table.{copyin-length, execution-length, copyout-length}
-use Rattle.table.specs.Refusals.{refusal-number, refusal-place}
 use Rattle.rules.specs.Instant.{previous-release}
 use Rattle.rules.specs.Calls.{opening, refusal}
-use Rattle.dispatcher.specs.declared.Opening.{Opening}
-use Rattle.dispatcher.specs.Dispatcher.{state-of, opening-of}
 use Rattle.guarantees.specs.History.{Event, Starts, Stops, Completes, Ends, Takes, Defers, GivesWay, Begins, history, after-calls, EmptySets}
 use Rattle.guarantees.specs.Pending.{place, OneAtATime, InTime}
 use Rattle.guarantees.specs.Releases.{Spaced}
@@ -193,16 +190,3 @@ pub record Claim (d : State) (calls : List Call) : Type 0 where
 -- that opening returned, for any table it serves."
 unfoldable pub Demand3 : Type 0
 Demand3 = (bytes : List ℕ) → opening bytes .refusal ≡ NoRefusal → (calls : List Call) → Claim (opening bytes .state) calls
-
--- ---- The claim on a promise
-
--- what opening from bytes returns, and, where it serves them, the claim for every list of calls from the state returned, each read as
--- the rules have it
-pub record OpenedWithClaim (bytes : List ℕ) (r : Opening) : Type 0 where
-  pub opens : opening-of r ≡ opening bytes
-  -- and in document 01's numbers: the refusal's and the place of its entry
-  pub number : refusal-number (r .refusal) ≡ refusal-number (opening bytes .refusal)
-  pub place : refusal-place (r .refusal) ≡ refusal-place (opening bytes .refusal)
-  pub claim : r .refusal ≡ NoRefusal → (calls : List Call) → Claim (state-of (r .state)) calls
-  -- 7/13: and its table's figure is plain
-  pub figure : r .refusal ≡ NoRefusal → PlainFigure (state-of (r .state) .table)

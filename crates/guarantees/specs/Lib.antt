@@ -11,3 +11,5 @@ pub mod Claim
 pub mod Counting
 pub mod Choosing
 pub mod States
+pub mod Requests
+pub mod Opened

@@ -1,5 +1,5 @@
 // The dispatcher advanced where it is kept: the driver keeps one for each core and lends it.
-ghost use Rattle.dispatcher.specs.Dispatcher.{AnswersKept};
+ghost use Rattle.dispatcher.specs.Dispatcher.{AnswersKept, CommitsKept};
 ghost use Rattle.kept.specs.Kept.{MarksKept};
 use dispatcher::Dispatcher;
 use rules::Answer;
@@ -11,6 +11,16 @@ pub fn advance(d: &mut Dispatcher, time: u64, set: u32) -> Answer
 {
     let cur = *d;
     let s = cur.instant(time, set);
+    *d = s.state;
+    s.answer
+}
+
+// 9/13: an instant that was enquired about, by its ticket, of the dispatcher behind `d`. On a refusal what stands there is as it was.
+pub fn commit(d: &mut Dispatcher, ticket: u64, time: u64, set: u32) -> Answer
+    ensures { λ r. ⌜ CommitsKept (now (d .entry)) ticket time set r (now (d .exit)) ⌝ }
+{
+    let cur = *d;
+    let s = cur.commit(ticket, time, set);
     *d = s.state;
     s.answer
 }

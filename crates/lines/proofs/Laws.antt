@@ -59,16 +59,16 @@ stored k l b = set-append-seam l 0 (replicate k 0) b ∙ sym (append-assoc l (b 
 abbrev pub text : List ℕ → ℕ → Text
 text x n = record { bytes = x; len = n }
 
-pushed : (l : List ℕ) (b : ℕ) → length l < 192 → text (set (text-of l .bytes) (length l) b) (length l + 1) ≡ text-of (l ++ (b ∷ []))
+pushed : (l : List ℕ) (b : ℕ) → length l < 224 → text (set (text-of l .bytes) (length l) b) (length l + 1) ≡ text-of (l ++ (b ∷ []))
 pushed l b h =
-    let room : 192 - length l ≡ suc (191 - length l) = omega arith in
+    let room : 224 - length l ≡ suc (223 - length l) = omega arith in
     let longer : length l + 1 ≡ length (l ++ (b ∷ [])) = omega (arith, length-append l (b ∷ [])) in
-    let behind : 191 - length l ≡ 192 - length (l ++ (b ∷ [])) = omega arith in
+    let behind : 223 - length l ≡ 224 - length (l ++ (b ∷ [])) = omega arith in
     ap₂ text
-    (ap (λ (k : ℕ). set (l ++ replicate k 0) (length l) b) room ∙ stored (191 - length l) l b ∙ ap (λ (k : ℕ). (l ++ (b ∷ [])) ++ replicate k 0) behind)
+    (ap (λ (k : ℕ). set (l ++ replicate k 0) (length l) b) room ∙ stored (223 - length l) l b ∙ ap (λ (k : ℕ). (l ++ (b ∷ [])) ++ replicate k 0) behind)
     longer
 
-pub one-byte : (t : Text) (b : ℕ) → t .len < 192 → Appended t (text (set (t .bytes) (t .len) b) (t .len + 1)) (b ∷ []) 1
+pub one-byte : (t : Text) (b : ℕ) → t .len < 224 → Appended t (text (set (t .bytes) (t .len) b) (t .len + 1)) (b ∷ []) 1
 one-byte t b h = record {
   grows = λ l e. ap (λ (x : Text). text (set (x .bytes) (x .len) b) (x .len + 1)) e ∙ pushed l b (omega (arith, ap (λ (x : Text). x .len) e));
   fits = omega arith;
@@ -92,7 +92,7 @@ pub one-entry : {t r : Text} (e : RecordEntry) {m : ℕ} → Appended t r (line-
 one-entry {t} {r} e {m} p = subst (λ (l : List ℕ). Appended t r l m) (sym (each-one line-of e)) p
 
 -- what was appended to the text of no bytes
-pub printed : {t r : Text} {a : List ℕ} {m : ℕ} → (t ≡ text-of []) × (t .len ≡ 0) → m ≤ 192 → Appended t r a m → Prints r a
+pub printed : {t r : Text} {a : List ℕ} {m : ℕ} → (t ≡ text-of []) × (t .len ≡ 0) → m ≤ 224 → Appended t r a m → Prints r a
 printed {t} {r} {a} {m} e h p = record { whole = p .grows [] (e .0); fits = omega (arith, p .fits, e .1) }
 
 -- ---- a text in a lent slice

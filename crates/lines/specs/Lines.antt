@@ -103,13 +103,25 @@ cut-short-line = 88 ∷ newline
 unfoldable pub answer-line : Occurred → List ℕ
 answer-line o = 65 ∷ (field (o .skipped) ++ (due-field (o .due) ++ newline))
 
+-- 9/13, E: the same of what an enquiry shows, and the ticket
+unfoldable pub enquiry-line : Occurred → ℕ → List ℕ
+enquiry-line o ticket = 69 ∷ (field (o .skipped) ++ (due-field (o .due) ++ (field ticket ++ newline)))
+
 -- what occurred at a served instant: its entries, where the answer has the skipped ones, and then the answer
 unfoldable pub served-lines : Occurred → List ℕ
 served-lines o = each line-of (done-entries (o .done) ++ closed-entries (o .closed) []) ++ answer-line o
 
+-- 9/13, what would occur, and then the enquiry's line
+unfoldable pub shown-lines : Occurred → ℕ → List ℕ
+shown-lines o ticket = each line-of (done-entries (o .done) ++ closed-entries (o .closed) []) ++ enquiry-line o ticket
+
 abbrev pub instant-lines : Answer → List ℕ
 instant-lines (Refused n) = refused-call-line n
 instant-lines (Served o) = served-lines o
+
+abbrev pub enquiry-lines : Answer → ℕ → List ℕ
+enquiry-lines (Refused n) ticket = refused-call-line n
+enquiry-lines (Served o) ticket = shown-lines o ticket
 
 abbrev pub mark-lines : MarkAnswer → List ℕ
 mark-lines MarkServed = marked-line

@@ -9,7 +9,7 @@ use Rattle.lines.specs.Types.{Text}
 
 -- the text of a list of bytes: they stand at its start, and zeros behind them
 abbrev pub text-of : List ℕ → Text
-text-of l = record { bytes = l ++ replicate (192 - length l) 0; len = length l }
+text-of l = record { bytes = l ++ replicate (224 - length l) 0; len = length l }
 
 -- the bytes of a text
 abbrev pub shown : Text → List ℕ
@@ -26,7 +26,7 @@ written t s = cond (leb (length (shown t)) (length s)) (shown t ++ drop (length 
 -- a text prints a list of bytes, and none of them was cut off
 pub record Prints (t : Text) (l : List ℕ) : Type 0 where
   pub whole : t ≡ text-of l
-  pub fits : t .len ≤ 192
+  pub fits : t .len ≤ 224
 
 -- bytes were appended to a text, at most so many
 pub record Appended (t r : Text) (more : List ℕ) (most : ℕ) : Type 0 where

@@ -15,19 +15,19 @@ ghost use Prim.Native.Nat.{_+_, _≤_, _<_};
 ghost use lib.ListN.{length};
 ghost use Rattle.entries.specs.Entries.{each};
 ghost use Rattle.rules.specs.Entries.{done-entries, closed-entries};
-ghost use Rattle.lines.specs.Lines.{decimal, field, task-field, due-field, no-field, newline, job-line, interval-line, timed-line, skipped-line, listed-line, line-of, answer-line, served-lines, refused-input-line, refused-call-line, cut-short-line, instant-lines, mark-lines, opening-lines};
+ghost use Rattle.lines.specs.Lines.{decimal, field, task-field, due-field, no-field, newline, job-line, interval-line, timed-line, skipped-line, listed-line, line-of, answer-line, enquiry-line, served-lines, shown-lines, refused-input-line, refused-call-line, cut-short-line, instant-lines, enquiry-lines, mark-lines, opening-lines};
 ghost use Rattle.lines.specs.Text.{text-of, shown, room, written, Appended, Prints};
 
-// A text: the first `len` of the bytes. All lines of one answer fit: a job's line takes at most 73 bytes, an interval's 72 and the
-// answer's own 34.
+// A text: the first `len` of the bytes. All lines of one answer fit: a job's line takes at most 73 bytes, an interval's 72, and the
+// answer's own 34, an enquiry's 55.
 pub struct Text {
-    pub bytes: [u8; 192],
+    pub bytes: [u8; 224],
     pub len: usize,
 }
 
 impl Text {
     fn byte(mut self, b: u8) -> Text
-        requires { ⌜ self .len < 192 ⌝ }
+        requires { ⌜ self .len < 224 ⌝ }
         ensures { λ r. ⌜ Appended self r (b ∷ []) 1 ⌝ }
     {
         let at = self.len;
@@ -38,7 +38,7 @@ impl Text {
 
     // The digits above the last one first.
     fn number(self, n: u64) -> Text
-        requires { ⌜ self .len + length (decimal n) ≤ 192 ⌝ }
+        requires { ⌜ self .len + length (decimal n) ≤ 224 ⌝ }
         ensures { λ r. ⌜ Appended self r (decimal n) (length (decimal n)) ⌝ }
     {
         if n < 10 {
@@ -49,21 +49,21 @@ impl Text {
 
     // A number of 64 bits has at most 20 digits, one of 32 bits 10 and one of 8 bits 3.
     fn field(self, n: u64) -> Text
-        requires { ⌜ self .len + 21 ≤ 192 ⌝ }
+        requires { ⌜ self .len + 21 ≤ 224 ⌝ }
         ensures { λ r. ⌜ Appended self r (field n) 21 ⌝ }
     {
         self.byte(b' ').number(n)
     }
 
     fn word_field(self, n: u32) -> Text
-        requires { ⌜ self .len + 11 ≤ 192 ⌝ }
+        requires { ⌜ self .len + 11 ≤ 224 ⌝ }
         ensures { λ r. ⌜ Appended self r (field n) 11 ⌝ }
     {
         self.byte(b' ').number(n as u64)
     }
 
     fn byte_field(self, n: u8) -> Text
-        requires { ⌜ self .len + 4 ≤ 192 ⌝ }
+        requires { ⌜ self .len + 4 ≤ 224 ⌝ }
         ensures { λ r. ⌜ Appended self r (field n) 4 ⌝ }
     {
         self.byte(b' ').number(n as u64)
@@ -71,14 +71,14 @@ impl Text {
 
     // `-` where there is no number.
     fn no_field(self) -> Text
-        requires { ⌜ self .len + 2 ≤ 192 ⌝ }
+        requires { ⌜ self .len + 2 ≤ 224 ⌝ }
         ensures { λ r. ⌜ Appended self r no-field 2 ⌝ }
     {
         self.byte(b' ').byte(b'-')
     }
 
     fn task_field(self, task: MaybeTask) -> Text
-        requires { ⌜ self .len + 4 ≤ 192 ⌝ }
+        requires { ⌜ self .len + 4 ≤ 224 ⌝ }
         ensures { λ r. ⌜ Appended self r (task-field task) 4 ⌝ }
     {
         match task {
@@ -88,7 +88,7 @@ impl Text {
     }
 
     fn due_field(self, due: Due) -> Text
-        requires { ⌜ self .len + 21 ≤ 192 ⌝ }
+        requires { ⌜ self .len + 21 ≤ 224 ⌝ }
         ensures { λ r. ⌜ Appended self r (due-field due) 21 ⌝ }
     {
         match due {
@@ -98,7 +98,7 @@ impl Text {
     }
 
     fn job(self, e: JobEntry) -> Text
-        requires { ⌜ self .len + 73 ≤ 192 ⌝ }
+        requires { ⌜ self .len + 73 ≤ 224 ⌝ }
         ensures { λ r. ⌜ Appended self r (job-line e) 73 ⌝ }
     {
         let head = self.byte(b'J').byte_field(e.task);
@@ -107,7 +107,7 @@ impl Text {
     }
 
     fn interval(self, e: IntervalEntry) -> Text
-        requires { ⌜ self .len + 72 ≤ 192 ⌝ }
+        requires { ⌜ self .len + 72 ≤ 224 ⌝ }
         ensures { λ r. ⌜ Appended self r (interval-line e) 72 ⌝ }
     {
         let task = e.task;
@@ -124,7 +124,7 @@ impl Text {
     }
 
     fn done(self, done: Done) -> Text
-        requires { ⌜ self .len + 73 ≤ 192 ⌝ }
+        requires { ⌜ self .len + 73 ≤ 224 ⌝ }
         ensures { λ r. ⌜ Appended self r (each line-of (done-entries done)) 73 ⌝ }
     {
         match done {
@@ -134,7 +134,7 @@ impl Text {
     }
 
     fn closing(self, closed: Closing) -> Text
-        requires { ⌜ self .len + 72 ≤ 192 ⌝ }
+        requires { ⌜ self .len + 72 ≤ 224 ⌝ }
         ensures { λ r. ⌜ Appended self r (each line-of (closed-entries closed [])) 72 ⌝ }
     {
         match closed {
@@ -145,7 +145,7 @@ impl Text {
     }
 
     fn answer(self, o: Occurred) -> Text
-        requires { ⌜ self .len + 34 ≤ 192 ⌝ }
+        requires { ⌜ self .len + 34 ≤ 224 ⌝ }
         ensures { λ r. ⌜ Appended self r (answer-line o) 34 ⌝ }
     {
         let due = o.due;
@@ -154,13 +154,25 @@ impl Text {
             .due_field(due)
             .byte(b'\n')
     }
+
+    fn enquiry(self, o: Occurred, ticket: u64) -> Text
+        requires { ⌜ self .len + 55 ≤ 224 ⌝ }
+        ensures { λ r. ⌜ Appended self r (enquiry-line o ticket) 55 ⌝ }
+    {
+        let due = o.due;
+        self.byte(b'E')
+            .word_field(o.skipped)
+            .due_field(due)
+            .field(ticket)
+            .byte(b'\n')
+    }
 }
 
 fn empty() -> Text
     ensures { λ r. ⌜ (r ≡ text-of []) × (r .len ≡ 0) ⌝ }
 {
     Text {
-        bytes: [0; 192],
+        bytes: [0; 224],
         len: 0,
     }
 }
@@ -254,6 +266,15 @@ pub fn served_lines(o: Occurred) -> Text
     empty().done(done).closing(closed).answer(o)
 }
 
+// The lines of what would occur at an instant that an enquiry shows, with its ticket.
+fn shown_lines(o: Occurred, ticket: u64) -> Text
+    ensures { λ r. ⌜ Prints r (shown-lines o ticket) ⌝ }
+{
+    let done = o.done;
+    let closed = o.closed;
+    empty().done(done).closing(closed).enquiry(o, ticket)
+}
+
 // The lines of an instant's answer.
 pub fn instant_lines(answer: Answer) -> Text
     ensures { λ r. ⌜ Prints r (instant-lines answer) ⌝ }
@@ -261,6 +282,16 @@ pub fn instant_lines(answer: Answer) -> Text
     match answer {
         Answer::Refused(number) => refused_call_line(number),
         Answer::Served(o) => served_lines(o),
+    }
+}
+
+// The lines of an enquiry: what the instant would answer, with its ticket, or the refusal.
+pub fn enquiry_lines(answer: Answer, ticket: u64) -> Text
+    ensures { λ r. ⌜ Prints r (enquiry-lines answer ticket) ⌝ }
+{
+    match answer {
+        Answer::Refused(number) => refused_call_line(number),
+        Answer::Served(o) => shown_lines(o, ticket),
     }
 }
 
@@ -286,10 +317,10 @@ pub fn opening_lines(refusal: Refusal) -> Text
 }
 
 fn shown_len(text: Text) -> usize
-    ensures { λ r. ⌜ (r ≡ length (shown text)) × (r ≤ 192) ⌝ }
+    ensures { λ r. ⌜ (r ≡ length (shown text)) × (r ≤ 224) ⌝ }
 {
     let n = text.len;
-    if n < 192 { n } else { 192 }
+    if n < 224 { n } else { 224 }
 }
 
 // The text at the start of `out`, and how many bytes were written: none if `out` is too short.

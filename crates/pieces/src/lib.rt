@@ -56,8 +56,10 @@ pub fn next_piece(rest: &[u8], d: Dispatcher, budget: usize, out: &mut [u8]) -> 
     }
     let priority = d.priority;
     let columns = d.columns;
+    let ticket = d.ticket;
     Piece {
         state: Dispatcher {
+            ticket,
             times,
             release,
             waits,

@@ -15,10 +15,10 @@ use Rattle.lines.proofs.Laws.{room-fits}
 use Rattle.printing.specs.Gathering.{place, Gathers}
 use Rattle.printing.specs.declared.Kept.{Kept}
 
-pub at-front : (s : List ℕ) (len : ℕ) (t : Text) (x : Kept) (after : List ℕ) → length s - len < 192
+pub at-front : (s : List ℕ) (len : ℕ) (t : Text) (x : Kept) (after : List ℕ) → length s - len < 224
     → x .len ≡ room t s → after ≡ written t s → Gathers s len t x after
 at-front s len t x after h e f =
-    let p : place s len ≡ 0 = ap (λ (b : Bool). cond b len 0) (lt-leb 192 (length s - len) h) in
+    let p : place s len ≡ 0 = ap (λ (b : Bool). cond b len 0) (lt-leb 224 (length s - len) h) in
     record { keeps = rw p (omega (arith, e)); within = omega (arith, e, room-fits t s); holds = rw p f; good = λ k. absurd (omega arith) }
 
 -- the bytes behind the first ones
@@ -28,11 +28,11 @@ rest s len = take-all (length s - len) (drop len s) (omega (arith, length-drop l
 laid : (s r : List ℕ) (len : ℕ) → putMid len (length s - len) s r ≡ take len s ++ r
 laid s r len = ap (λ (q : List ℕ). take len s ++ (r ++ q)) (drop-of-length-le (drop len s) {i = length s - len} (omega (arith, length-drop len s))) ∙ ap (λ (q : List ℕ). take len s ++ q) (append-nil r)
 
-pub at-end : (s r : List ℕ) (len n : ℕ) (t : Text) → 192 ≤ length s - len
+pub at-end : (s r : List ℕ) (len n : ℕ) (t : Text) → 224 ≤ length s - len
     → n ≡ room t (midOf len (length s - len) s) → r ≡ written t (midOf len (length s - len) s)
     → Gathers s len t (record { len = len + n; good = true }) (putMid len (length s - len) s r)
 at-end s r len n t h e f =
-    let p : place s len ≡ len = ap (λ (b : Bool). cond b len 0) (le-leb 192 (length s - len) h) in
+    let p : place s len ≡ len = ap (λ (b : Bool). cond b len 0) (le-leb 224 (length s - len) h) in
     let m : n ≡ room t (drop len s) = e ∙ ap (room t) (rest s len) in
     let w : r ≡ written t (drop len s) = f ∙ ap (written t) (rest s len) in
     record {

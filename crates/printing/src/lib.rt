@@ -17,7 +17,7 @@ pub struct Kept {
 pub fn print_text(name: &[u8], text: Text) -> bool
     ensures { λ r. ⌜ (length (shown text) ≡ 0 → r ≡ true) ⌝ }
 {
-    let mut out = [0u8; 192];
+    let mut out = [0u8; 224];
     let count = lines::put(text, &mut out);
     streams::write_front(name, &out, count)
 }
@@ -33,7 +33,7 @@ fn behind(all: usize, len: usize) -> usize
 pub fn gather(name: &[u8], out: &mut [u8], len: usize, text: Text) -> Kept
     ensures { λ r. ⌜ Gathers (now (out .entry)) len text r (now (out .exit)) ⌝ }
 {
-    if behind(out.len(), len) < 192 {
+    if behind(out.len(), len) < 224 {
         let good = streams::write_front(name, out, len);
         let put = lines::put(text, out);
         return Kept { len: put, good };

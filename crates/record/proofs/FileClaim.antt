@@ -23,6 +23,9 @@ use Rattle.record.specs.Types.{Release}
 use Rattle.run.specs.Files.{Releases, releases-of}
 use Rattle.run.specs.Run.{Moment, first-time, released-at, released-after, moments-of}
 use Rattle.record.specs.FileClaim.{Feeds, answers, occurrences, FedClaim, Demand3Files}
+use Rattle.guarantees.specs.Requests.{fresh}
+use Rattle.record.specs.Requests.{by-commits}
+use Rattle.record.proofs.Requests.{as-calls, as-commits}
 use Rattle.record.proofs.Accepted.{Accepted, accepted}
 use Rattle.record.proofs.TasksAlone.{opens, fair, claim}
 use Rattle.record.proofs.Feeding.{Fit, Fed, feeding}
@@ -102,6 +105,8 @@ module _ (s : List ℕ) (rs : List Release) (a : Accepted s rs) where
   fed-claim = record {
     all-served = fed .all-served;
     gives-record = fed .gives;
+    by-commits-too = as-calls (by-commits (fresh d) (fed .calls)) (fresh d) ∙ ap (answers d) (as-commits (fed .calls) (fresh d)) ∙ fed .gives;
+    by-requests = λ requests e. as-calls requests (fresh d) ∙ ap (answers d) e ∙ fed .gives;
     within-budget = fed .within;
     claim = claim s rs a (fed .calls);
     each-done = sym (ap done same) ∙ claim s rs a (fed .calls) .entries .each-done;

@@ -5,6 +5,7 @@ pub mod Lengths
 pub mod Ends
 pub mod TasksAlone
 pub mod Feeding
+pub mod Requests
 pub mod FileClaim
 pub mod Bound
 pub mod Outcomes

@@ -18,6 +18,8 @@ use Rattle.guarantees.specs.Releases.{Balance}
 use Rattle.guarantees.specs.Intervals.{no-course, ended}
 use Rattle.guarantees.specs.Entries.{skips, done, completions, closed}
 use Rattle.guarantees.specs.Claim.{Claim, AllCompleted}
+use Rattle.guarantees.specs.Requests.{Request, fresh, calls-made}
+use Rattle.record.specs.Requests.{answers-to, by-commits}
 use Rattle.run.specs.Files.{Releases, releases-of}
 use Rattle.run.specs.Run.{Moment, moment, first-time, released-at, released-after, moments-of}
 use Rattle.record.specs.Writing.{WroteInNumbers, file}
@@ -71,6 +73,10 @@ pub record FedClaim (d : State) (rs : List Release) (ms : List Moment) (calls : 
   pub all-served : AllServed d calls
   -- "gives its record": what they answer is what the record is made of
   pub gives-record : answers d calls ≡ ms
+  -- 9/13: "sessions made of commits give the same record as before", and so do all requests that come to these calls, whatever
+  -- enquiries and refused commits are among them
+  pub by-commits-too : answers-to (fresh d) (by-commits (fresh d) calls) ≡ ms
+  pub by-requests : (requests : List Request) → calls-made (fresh d) requests ≡ calls → answers-to (fresh d) requests ≡ ms
   -- no run is cut off: it has fewer instants than its budget
   pub within-budget : length calls < limits.budget (length rs)
   -- demand 3 of this list of calls, "lists of calls and files alike", and that what each entry of a job says is true (`entries`)

@@ -28,7 +28,7 @@ none-yet s at out = record {
 
 -- a text shows the line that it prints
 shown-is : (t : Text) (l : List ℕ) → Prints t l → shown t ≡ l
-shown-is t l p = ap shown (p .whole) ∙ take-append-seam l (replicate (192 - length l) 0)
+shown-is t l p = ap shown (p .whole) ∙ take-append-seam l (replicate (224 - length l) 0)
 
 empty : (l : List ℕ) → length l ≡ 0 → l ≡ []
 empty [] e = refl

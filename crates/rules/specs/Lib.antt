@@ -8,6 +8,7 @@ pub mod Blocking
 pub mod Registers
 pub mod Kept
 pub mod Calls
+pub mod Tickets
 pub mod Cut
 pub mod Answers
 pub mod Entries

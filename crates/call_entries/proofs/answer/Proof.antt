@@ -1,37 +1,39 @@
 -- `call_entries::answer` meets its contract: by the entry. Assumes nothing.
 use mathlib.Core.Path.{refl, ap, ap₂, _∙_}
-use Rattle.lines.specs.Lines.{instant-lines, mark-lines}
+use Rattle.lines.specs.Lines.{instant-lines, enquiry-lines, mark-lines}
 use Rattle.lines.specs.Text.{text-of}
 use Rattle.lines.specs.declared.Text.{Text}
-use Rattle.rules.specs.Calls.{Step, MarkStep}
-use Rattle.dispatcher.specs.Dispatcher.{state-of}
-use Rattle.call_entries.specs.Types.{State}
+use Rattle.rules.specs.Calls.{MarkStep}
+use Rattle.rules.specs.Tickets.{Ticketed, TicketedStep, Enquiry}
+use Rattle.dispatcher.specs.Dispatcher.{ticketed-of}
+use Rattle.dispatcher.proofs.Numbered.{ticketed, mark-ticketed}
 use Rattle.call_entries.specs.Calls.{Reply}
 use borrow.Author.Needs.{needs}
 use Rattle.call_entries.proofs.answer.Statement.{statement}
 use Rattle.call_entries.proofs.answer.Tie as tie
 
-abbrev reply : State → Text → Reply
-reply d t = record { state = d; text = t }
+abbrev reply : Ticketed → Text → Reply
+reply d t = record { left = d; text = t }
 
 returns : tie.Need-returns
 returns c =
     let d = c .before .before .before .args .d in
     rw (c .before .enum-told .given .1)
-    (record { reply-is = ap (reply (state-of d)) (c .cut-short-line .ensures .whole); fits = c .cut-short-line .ensures .fits; untouched = λ u. refl })
+    (record { reply-is = ap (reply (ticketed-of d)) (c .cut-short-line .ensures .whole); fits = c .cut-short-line .ensures .fits; untouched = λ u. refl })
 
 returns-2 : tie.Need-returns-2
 returns-2 c =
     let d = c .before .before .before .args .d in
     rw (c .before .enum-told2 .given .1)
-    (record { reply-is = ap (reply (state-of d)) (c .cut-short-line2 .ensures .whole); fits = c .cut-short-line2 .ensures .fits; untouched = λ u. refl })
+    (record { reply-is = ap (reply (ticketed-of d)) (c .cut-short-line2 .ensures .whole); fits = c .cut-short-line2 .ensures .fits; untouched = λ u. refl })
 
 returns-3 : tie.Need-returns-3
 returns-3 c =
     let step = c .before .before .instant in
+    let is = ticketed _ _ _ _ (step .ensures) in
     rw (c .before .before .before .before .entry .given .1)
     (record {
-      reply-is = ap₂ reply (ap (λ (s : Step). s .state) (step .ensures .step)) (c .instant-lines .ensures .whole ∙ ap (λ (s : Step). text-of (instant-lines (s .answer))) (step .ensures .step));
+      reply-is = ap₂ reply (ap (λ (s : TicketedStep). s .left) is) (c .instant-lines .ensures .whole ∙ ap (λ (s : TicketedStep). text-of (instant-lines (s .answer))) is);
       fits = c .instant-lines .ensures .fits;
       untouched = step .ensures .untouched;
     })
@@ -41,8 +43,29 @@ returns-4 c =
     let step = c .before .before .mark in
     rw (c .before .before .before .before .entry2 .given .1)
     (record {
-      reply-is = ap₂ reply (ap (λ (s : MarkStep). s .state) (step .ensures .step)) (c .mark-lines .ensures .whole ∙ ap (λ (s : MarkStep). text-of (mark-lines (s .answer))) (step .ensures .step));
+      reply-is = ap₂ reply (mark-ticketed _ _ _ _ (step .ensures)) (c .mark-lines .ensures .whole ∙ ap (λ (s : MarkStep). text-of (mark-lines (s .answer))) (step .ensures .step));
       fits = c .mark-lines .ensures .fits;
+      untouched = step .ensures .untouched;
+    })
+
+returns-5 : tie.Need-returns-5
+returns-5 c =
+    let e = c .before .before .enquire in
+    rw (c .before .before .before .before .entry3 .given .1)
+    (record {
+      reply-is = ap (reply _) (c .enquiry-lines .ensures .whole ∙ ap (λ (x : Enquiry). text-of (enquiry-lines (x .step .answer) (x .ticket))) (e .ensures .shows));
+      fits = c .enquiry-lines .ensures .fits;
+      untouched = λ u. refl;
+    })
+
+returns-6 : tie.Need-returns-6
+returns-6 c =
+    let step = c .before .before .commit in
+    let is = step .ensures .step in
+    rw (c .before .before .before .before .entry4 .given .1)
+    (record {
+      reply-is = ap₂ reply (ap (λ (s : TicketedStep). s .left) is) (c .instant-lines2 .ensures .whole ∙ ap (λ (s : TicketedStep). text-of (instant-lines (s .answer))) is);
+      fits = c .instant-lines2 .ensures .fits;
       untouched = step .ensures .untouched;
     })
 
@@ -53,4 +76,6 @@ answer-spec =
     (λ c. search needs) (λ c κs. search needs) (λ c. search needs) (λ c κs. search needs)
     (λ c. search needs) (λ c κs. search needs) (λ c κs. search needs)
     (λ c. search needs) (λ c κs. search needs) (λ c κs. search needs)
-    returns returns-2 returns-3 returns-4)
+    (λ c. search needs) (λ c κs. search needs) (λ c κs. search needs)
+    (λ c. search needs) (λ c κs. search needs) (λ c κs. search needs)
+    returns returns-2 returns-3 returns-4 returns-5 returns-6)

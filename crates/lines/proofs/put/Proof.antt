@@ -12,7 +12,7 @@ use Rattle.lines.proofs.put.Tie as tie
 
 abbrev Inv-loop : tie.InvT-loop
 Inv-loop out₀ text n i₀ out i =
-    (i ≤ n) × (length (text .bytes) ≡ 192) × (length out ≡ length out₀) × (out ≡ take i (text .bytes) ++ drop i out₀)
+    (i ≤ n) × (length (text .bytes) ≡ 224) × (length out ≡ length out₀) × (out ≡ take i (text .bytes) ++ drop i out₀)
 
 abbrev μ-loop : tie.MeasureT-loop
 μ-loop out₀ text n i₀ out i = n - i

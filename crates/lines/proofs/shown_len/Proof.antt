@@ -9,13 +9,13 @@ use Rattle.lines.proofs.shown_len.Tie as tie
 returns : tie.Need-returns
 returns c =
     let t = c .before .args .text in
-    let whole : length (t .bytes) ≡ 192 = search needs in
+    let whole : length (t .bytes) ≡ 224 = search needs in
     (omega (arith, length-take (t .len) (t .bytes)), omega arith)
 
 returns-2 : tie.Need-returns-2
 returns-2 c =
     let t = c .before .args .text in
-    let whole : length (t .bytes) ≡ 192 = search needs in
+    let whole : length (t .bytes) ≡ 224 = search needs in
     (omega (arith, length-take (t .len) (t .bytes)), omega arith)
 
 pub shown-len-spec : {M : Type 1} → statement M

@@ -13,14 +13,14 @@ unfolding instant
 returns c =
     let s = c .before .before .before .before .before .before .before .args in
     let n = c .before .before .refusal .ensures (beside-of (s .t1)) in
-    answered _ _ _ _ (simp (← n, eq-eqb _ _ (c .before .if1 .taken), c .served .ensures)) (λ f. absurd (f (sym n ∙ c .before .if1 .taken)))
+    answered _ _ _ _ (simp (← n, eq-eqb _ _ (c .before .if1 .taken), c .served .ensures .0)) (simp (← n, eq-eqb _ _ (c .before .if1 .taken), c .served .ensures .1)) (λ f. absurd (f (sym n ∙ c .before .if1 .taken)))
 
 returns-2 : tie.Need-returns-2
 unfolding instant
 returns-2 c =
     let s = c .before .before .before .before .before .before .args in
     let n = c .before .refusal .ensures (beside-of (s .t1)) in
-    answered _ _ _ _ (simp (← n, ne-eqb _ _ (c .if1 .left))) (λ f. refl)
+    answered _ _ _ _ (simp (← n, ne-eqb _ _ (c .if1 .left))) (simp (← n, ne-eqb _ _ (c .if1 .left))) (λ f. refl)
 
 pub instant-spec : {M : Type 1} → statement M
 instant-spec = tie.close

@@ -13,14 +13,15 @@ unfolding mark
 returns c =
     let s = c .before .before .before .before .before .args in
     let n = c .before .before .mark-refusal .ensures (s .t1 .times) (s .t1 .codes) (beside-of (s .t1)) in
-    mark-answered _ _ _ _ (simp (← n, eq-eqb _ _ (c .before .if1 .taken), c .with-mark .ensures)) (λ f. absurd (f (sym n ∙ c .before .if1 .taken)))
+    mark-answered _ _ _ _ (simp (← n, eq-eqb _ _ (c .before .if1 .taken), c .with-mark .ensures .0))
+    (simp (← n, eq-eqb _ _ (c .before .if1 .taken), c .with-mark .ensures .1)) (λ f. absurd (f (sym n ∙ c .before .if1 .taken)))
 
 returns-2 : tie.Need-returns-2
 unfolding mark
 returns-2 c =
     let s = c .before .before .before .before .args in
     let n = c .before .mark-refusal .ensures (s .t1 .times) (s .t1 .codes) (beside-of (s .t1)) in
-    mark-answered _ _ _ _ (simp (← n, ne-eqb _ _ (c .if1 .left))) (λ f. refl)
+    mark-answered _ _ _ _ (simp (← n, ne-eqb _ _ (c .if1 .left))) (simp (← n, ne-eqb _ _ (c .if1 .left))) (λ f. refl)
 
 pub mark-spec : {M : Type 1} → statement M
 mark-spec = tie.close

@@ -6,10 +6,10 @@ use Rattle.dispatcher.proofs.mark.with_mark.Tie as tie
 
 returns : tie.Need-returns
 returns c =
-    let d = c .before .before .before .before .before .before .before .before .before .before .args .d in
-    c .before .before .before .before .before .before .before .marked-with .ensures (d .times) (d .codes) (beside-of d)
+    let d = c .before .before .before .before .before .before .before .before .before .before .before .args .d in
+    (c .before .before .before .before .before .before .before .before .marked-with .ensures (d .times) (d .codes) (beside-of d), c .before .before .before .before .before .before .before .raised .ensures)
 
 pub with-mark-spec : {M : Type 1} → statement M
 with-mark-spec = tie.close
     (tie.spec
-    (λ c κs. search needs) returns)
+    (λ c κs. search needs) (λ c κs. search needs) returns)

@@ -12,7 +12,7 @@ opened-requires c κs = search needs
 
 returns : tie.Need-returns
 unfolding opening
-returns c = simp (c .opened .ensures, ← c .before .before .head-alone .ensures)
+returns c = (simp (c .opened .ensures .0, ← c .before .before .head-alone .ensures), c .opened .ensures .1)
 
 pub open-spec : {M : Type 1} → statement M
 open-spec = tie.close (tie.spec head-alone-requires opened-requires returns)

@@ -7,7 +7,7 @@ use Rattle.dispatcher.proofs.open_tasks.opened.Tie as tie
 
 returns : tie.Need-returns
 unfolding state-in phase-in interval-in opened
-returns c = refl
+returns c = (refl, refl)
 
 pub opened-spec : {M : Type 1} → statement M
 opened-spec = tie.close

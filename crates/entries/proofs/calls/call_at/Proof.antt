@@ -27,9 +27,29 @@ returns-3 : tie.Need-returns-3
 unfolding call-at
 returns-3 c = simp (lt-leb _ _ (c .before .before .before .before .if1 .left), one-byte, ne-eqb _ _ (c .before .before .if2 .left), eq-eqb _ _ (c .before .if3 .taken), c .mark-at .ensures)
 
+enquiry-at-requires : tie.Need-enquiry-at-requires
+enquiry-at-requires c κs = search needs
+
 returns-4 : tie.Need-returns-4
 unfolding call-at
-returns-4 c = simp (lt-leb _ _ (c .before .before .before .if1 .left), one-byte, ne-eqb _ _ (c .before .if2 .left), ne-eqb _ _ (c .if3 .left))
+returns-4 c =
+    simp (lt-leb _ _ (c .before .before .before .before .before .if1 .left), one-byte, ne-eqb _ _ (c .before .before .before .if2 .left), ne-eqb _ _ (c .before .before .if3 .left),
+    eq-eqb _ _ (c .before .if4 .taken), c .enquiry-at .ensures)
+
+commit-at-requires : tie.Need-commit-at-requires
+commit-at-requires c κs = search needs
+
+returns-5 : tie.Need-returns-5
+unfolding call-at
+returns-5 c =
+    simp (lt-leb _ _ (c .before .before .before .before .before .before .if1 .left), one-byte, ne-eqb _ _ (c .before .before .before .before .if2 .left),
+    ne-eqb _ _ (c .before .before .before .if3 .left), ne-eqb _ _ (c .before .before .if4 .left), eq-eqb _ _ (c .before .if5 .taken), c .commit-at .ensures)
+
+returns-6 : tie.Need-returns-6
+unfolding call-at
+returns-6 c =
+    simp (lt-leb _ _ (c .before .before .before .before .before .if1 .left), one-byte, ne-eqb _ _ (c .before .before .before .if2 .left), ne-eqb _ _ (c .before .before .if3 .left),
+    ne-eqb _ _ (c .before .if4 .left), ne-eqb _ _ (c .if5 .left))
 
 pub call-at-spec : {M : Type 1} → statement M
 call-at-spec =
@@ -41,4 +61,8 @@ call-at-spec =
     returns-2
     mark-at-requires
     returns-3
-    returns-4)
+    enquiry-at-requires
+    returns-4
+    commit-at-requires
+    returns-5
+    returns-6)

@@ -21,7 +21,7 @@ abbrev μ-loop : tie.MeasureT-loop
 μ-loop s budget stored made₀ d₀ at₀ size₀ left₀ made d at size left = left
 
 loop-holds : tie.Need-loop-holds Inv-loop μ-loop
-loop-holds c = let f = c .before .before .before .before in let d = c .opened in (begins (f .args .s .now) (f .args .stored .now) (f .args .head) (f .args .budget) (d .result) (d .ensures) (f .pre), refl)
+loop-holds c = let f = c .before .before .before .before in let d = c .opened in (begins (f .args .s .now) (f .args .stored .now) (f .args .head) (f .args .budget) (d .result) (d .ensures .0) (f .pre), refl)
 
 sub-next-piece : tie.Need-sub-next-piece Inv-loop μ-loop
 sub-next-piece c = omega (arith, c .before .loop .inv .0 .served .within)
@@ -42,7 +42,7 @@ returns : tie.Need-returns Inv-loop μ-loop
 returns c =
     let v = c .before .before .before .before .before .before .before .before .loop in let f = c .before .before .before .before .before .before .before .before .before .before .before .before .before in let d = c .before .before .before .before .before .before .before .before .before .opened in
     let x = c .before .goes-on-with in
-    as-started (f .args .s .now) (f .args .stored .now) (f .args .head) (f .args .budget) (d .result) (d .ensures)
+    as-started (f .args .s .now) (f .args .stored .now) (f .args .head) (f .args .budget) (d .result) (d .ensures .0)
     (differs (v .d) (v .inv .0) (c .before .before .before .before .next-piece .ensures) (λ e. clash (x .result) (x .ensures .shows e) (not-true _ (c .if1 .taken))))
 
 add-size : tie.Need-add-size Inv-loop μ-loop
@@ -72,7 +72,7 @@ loop-again c =
 returns-2 : tie.Need-returns-2 Inv-loop μ-loop
 returns-2 c =
     let v = c .before .loop in let f = c .before .before .before .before .before .before in let d = c .before .before .opened in
-    as-started (f .args .s .now) (f .args .stored .now) (f .args .head) (f .args .budget) (d .result) (d .ensures) (ended (v .d) (v .inv .0) (c .loop-test .left))
+    as-started (f .args .s .now) (f .args .stored .now) (f .args .head) (f .args .budget) (d .result) (d .ensures .0) (ended (v .d) (v .inv .0) (c .loop-test .left))
 
 pub replays-spec : {M : Type 1} → statement M
 replays-spec =

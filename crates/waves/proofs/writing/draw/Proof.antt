@@ -37,7 +37,7 @@ keep-piece-requires : tie.Need-keep-piece-requires
 keep-piece-requires c κs =
     let f = c .before .before .before .before .before .before .before in
     let d = c .before .before .before .opened in
-    let q = from-start (f .args .part) (d .result) (d .ensures) (f .pre) in
+    let q = from-start (f .args .part) (d .result) (d .ensures .0) (f .pre) in
     λ h. subst (λ (l : List ℕ). 0 + length l ≤ length (f .args .out .now)) (sym (c .before .before .header .ensures)) (header-room q h)
 
 -- src/writing.rt:130:9
@@ -45,7 +45,7 @@ draw-instants-requires : tie.Need-draw-instants-requires
 draw-instants-requires c κs =
     let f = c .before .before .before .before .before .before .before .before .before .before .before in
     let d = c .before .before .before .before .before .before .before .opened in
-    let q = from-start (f .args .part) (d .result) (d .ensures) (f .pre) in
+    let q = from-start (f .args .part) (d .result) (d .ensures .0) (f .pre) in
     let k = c .before .before .before in
     let x = of-piece (k .before .before .before .header .ensures) (k .keep-piece .ensures) in
     space q x
@@ -59,11 +59,11 @@ returns : tie.Need-returns
 returns c =
     let f = c .before .before .before .before .before .before .before .before .before .before .before .before .before .before .before in
     let d = c .before .before .before .before .before .before .before .before .before .before .before .opened in
-    let q = from-start (f .args .part) (d .result) (d .ensures) (f .pre) in
+    let q = from-start (f .args .part) (d .result) (d .ensures .0) (f .pre) in
     let k = c .before .before .before .before .before .before .before in
     let x = of-piece (k .before .before .before .header .ensures) (k .keep-piece .ensures) in
     let g = c .before .before .before .draw-instants .ensures in
-    to-start (f .args .part) (d .result) (d .ensures) (f .args .s .now) (f .args .budget) (all-drawn q x g (c .if1 .taken))
+    to-start (f .args .part) (d .result) (d .ensures .0) (f .args .s .now) (f .args .budget) (all-drawn q x g (c .if1 .taken))
 
 -- src/writing.rt:142:23
 slice-aggregate-put-start : tie.Need-slice-aggregate-put-start
@@ -92,12 +92,12 @@ keep-piece-requires-2 : tie.Need-keep-piece-requires-2
 keep-piece-requires-2 c κs =
     let f = c .before .before .before .before .before .before .before .before .before .before .before .before .before .before .before .before .before .before .before .before in
     let d = c .before .before .before .before .before .before .before .before .before .before .before .before .before .before .before .before .opened in
-    let q = from-start (f .args .part) (d .result) (d .ensures) (f .pre) in
+    let q = from-start (f .args .part) (d .result) (d .ensures .0) (f .pre) in
     let k = c .before .before .before .before .before .before .before .before .before .before .before .before in
     let x = of-piece (k .before .before .before .header .ensures) (k .keep-piece .ensures) in
     let g = c .before .before .before .before .before .before .before .before .draw-instants .ensures in
     let put = c .before .before .before .put-start .ensures in
-    λ h. omega (arith, start-room q x g (c .before .before .before .before .before .if1 .left) h, ap length (front put ∙ ap start (nobody (f .args .part) (d .result) (d .ensures))))
+    λ h. omega (arith, start-room q x g (c .before .before .before .before .before .if1 .left) h, ap length (front put ∙ ap start (nobody (f .args .part) (d .result) (d .ensures .0))))
 
 -- src/writing.rt:144:5
 add-result : tie.Need-add-result
@@ -115,14 +115,14 @@ returns-2 : tie.Need-returns-2
 returns-2 c =
     let f = c .before .before .before .before .before .before .before .before .before .before .before .before .before .before .before .before .before .before .before .before .before .before .before in
     let d = c .before .before .before .before .before .before .before .before .before .before .before .before .before .before .before .before .before .before .before .opened in
-    let q = from-start (f .args .part) (d .result) (d .ensures) (f .pre) in
+    let q = from-start (f .args .part) (d .result) (d .ensures .0) (f .pre) in
     let k = c .before .before .before .before .before .before .before .before .before .before .before .before .before .before .before in
     let x = of-piece (k .before .before .before .header .ensures) (k .keep-piece .ensures) in
     let g = c .before .before .before .before .before .before .before .before .before .before .before .draw-instants .ensures in
     let put = c .before .before .before .before .before .before .put-start .ensures in
-    let same = nobody (f .args .part) (d .result) (d .ensures) in
+    let same = nobody (f .args .part) (d .result) (d .ensures .0) in
     let z = of-piece (front put ∙ ap start same) (c .before .before .keep-piece2 .ensures) in
-    to-start (f .args .part) (d .result) (d .ensures) (f .args .s .now) (f .args .budget)
+    to-start (f .args .part) (d .result) (d .ensures .0) (f .args .s .now) (f .args .budget)
     (start-drawn q x g (c .before .before .before .before .before .before .before .before .if1 .left) (omega (arith, put .place-is, ap (λ v. length (start v)) same)) z)
 
 pub draw-spec : {M : Type 1} → statement M

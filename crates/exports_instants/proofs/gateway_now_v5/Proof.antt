@@ -1,11 +1,11 @@
--- `exports_instants::gateway_now_v4` meets its contract: number by number. Assumes nothing.
+-- `exports_instants::gateway_now_v5` meets its contract: number by number. Assumes nothing.
 use mathlib.Core.Path.{ap, _∙_}
 use mathlib.Core.List.{[], _∷_}
 use Rattle.rules.specs.declared.View.{View}
 use Rattle.views.specs.Showing.{ticks-of, units-of}
 use borrow.Author.Needs.{needs}
-use Rattle.exports_instants.proofs.gateway_now_v4.Statement.{statement}
-use Rattle.exports_instants.proofs.gateway_now_v4.Tie as tie
+use Rattle.exports_instants.proofs.gateway_now_v5.Statement.{statement}
+use Rattle.exports_instants.proofs.gateway_now_v5.Tie as tie
 
 returns : tie.Need-returns
 returns c b =
@@ -16,5 +16,5 @@ returns c b =
       units-are = x .units-are ∙ ap units-of (x .is-so b);
     }
 
-pub gateway-now-v4-spec : {M : Type 1} → statement M
-gateway-now-v4-spec = tie.close (tie.spec (λ c κs. search needs) (λ c κs. search needs) returns)
+pub gateway-now-v5-spec : {M : Type 1} → statement M
+gateway-now-v5-spec = tie.close (tie.spec (λ c κs. search needs) (λ c κs. search needs) returns)
