@@ -46,9 +46,9 @@ static void hold(int good, const char *what)
 }
 
 /* The kinds of calls that are made in turn. */
-enum { MARK, INSTANT, ENQUIRY, COMMIT, KINDS };
+enum { MARK, INSTANT, ENQUIRY, COMMIT, MARKS, KINDS };
 
-/* What goes on, and then an instant, an enquiry, a commit by the ticket that is there or by another one, or a mark. */
+/* What goes on, and then an instant, an enquiry, a commit by the ticket that is there or by another one, or a mark of a task or of a set. */
 static uint8_t call(memory *m, int kind, uint64_t time, uint32_t set)
 {
     if (kind == ENQUIRY) {
@@ -57,9 +57,19 @@ static uint8_t call(memory *m, int kind, uint64_t time, uint32_t set)
     gateway_now(&m->d, &m->view);
     switch (kind) {
     case MARK: return gateway_mark(&m->d, (uint8_t)time, (uint8_t)set);
+    case MARKS: return gateway_marks(&m->d, set, (uint8_t)(time % 3));
     case INSTANT: return gateway_instant(&m->d, time, set, &m->answer);
     default: return gateway_commit(&m->d, m->ticket, time, set, &m->answer);
     }
+}
+
+/* Marks for a set are refused by 16 or 6, or by 17 where one of the tasks has a pending job or a release that waits; else the set is marked or not. */
+static void hold_marks(const memory *one, const memory *first, uint32_t set, uint8_t mark, uint8_t number)
+{
+    const uint32_t *sets = first->d.sets; /* marked, pending, .., present, waiting */
+    uint8_t expected = (set & ~sets[4]) != 0 ? 16 : mark > 1 ? 6 : (set & (sets[1] | sets[5])) != 0 ? 17 : 0;
+    hold(number == expected, "marks for a set are refused by another number");
+    hold(number != 0 || one->d.sets[0] == (mark == 1 ? sets[0] | set : sets[0] & ~set), "marks for a set leave other marks");
 }
 
 /* What an enquiry shows is what a commit by its ticket does, and it changes no byte of the dispatcher. */
@@ -112,6 +122,9 @@ int main(void)
         hold(number == 0 || (memcmp(&one, &first, offsetof(memory, view)) == 0 && one.ticket == first.ticket), "a refused call or a view has changed memory");
         hold(number == 0 || number == 6 || number == 10 || (number >= 14 && number <= 17) || number == 20, "a number that there is not");
         hold(number != 20 || (kind == COMMIT && first.ticket != first.d.ticket), "a ticket is refused that is the present one");
+        if (kind == MARKS) {
+            hold_marks(&one, &first, set, (uint8_t)(time % 3), number);
+        }
         if (kind == ENQUIRY && number == 0) {
             hold_enquiry(&one, &first, time, set);
         } else if (kind == ENQUIRY) {

@@ -101,13 +101,15 @@ def waits(driver):
 
 
 def marks(driver):
-    """A mark that was changed is handed over to the new dispatcher: plans A and B in turn, with the mark of task 1 from a call."""
-    tasks = task_entry(1, 1, 0, 2, 3, 1) + task_entry(2, 2, 0, 2, 4, 1) + task_entry(3, 3, 0, 2, 5, 2)
-    text, expected = "7 0 mark 1 1\n", []
+    """Marks that were changed are handed over to the new dispatcher, those that were set and those that were taken away: plans A and B in turn, with the
+    marks from calls."""
+    tasks = task_entry(1, 1, 0, 2, 3, 1) + task_entry(2, 2, 1, 2, 4, 1) + task_entry(3, 3, 1, 2, 5, 2)
+    unmarked = task_entry(2, 2, 0, 2, 4, 1) + task_entry(3, 3, 0, 2, 5, 2)
+    text, expected = "7 0 mark 1 1\n7 0 mark 2 0\n7 0 mark 3 0\n", []
     for begin, last in ((0, 3), (900_000_000, 4), (1_800_000_000, 3), (2_700_000_000, 4)):
         releases = [(0, 3), (2, 2), (last, 1)]
         text += "".join(f"7 {begin + time} {task}\n" for time, task in releases)
-        data = task_entry(1, 1, 1, 2, 3, 1) + tasks[16:] + b"".join(release_entry(*release) for release in releases)
+        data = task_entry(1, 1, 1, 2, 3, 1) + unmarked + b"".join(release_entry(*release) for release in releases)
         expected += [later(line, begin) for line in gateway_lines(data)]
     printed = printed_by(driver, tasks, text)
     if printed != {7: expected}:

@@ -103,8 +103,8 @@ static void print_answer(unsigned number, uint64_t base, uint64_t now, const gat
 
 /* ---- A core */
 
-/* With no due time nothing is pending and nothing waits, and a new dispatcher can take over, which is told the marks. Of the last releases it knows
- * nothing: see too_soon. */
+/* With no due time nothing is pending and nothing waits, and a new dispatcher can take over, which is told the marks: at once those that were set, and at once
+ * those that were taken away. Of the last releases it knows nothing: see too_soon. */
 static void count_anew(core_state *core, uint64_t now)
 {
     gateway_view old, fresh;
@@ -112,11 +112,8 @@ static void count_anew(core_state *core, uint64_t now)
     gateway_now(&opened, &fresh);
     core->dispatcher = opened;
     core->base = now;
-    for (unsigned task = 0; task < TASKS; task++) {
-        if ((old.marked ^ fresh.marked) >> task & 1) {
-            gateway_mark(&core->dispatcher, (uint8_t)task, old.marked >> task & 1);
-        }
-    }
+    gateway_marks(&core->dispatcher, old.marked & ~fresh.marked, 1);
+    gateway_marks(&core->dispatcher, fresh.marked & ~old.marked, 0);
 }
 
 /* One release of each task that has some, as a set. */

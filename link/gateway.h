@@ -13,6 +13,9 @@
 /* It has enquiries and commits by tickets: gateway_enquire, gateway_commit. */
 #define GATEWAY_TICKETS 1
 
+/* It has marks for a set of tasks: gateway_marks. */
+#define GATEWAY_MARKS 1
+
 #ifdef __cplusplus
 extern "C" {
 #endif
@@ -202,6 +205,7 @@ uint8_t gateway_enquire_v5(uint64_t time, uint32_t set, const uint64_t *times, c
                            const uint8_t *priority, const uint32_t *columns, const uint64_t *release, const uint8_t *blocked,
                            const uint64_t *waits, const uint64_t *ticket, uint64_t *given, uint64_t *ticks, uint32_t *tasks, uint8_t *units);
 uint8_t gateway_mark_v5(uint32_t *sets, uint64_t *ticket, uint8_t task, uint8_t mark);
+uint8_t gateway_marks_v5(uint32_t *sets, uint64_t *ticket, uint32_t set, uint8_t mark);
 uint64_t gateway_longest_interval_v5(const uint32_t *sets, const uint32_t *columns);
 uint64_t gateway_completes_after_v5(const uint32_t *sets, const uint32_t *columns, uint8_t task, uint32_t h);
 void gateway_now_v5(const uint64_t *times, const uint32_t *sets, const uint8_t *codes, uint64_t *ticks, uint32_t *tasks, uint8_t *units);
@@ -301,6 +305,14 @@ static inline uint32_t gateway_spacing(const gateway_dispatcher *d, uint8_t task
 static inline uint8_t gateway_mark(gateway_dispatcher *d, uint8_t task, uint8_t mark)
 {
     return gateway_mark_v5(d->sets, &d->ticket, task, mark);
+}
+
+/* Changes the marks of all tasks of a set at once, from now on: 16 where the set names a task that is not in the table, 6 where the mark is over 1, 17 where
+ * one of the tasks has a pending job or a release that waits, in this order, and then none changes. Otherwise it is as if each were changed by itself, in any
+ * order, but that the ticket rises by one; also where the set is empty. */
+static inline uint8_t gateway_marks(gateway_dispatcher *d, uint32_t set, uint8_t mark)
+{
+    return gateway_marks_v5(d->sets, &d->ticket, set, mark);
 }
 
 /* What goes on now. A driver commands its hardware by the views before and after a call: `b` and `a`, and `t` the time of the call. It has both before it

@@ -337,11 +337,20 @@ static uint64_t look(const gateway_dispatcher *d, uint64_t now, uint32_t set, ga
     return ticket;
 }
 
-/* A mark call on some task, refused where it is busy; whether it was served. */
-static bool change_mark(gateway_dispatcher *d, unsigned count)
+/* A mark call on some task or on several, refused where one is busy; whether it was served. */
+static bool change_marks(gateway_dispatcher *d, unsigned count)
 {
-    unsigned task = below(count), mark = below(2);
-    return gateway_mark(d, (uint8_t)task, (uint8_t)mark) == GATEWAY_SERVED;
+    unsigned task = below(count);
+    uint8_t mark = (uint8_t)below(2);
+    if (below(2) == 0) {
+        return gateway_mark(d, (uint8_t)task, mark) == GATEWAY_SERVED;
+    }
+    gateway_view view;
+    gateway_now(d, &view);
+    uint32_t named = below(UINT32_MAX) & (UINT32_MAX >> (32 - count)), busy = view.pending | view.waiting;
+    uint8_t number = gateway_marks(d, named, mark);
+    must(number == ((named & busy) != 0 ? GATEWAY_TASK_BUSY : GATEWAY_SERVED), "marks are refused where no task is busy, or served where one is");
+    return number == GATEWAY_SERVED;
 }
 
 /* The commit of what was shown and commanded: it tells what the enquiry told, and what goes on is what it showed. */
@@ -365,7 +374,7 @@ static bool call(gateway_dispatcher *d, unsigned count, uint64_t now, uint32_t s
     gateway_now(d, &before);
     pass(now);
     uint64_t ticket = look(d, now, set, &answer, &after);
-    if (below(4) == 0 && change_mark(d, count)) {
+    if (below(4) == 0 && change_marks(d, count)) {
         gateway_answer none;
         must(gateway_commit(d, ticket, now, set, &none) == GATEWAY_OLD_TICKET, "a commit by an old ticket is not refused by 20");
         ticket = look(d, now, set, &answer, &after);

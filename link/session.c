@@ -7,7 +7,7 @@
 #include <string.h>
 
 /* The kinds of call entries. */
-enum { INSTANT = 64, MARK = 65, ENQUIRY = 66, COMMIT = 67 };
+enum { INSTANT = 64, MARK = 65, ENQUIRY = 66, COMMIT = 67, MARKS = 68 };
 
 static uint64_t number_at(const uint8_t *bytes, int count)
 {
@@ -124,16 +124,46 @@ static void enquiry(const gateway_dispatcher *d, uint64_t time, uint32_t set)
     hold(&s, &untouched, sizeof s);
 }
 
+/* A served mark call changes the marks of its tasks and the ticket, and nothing else. */
+static void hold_marks(gateway_dispatcher before, const gateway_dispatcher *d, uint32_t set, uint8_t value)
+{
+    gateway_view b, a;
+    gateway_now(&before, &b);
+    gateway_now(d, &a);
+    if (a.marked != (value == 1 ? b.marked | set : b.marked & ~set)) {
+        printf("a mark call leaves other marks\n");
+    }
+    before.ticket++;
+    memcpy(before.sets, d->sets, sizeof before.sets[0]); /* the marks are the first of the sets */
+    if (memcmp(&before, d, sizeof before) != 0) {
+        printf("a mark call has changed something else than marks\n");
+    }
+}
+
+/* What a mark call answered, for the tasks of a set. */
+static void marked(const gateway_dispatcher *before, const gateway_dispatcher *d, uint32_t set, uint8_t value, uint8_t refused)
+{
+    if (refused == 0) {
+        printf("M\n");
+        hold_marks(*before, d, set, value);
+        return;
+    }
+    printf("R %u\n", refused);
+    hold(d, before, sizeof *before);
+}
+
 static void mark(gateway_dispatcher *d, uint8_t task, uint8_t value)
 {
     gateway_dispatcher before = *d;
     uint8_t refused = gateway_mark(d, task, value);
-    if (refused == 0) {
-        printf("M\n");
-        return;
-    }
-    printf("R %u\n", refused);
-    hold(d, &before, sizeof before);
+    marked(&before, d, UINT32_C(1) << (task & 31), value, refused);
+}
+
+static void marks(gateway_dispatcher *d, uint32_t set, uint8_t value)
+{
+    gateway_dispatcher before = *d;
+    uint8_t refused = gateway_marks(d, set, value);
+    marked(&before, d, set, value, refused);
 }
 
 /* The length of a call entry by its kind; 0 of another kind. */
@@ -144,6 +174,7 @@ static size_t size_of(uint8_t kind)
     case ENQUIRY: return 13;
     case MARK: return 3;
     case COMMIT: return 21;
+    case MARKS: return 6;
     default: return 0;
     }
 }
@@ -155,6 +186,7 @@ static void call(gateway_dispatcher *d, gateway_answer *answer, const uint8_t *e
     switch (entry[0]) {
     case INSTANT: instant(d, answer, NULL, number_at(entry + 1, 8), (uint32_t)number_at(entry + 9, 4)); break;
     case MARK: mark(d, entry[1], entry[2]); break;
+    case MARKS: marks(d, (uint32_t)number_at(entry + 1, 4), entry[5]); break;
     case ENQUIRY: enquiry(d, number_at(entry + 1, 8), (uint32_t)number_at(entry + 9, 4)); break;
     default:
         ticket = number_at(entry + 1, 8);

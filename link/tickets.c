@@ -7,8 +7,8 @@
 #include <stdlib.h>
 #include <string.h>
 
-#ifndef GATEWAY_TICKETS
-#error "the header has no tickets"
+#if !defined(GATEWAY_TICKETS) || !defined(GATEWAY_MARKS)
+#error "the header has no tickets, or no marks for sets"
 #endif
 
 /* Task 5, which is done 9 ticks after a release that is taken at once, and task 6. */
@@ -116,6 +116,27 @@ static void counting(void)
     hold(d.ticket == 3, "a commit does not raise the ticket by one");
 }
 
+/* A call for a set counts once, also where it is empty. */
+static void marks(void)
+{
+    gateway_dispatcher d = opened();
+    gateway_answer answer;
+    hold(gateway_marks(&d, five | six, 0) == GATEWAY_SERVED && d.ticket == 1, "marks for two tasks do not raise the ticket by one");
+    hold(gateway_marks(&d, 0, 1) == GATEWAY_SERVED && d.ticket == 2, "marks for no task do not raise the ticket by one");
+    hold(gateway_marks(&d, 0, 2) == GATEWAY_BAD_MARK && d.ticket == 2, "a bad mark for no task is served, or raises the ticket");
+    hold(gateway_instant(&d, 0, five, &answer) == GATEWAY_SERVED, "an instant is refused");
+    gateway_dispatcher before = d;
+    hold(gateway_marks(&d, five | six, 1) == GATEWAY_TASK_BUSY, "marks change while one of the tasks has a job");
+    hold(gateway_marks(&d, five | six, 2) == GATEWAY_BAD_MARK, "17 comes before 6");
+    hold(gateway_marks(&d, five | unknown, 2) == GATEWAY_UNKNOWN_TASK, "6 comes before 16");
+    hold(memcmp(&d, &before, sizeof d) == 0, "a refused call has changed the dispatcher");
+    hold(gateway_marks(&d, six, 1) == GATEWAY_SERVED && d.ticket == 4, "the marks of a task that is free are refused");
+    gateway_dispatcher single = before;
+    hold(gateway_mark(&single, 6, 1) == GATEWAY_SERVED && memcmp(&single, &d, sizeof d) == 0, "marks for one task are something else than its mark");
+    d.ticket = UINT64_MAX;
+    hold(gateway_marks(&d, six, 0) == GATEWAY_SERVED && d.ticket == 0, "marks behind the last ticket");
+}
+
 /* A mark call makes a ticket old. */
 static void marked_between(void)
 {
@@ -184,6 +205,7 @@ int main(void)
 {
     look_and_commit();
     counting();
+    marks();
     marked_between();
     order();
     wrapping();

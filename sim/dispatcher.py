@@ -193,9 +193,11 @@ class Dispatcher:
 
     def mark(self, number, mark):
         """Change one task's mark while it has no pending job and no release that waits."""
-        self._check_mark(number, mark)
-        self._count_ticket()
-        self.table[number] = replace(self.table[number], mark=mark)
+        self._change_marks([number], mark)
+
+    def mark_all(self, tasks, mark):
+        """Change the marks of a set of tasks at once, while none of them has a pending job or a release that waits (10/13)."""
+        self._change_marks(members(tasks), mark)
 
     def due(self):
         """The next due time: the first end of a phase under way, or None."""
@@ -221,12 +223,12 @@ class Dispatcher:
         if due is not None and now > due:
             raise Refused(15)
 
-    def _check_mark(self, number, mark):
-        if number not in self.table:
+    def _check_marks(self, numbers, mark):
+        if any(number not in self.table for number in numbers):
             raise Refused(16)
         if mark > 1:
             raise Refused(6)
-        if number in self.pending or number in self.waiting:
+        if any(number in self.pending or number in self.waiting for number in numbers):
             raise Refused(17)
 
     # The instant list.
@@ -318,6 +320,13 @@ class Dispatcher:
         self._note(notes.Began(now, self.interval))
         self._begin_engine(now)
         self._begin_processor(now)
+
+    def _change_marks(self, numbers, mark):
+        """All of them or none; also of none it counts once."""
+        self._check_marks(numbers, mark)
+        self._count_ticket()
+        for number in numbers:
+            self.table[number] = replace(self.table[number], mark=mark)
 
     def _count_ticket(self):
         """A commit or a mark call is served."""

@@ -3,14 +3,14 @@
 Releases and calls are mostly found by following a dispatcher: at its due time, or just before. Tasks are released again while their job is
 pending, so that releases wait, and on the tick on which it completes; and beside one of their own priority, at once with it, behind it, or while it
 is copied in; and one spacing after their last release, or a tick beside that. In most sessions instants are looked at first and then committed, some of
-them with another ticket than the present one.
+them with another ticket than the present one, and in half of them tasks change their marks together.
 """
 
 from sim.dispatcher import COPY_IN_DONE, COPY_OUT, LAST_RELEASE_TIME, TICKETS, Dispatcher, members
 from sim.entries import FIELDS, RELEASE, SPACING, TASK, Refused, decode, encode, entry_length, release_entry, spacing_entry
 from sim.files import MOST_RELEASES
 from sim.generate_tables import longest_length, random_table, small_length, some_tasks, task_numbers
-from sim.sessions import COMMIT, ENQUIRY, INSTANT, MARK, call_entry, make_call, session_bytes
+from sim.sessions import COMMIT, ENQUIRY, INSTANT, MARK, MARKS, call_entry, make_call, session_bytes
 from sim.table import HEAD_KINDS, LAST_TASK, LENGTH_LIMIT, LONGEST_SPACING
 
 LAST_TICK = 2**64 - 1
@@ -51,6 +51,10 @@ EDGE_CHANCE = 0.7
 # a commit with a ticket that is not the present one stands before them.
 LOOKS = (0, 0.3, 0.9)
 STALE_CHANCE = 0.25
+
+# How often a mark call of a session is one for a set of tasks, in some sessions never; and how often one more stands between the other calls there.
+DESKS = (0, 0.7)
+DESK_CHANCE = 0.15
 
 # Values at and beside the limits of the fields of each size.
 BOUNDARIES = {
@@ -575,10 +579,26 @@ def _looked_at(rng, dispatcher, instant):
                                [enquiry, another, commit], [another, commit], [enquiry, _mark(rng, dispatcher), commit]))
 
 
-def _as_called(rng, dispatcher, call, looks):
-    """A call, or where it is an instant what a driver that looks first makes of it."""
+def _for_a_desk(rng, dispatcher, task, mark):
+    """A mark call for a set: a task alone, which may be unknown or busy, or with others; all that are free, all that there are, none, or any."""
+    free = sum(1 << number for number in _free(dispatcher, lambda task: True))
+    own = 1 << task if task <= LAST_TASK else 0
+    some = free & rng.getrandbits(32)
+    tasks = rng.choice((own, own | some, own | some, own | free, free, some, _known_set(rng, dispatcher, 0.3), _known_set(rng, dispatcher, 1), 0, rng.getrandbits(32)))
+    return MARKS, tasks, mark
+
+
+def _as_called(rng, dispatcher, call, looks, desks):
+    """A call; or where it is an instant, what a driver that looks first makes of it; and where it is a mark call, what one for a whole desk is."""
     kind, *fields = call
-    return _looked_at(rng, dispatcher, fields) if kind == INSTANT and looks and rng.random() < looks else [call]
+    if kind == INSTANT and looks and rng.random() < looks:
+        return _looked_at(rng, dispatcher, fields)
+    if kind == MARK and desks and rng.random() < desks:
+        return [_for_a_desk(rng, dispatcher, *fields)]
+    if desks and rng.random() < DESK_CHANCE:
+        _, *marked = _mark(rng, dispatcher)
+        return [_for_a_desk(rng, dispatcher, *marked), call]
+    return [call]
 
 
 def _follow(dispatcher, call):
@@ -597,16 +617,16 @@ def _drain(dispatcher, calls):
         _follow(dispatcher, calls[-1])
 
 
-def random_calls(rng, table, count, drained=False, looks=0):
+def random_calls(rng, table, count, drained=False, looks=0, desks=0):
     """Calls found by following a dispatcher that opens from a table's entries; most of them are served. `looks` says how often an instant is looked at
-    first, which makes several calls of one."""
+    first, which makes several calls of one, and `desks` how often a mark call is one for a set."""
     dispatcher = Dispatcher.open(b"".join(table))
     gap = 2 * longest_length(table)
     density = _density(rng, dispatcher)
     refused = rng.choice((0, 0.1, 0.2))
     calls = []
     for _ in range(count):
-        for call in _as_called(rng, dispatcher, _next_call(rng, dispatcher, gap, density, refused), looks):
+        for call in _as_called(rng, dispatcher, _next_call(rng, dispatcher, gap, density, refused), looks, desks):
             calls.append(call)
             _follow(dispatcher, call)
     if drained:
@@ -617,7 +637,8 @@ def random_calls(rng, table, count, drained=False, looks=0):
 def session_parts(rng):
     """A table's entries and the calls of a session whose opening is served."""
     table = random_table(rng)
-    return table, random_calls(rng, table, rng.choice((0, 5, 20, 60, 200)), drained=rng.random() < 0.5, looks=rng.choice(LOOKS))
+    count = rng.choice((0, 5, 20, 60, 200))
+    return table, random_calls(rng, table, count, drained=rng.random() < 0.5, looks=rng.choice(LOOKS), desks=rng.choice(DESKS))
 
 
 def random_session(rng):
@@ -669,7 +690,7 @@ def _session_cut(rng):
 
 def _last_call_cut(rng):
     """A call of each kind cut short, often by its last byte."""
-    kind, *fields = rng.choice(((INSTANT, 2**63, 0), (MARK, 1, 1), (ENQUIRY, 2**63, 0), (COMMIT, 0, 2**63, 0)))
+    kind, *fields = rng.choice(((INSTANT, 2**63, 0), (MARK, 1, 1), (ENQUIRY, 2**63, 0), (COMMIT, 0, 2**63, 0), (MARKS, 2, 1)))
     whole = call_entry(kind, *fields)
     return random_session(rng) + whole[:rng.choice((len(whole) - 1, rng.randint(1, len(whole) - 1)))]
 

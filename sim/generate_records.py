@@ -9,7 +9,7 @@ from sim.dispatcher import LAST_RELEASE_TIME, Dispatcher
 from sim.earlier import NothingWaits
 from sim.entries import FIELDS, INTERVAL, JOB_DONE, NO_TASK, SKIPPED, SPACING, TASK, Refused, decode, encode, entries, release_entry, two_parts
 from sim.files import MOST_RELEASES, instant_entries, run
-from sim.generate import (LAST_TICK, LOOKS, change_kind, change_many_fields, change_one_field, crowded_releases, damage_bytes, damage_entries,
+from sim.generate import (DESKS, LAST_TICK, LOOKS, change_kind, change_many_fields, change_one_field, crowded_releases, damage_bytes, damage_entries,
                           drop, duplicate, random_calls, swap, table_and_releases, too_short, wrong_length)
 from sim.generate_tables import random_table, task_numbers, tasks_of
 from sim.reading import RECORD_KINDS
@@ -224,7 +224,7 @@ def _made_by_calls(rng):
     """What a list of calls left: a record that a list of releases yields, unless a mark was changed on the way."""
     table = random_table(rng)
     dispatcher, stored = Dispatcher.open(b"".join(table)), []
-    for call in random_calls(rng, table, rng.choice((5, 20, 60)), drained=True, looks=rng.choice(LOOKS)):
+    for call in random_calls(rng, table, rng.choice((5, 20, 60)), drained=True, looks=rng.choice(LOOKS), desks=rng.choice(DESKS)):
         try:
             answer = make_call(dispatcher, call)
         except Refused:

@@ -27,9 +27,9 @@ class RefusedCommitCounts(Dispatcher):
 class MarkDoesNotCount(Dispatcher):
     """A mark call leaves the ticket."""
 
-    def mark(self, number, mark):
+    def _change_marks(self, numbers, mark):
         ticket = self.ticket
-        super().mark(number, mark)
+        super()._change_marks(numbers, mark)
         self.ticket = ticket
 
 

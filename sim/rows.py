@@ -14,7 +14,7 @@ from sim.files import instant_entries, record
 from sim.generate import damage_entries, random_calls
 from sim.generate_tables import small_length, some_tasks, task_numbers, with_spacings
 from sim.lines import OPTIONAL_TASKS
-from sim.sessions import INSTANT, MARK, make_call
+from sim.sessions import INSTANT, MARK, MARKS, make_call
 
 MOST_TASKS = 4
 MOST_RELEASES = 8
@@ -66,7 +66,7 @@ def answer_of(dispatcher, call):
 
 
 def call_lists(seed, count):
-    """A list of (opening bytes, calls); a call is (64, time, set) or (65, task, mark)."""
+    """A list of (opening bytes, calls); a call is (64, time, set), (65, task, mark) or (68, set, mark)."""
     found = []
     for index in range(count):
         rng = random.Random(f"call rows {seed} {index}")
@@ -135,7 +135,7 @@ def file_row(data, result):
 
 
 def call_term(call):
-    name = {INSTANT: "Instant", MARK: "Mark"}[call[0]]
+    name = {INSTANT: "Instant", MARK: "Mark", MARKS: "Marks"}[call[0]]
     return f"{name} {call[1]} {call[2]}"
 
 

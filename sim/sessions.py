@@ -13,12 +13,14 @@ INSTANT = 64
 MARK = 65
 ENQUIRY = 66
 COMMIT = 67
+MARKS = 68
 
 CALL_FIELDS = {
     INSTANT: (8, 4),    # time, set
     MARK: (1, 1),       # task, mark
     ENQUIRY: (8, 4),    # time, set
     COMMIT: (8, 8, 4),  # ticket, time, set
+    MARKS: (4, 1),      # set, mark
 }
 
 
@@ -63,6 +65,7 @@ CALLS = {
     MARK: ("mark", mark_lines),
     ENQUIRY: ("enquire", enquiry_lines),
     COMMIT: ("commit", answer_lines),
+    MARKS: ("mark_all", mark_lines),
 }
 
 

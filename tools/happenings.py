@@ -120,8 +120,10 @@ class Run:
             if call[0] == "Instant":
                 answer = ("Served", occurred(dispatcher.instant(*call[1:])))
                 events = dispatcher.events
-            else:
+            elif call[0] == "Mark":
                 dispatcher.mark(*call[1:])
+            else:
+                dispatcher.mark_all(*call[1:])
         except Refused as refused:
             answer = ("Refused", refused.number)
         self.calls.append(call)
@@ -172,10 +174,11 @@ def after_calls(d, calls):
 def row(call):
     """What is asked of a call (rules/specs/Calls), but for the state that it leaves."""
     kind, first, second = call
-    is_instant = kind == "Instant"
-    return {
-        "number": Partial((1, lambda d: refusal(at(d, listed([call]))))), "is-instant": is_instant, "time": first if is_instant else 0,
-        "hands": second if is_instant else 0, "names": 0 if is_instant else 1 << first, "mark": 0 if is_instant else second}
+    number = Partial((1, lambda d: refusal(at(d, listed([call])))))
+    if kind == "Instant":
+        return {"number": number, "is-instant": True, "time": first, "hands": second, "names": 0, "mark": 0}
+    names = 1 << first if kind == "Mark" else first
+    return {"number": number, "is-instant": False, "time": 0, "hands": 0, "names": names, "mark": second}
 
 
 def occurred_at(d, time, tasks):

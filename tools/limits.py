@@ -1,6 +1,6 @@
 """Inputs at the limits of document 01, beside the random ones: a cut at each byte, each field at and beside its limits, exactly as many
 releases as there may be and one more, times at the end of what a number holds, a release on each tick around a copy-in, releases that wait,
-tasks of one priority, releases around the end of a spacing, and commits with tickets of every kind."""
+tasks of one priority, releases around the end of a spacing, commits with tickets of every kind, and marks for a set of tasks."""
 
 from sim import other_orders, other_spacings
 from sim.dispatcher import LAST_RELEASE_TIME, Dispatcher, members
@@ -8,7 +8,7 @@ from sim.earlier import NothingWaits
 from sim.entries import JOB_DONE, SKIPPED, decode, encode, release_entry, spacing_entry, task_entry, two_parts
 from sim.files import MOST_RELEASES, released_sets, run
 from sim.generate_records import LONGEST_KEPT, record_entries
-from sim.sessions import COMMIT, ENQUIRY, INSTANT, MARK, call_entry, session_bytes
+from sim.sessions import COMMIT, ENQUIRY, INSTANT, MARK, MARKS, call_entry, session_bytes
 from sim.table import LAST_TASK, LENGTH_LIMIT, LONGEST_SPACING, read_table
 
 LAST_TICK = 2**64 - 1
@@ -280,14 +280,45 @@ def ticket_sessions():
     return found + [session_bytes(TABLE, LOOKED_AT[:1]) + part for part in cuts(b"".join(call_entry(*call) for call in LOOKED_AT[1:4]))]
 
 
+# Tasks 1 and 2 come where nobody was chosen, 2 first: who is promoted at 7 shows both marks.
+PROMOTES = tuple((INSTANT, time, tasks) for time, tasks in ((0, 8), (2, 0), (3, 4), (4, 2), (7, 0), (9, 0)))
+
+# Marks for sets, refused and served: with unknown tasks, bad marks and busy tasks, each alone and together, and of no task.
+MARKS_OF_SETS = tuple((MARKS, tasks, mark) for tasks in (0, 2, 6, 8, 14, 1, 16, 2**31, 9, 2**32 - 1) for mark in (0, 1, 2, 255))
+
+
+def marks_between(*instants):
+    """Each of the marks for sets, behind each of some instants, with an enquiry of the next one."""
+    calls = []
+    for (time, tasks), (following, _) in zip(instants, (*instants[1:], (LAST_TICK, 0))):
+        calls.append((INSTANT, time, tasks))
+        calls += [call for marks in MARKS_OF_SETS for call in (marks, (ENQUIRY, following, 0))]
+    return calls
+
+
+def desk_sessions():
+    """Marks for each set of three tasks, with all marks before them: at the opening, while one is busy, and together with single ones; for all tasks that there
+    may be; between other calls; and cut at each byte."""
+    found = [session_bytes(b"".join(tasks), [(MARKS, named, mark), *PROMOTES]) for tasks in DESKS for named in range(0, 16, 2) for mark in (0, 1)]
+    found += [session_bytes(b"".join(tasks), [PROMOTES[0], (MARKS, named, mark), (ENQUIRY, 2, 0), *PROMOTES[1:]])
+              for tasks in DESKS for named in (6, 14, 10, 12) for mark in (0, 1)]
+    mixed = [(MARK, 1, 0), (MARKS, 6, 1), (COMMIT, 1, 0, 0), (COMMIT, 2, 0, 8), (MARKS, 0, 1), (COMMIT, 4, 2, 4), (MARK, 1, 0), (ENQUIRY, 3, 2)]
+    found += [session_bytes(TABLE, mixed)]
+    found += [session_bytes(TABLE, marks_between((0, 8), (2, 0), (4, 2))), session_bytes(TABLE, marks_between((0, 2), (2, 0), (3, 2), (5, 0), (6, 0)))]
+    whole = [(MARKS, tasks, mark) for tasks in (2**32 - 1, 2**31, 1, 2**32 - 2) for mark in (1, 0)]
+    run = [(INSTANT, 0, 1 << 30), (INSTANT, 1, 0), (INSTANT, 2, 1 | 1 << 31), (INSTANT, 3, 0), (INSTANT, 4, 0)]
+    found += [session_bytes(b"".join(full_head()), [*whole[:count], *run]) for count in range(len(whole) + 1)]
+    return found + [session_bytes(TABLE, ()) + part for part in cuts(call_entry(MARKS, 6, 1) + call_entry(INSTANT, 0, 2))]
+
+
 def sessions():
     """Cuts of the opening bytes, which may end in a release, and of the calls; openings of other tasks; times at the limits; what waits; equals;
-    spacings; tickets."""
+    spacings; tickets; marks for a whole desk."""
     calls = b"".join(call_entry(*call) for call in CALLS)
     found = [session_bytes(opening, CALLS) for opening in cuts(TABLE + RELEASES[0])]
     found += [session_bytes(TABLE, ()) + part for part in cuts(calls)]
     found += [session_bytes(TABLE + other, CALLS) for other in other_tasks()]
-    found += waiting_sessions() + equal_sessions() + spaced_sessions() + ticket_sessions()
+    found += waiting_sessions() + equal_sessions() + spaced_sessions() + ticket_sessions() + desk_sessions()
     spaced = b"".join(spaced_head(((1, 6), (3, 4)))) + RELEASES[0]
     found += [session_bytes(opening, CALLS) for opening in cuts(spaced)[len(TABLE):]]
     found += [session_bytes(TABLE + other, CALLS) for other in bad_spacings()]

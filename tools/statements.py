@@ -12,7 +12,7 @@ import threading
 from sim.entries import spacing_entry, task_entry
 from sim.generate import random_calls
 from sim.generate_tables import random_table, tasks_of
-from sim.sessions import INSTANT
+from sim.sessions import INSTANT, MARK, MARKS
 from tools.claims import Claims, listed, unlisted
 from tools.happenings import OF_RUNS, Opened, Run
 
@@ -27,15 +27,20 @@ OF_HISTORIES = (
     "PlansAccepted", "WrongRefused", "FigureTells", "OneEntry", "WaitedEntry", "ReleasesRefused", "Marks", "PlanEntries", "BoundsMet",
     "SpacingsAccepted", "SpacingsRefused", "LastReleases")
 
-RUNS = 22
+RUNS = 26
+WITHOUT_DESKS = 22
 CALLS = 9
 MOST_TASKS = 3
 
 STACK = 512 * 1024 * 1024
 
 
+# The calls by the names that rules/src has for them.
+NAMES = {INSTANT: "Instant", MARK: "Mark", MARKS: "Marks"}
+
+
 def call_of(call):
-    return ("Instant" if call[0] == INSTANT else "Mark", *call[1:])
+    return (NAMES[call[0]], *call[1:])
 
 
 def drained(run):
@@ -71,13 +76,14 @@ def chosen_runs():
 
 @functools.cache
 def runs():
-    """Chosen runs, and random ones with few tasks, so that jobs meet each other; every second of these has its empty sets in the list."""
+    """Chosen runs, and random ones with few tasks, so that jobs meet each other; every second of these has its empty sets in the list, and the last have
+    marks for several tasks at once."""
     found, seed = chosen_runs(), 0
     while len(found) < RUNS:
         rng, seed = random.Random(f"statements {seed}"), seed + 1
         table = random_table(rng)
         if 1 < len(tasks_of(table)) <= MOST_TASKS:
-            run = Run(b"".join(table), [call_of(call) for call in random_calls(rng, table, CALLS)])
+            run = Run(b"".join(table), [call_of(call) for call in random_calls(rng, table, CALLS, desks=0.5 if len(found) >= WITHOUT_DESKS else 0)])
             found.append(drained(run) if len(found) % 2 else run)
     return found
 

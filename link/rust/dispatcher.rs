@@ -73,6 +73,8 @@ mod raw {
 
         pub fn gateway_mark_v5(sets: &mut [u32; 8], ticket: &mut u64, task: u8, mark: u8) -> u8;
 
+        pub fn gateway_marks_v5(sets: &mut [u32; 8], ticket: &mut u64, set: u32, mark: u8) -> u8;
+
         pub fn gateway_longest_interval_v5(sets: &[u32; 8], columns: &[u32; 128]) -> u64;
 
         pub fn gateway_completes_after_v5(sets: &[u32; 8], columns: &[u32; 128], task: u8, h: u32) -> u64;
@@ -402,6 +404,16 @@ impl Dispatcher {
     pub fn mark(&mut self, task: u8, latency_sensitive: bool) -> Result<(), Refusal> {
         // As above.
         match unsafe { raw::gateway_mark_v5(&mut self.sets, &mut self.ticket, task, latency_sensitive.into()) } {
+            0 => Ok(()),
+            number => Err(Refusal::alone(number)),
+        }
+    }
+
+    /// Changes the marks of all tasks of a set at once, while none of them has a pending job or a release that waits. It is as if each were changed by itself,
+    /// but that the ticket rises by one, also where the set is empty.
+    pub fn mark_all(&mut self, set: Set, latency_sensitive: bool) -> Result<(), Refusal> {
+        // As above.
+        match unsafe { raw::gateway_marks_v5(&mut self.sets, &mut self.ticket, set, latency_sensitive.into()) } {
             0 => Ok(()),
             number => Err(Refusal::alone(number)),
         }

@@ -89,14 +89,13 @@ impl Core {
         Core { dispatcher, base: 0, due: None, held: [0; TASKS], has_release: false, last: [None; TASKS], programmed }
     }
 
-    /// With no due time nothing is pending and nothing waits, and a new dispatcher can take over, which is told the marks. Of the last releases it knows
-    /// nothing: see `too_soon`.
+    /// With no due time nothing is pending and nothing waits, and a new dispatcher can take over, which is told the marks: at once those that were set, and at
+    /// once those that were taken away. Of the last releases it knows nothing: see `too_soon`.
     fn count_anew(&mut self, opened: &Dispatcher, now: u64) -> Result<(), Refusal> {
         let (marked, mut fresh) = (self.dispatcher.marked(), opened.clone());
-        let changed = marked ^ fresh.marked();
-        for task in (0..32).filter(|task| changed >> task & 1 == 1) {
-            fresh.mark(task, marked >> task & 1 == 1)?;
-        }
+        let (set, taken_away) = (marked & !fresh.marked(), fresh.marked() & !marked);
+        fresh.mark_all(set, true)?;
+        fresh.mark_all(taken_away, false)?;
         (self.dispatcher, self.base) = (fresh, now);
         Ok(())
     }

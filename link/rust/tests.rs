@@ -306,6 +306,22 @@ fn marks() {
     assert_eq!(d.marked(), 1 << 2);
 }
 
+#[test]
+fn marks_for_a_whole_desk() {
+    let mut d = Dispatcher::open(&plan()).unwrap();
+    d.mark_all(1 << 2 | 1 << 3, true).unwrap();
+    assert_eq!((d.marked(), d.ticket()), (0b1110, 1));
+    d.mark_all(1 << 1 | 1 << 3, false).unwrap();
+    d.mark_all(0, true).unwrap();
+    assert_eq!((d.marked(), d.ticket()), (1 << 2, 3));
+    d.instant(0, 1 << 3).unwrap();
+    // one that is busy, one that is unknown: then none changes
+    let numbers = [0b1110, 1 << 3, 1 << 1 | 1 << 9, 1 << 31].map(|set| d.mark_all(set, true).unwrap_err().number);
+    assert_eq!((numbers, d.marked(), d.ticket()), ([17, 17, 16, 16], 1 << 2, 4));
+    d.mark_all(0b0110, true).unwrap();
+    assert_eq!((d.marked(), d.ticket()), (0b0110, 5));
+}
+
 /// M of the plans' tasks is 7, by L and C of task 3. Task 1 is marked.
 #[test]
 fn a_figure_to_plan_on() {

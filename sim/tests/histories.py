@@ -1,9 +1,9 @@
 """Histories of runs: of a file, of a list of calls, and of a session's bytes."""
 
-from sim.dispatcher import Dispatcher
+from sim.dispatcher import Dispatcher, members
 from sim.entries import Refused, entries, parts_of
 from sim.files import read_file, released_sets, run
-from sim.sessions import CALL_FIELDS, MARK, instant_of, make_call
+from sim.sessions import CALL_FIELDS, MARK, MARKS, instant_of, make_call
 from sim.tests.history import History
 
 
@@ -30,6 +30,10 @@ def list_history(opening, calls):
             history.instant(*instant_of(call), answer)
         elif call[0] == MARK:
             history.mark(*call[1:])
+        elif call[0] == MARKS:
+            tasks, mark = call[1:]
+            for number in members(tasks):
+                history.mark(number, mark)
     return history
 
 

@@ -5,7 +5,7 @@ import unittest
 
 from sim.dispatcher import Dispatcher, members
 from sim.earlier import NothingWaits
-from sim.generate import LOOKS, random_calls, random_file
+from sim.generate import DESKS, LOOKS, random_calls, random_file
 from sim.generate_tables import random_table
 from sim.sessions import INSTANT
 from sim.tests.histories import file_history, list_history
@@ -27,7 +27,7 @@ class RandomRuns(unittest.TestCase):
         for seed in range(LISTS):
             rng = random.Random(f"demand 3 list {seed}")
             table = random_table(rng)
-            calls = random_calls(rng, table, rng.choice((10, 60, 200)), drained=True, looks=rng.choice(LOOKS))
+            calls = random_calls(rng, table, rng.choice((10, 60, 200)), drained=True, looks=rng.choice(LOOKS), desks=rng.choice(DESKS))
             with self.subTest(seed=seed):
                 check(self, list_history(b"".join(table), calls))
 

@@ -5,7 +5,7 @@ import functools
 import random
 import unittest
 
-from sim import other_orders, other_spacings, other_tickets
+from sim import other_marks, other_orders, other_spacings, other_tickets
 from sim.dispatcher import TICKETS, Dispatcher, Enquiry
 from sim.entries import Refused, parts_of
 from sim.files import instant_entries, read_file, run
@@ -15,7 +15,7 @@ from sim.generate_records import (LONGEST_KEPT, damaged_stored, longer_than_kept
 from sim.lines import file_lines, record_lines
 from sim.reading import read_lines
 from sim.rows import answer_of
-from sim.sessions import COMMIT, ENQUIRY, MARK, calls_lines, instant_of, session_lines
+from sim.sessions import COMMIT, ENQUIRY, MARK, MARKS, calls_lines, instant_of, session_lines
 from sim.table import LONGEST_SPACING
 from sim.tests.histories import file_history, list_history, session_calls
 from sim.tests.history import is_too_soon
@@ -100,7 +100,7 @@ class Waiting(unittest.TestCase):
             opening, calls = session_calls(data)
             dispatcher = Dispatcher.open(opening)
             for call in calls:
-                tried += call[0] == MARK and call[1] in dispatcher.waiting
+                tried += call[0] == MARK and call[1] in dispatcher.waiting or call[0] == MARKS and any(call[1] >> task & 1 for task in dispatcher.waiting)
                 answer_of(dispatcher, call)
         self.assertGreater(tried, SEEDS / 4)
 
@@ -237,6 +237,31 @@ class Tickets(unittest.TestCase):
         kinds = [{call[0] for call in session_calls(data)[1]} for data in made(random_session)]
         self.assertGreater(sum(not kind & {ENQUIRY, COMMIT} for kind in kinds), SEEDS / 4)
         self.assertGreater(sum({ENQUIRY, COMMIT} <= kind for kind in kinds), SEEDS / 4)
+
+
+class Desks(unittest.TestCase):
+    """10/13: marks for sets of tasks, of which each wrong way shows: where only the marks are wrong it takes a run that goes by them."""
+
+    RARE = {other_marks.RefusedChangesFreeOnes, other_marks.OnlyTheLowest, other_marks.OthersLoseTheirs}
+
+    def test_sessions(self):
+        for kind, count in sessions_told(other_marks.ALL).items():
+            with self.subTest(kind=kind.__name__):
+                self.assertGreater(count, 0 if kind in self.RARE else SOME / 10)
+
+    def test_sets(self):
+        seen = collections.Counter()
+        for data in made(random_session):
+            opening, calls = session_calls(data)
+            dispatcher = Dispatcher.open(opening)
+            for call in calls:
+                answer = answer_of(dispatcher, call)
+                if call[0] == MARKS:
+                    size = min(call[1].bit_count(), 2)
+                    seen[answer.number if isinstance(answer, Refused) else ("none", "one", "several")[size]] += 1
+        for name in ("none", "one", "several", 6, 16, 17):
+            with self.subTest(marks=name):
+                self.assertGreater(seen[name], SEEDS / 8)
 
 
 def refuses(dispatcher, instant):

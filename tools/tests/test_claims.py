@@ -21,6 +21,16 @@ def read(crate, file):
     return (CRATES / crate / file).read_text(encoding="utf-8")
 
 
+class Happenings(unittest.TestCase):
+    def happens(self, *calls):
+        run = Run(TASKS, calls)
+        return [event for events in run.events for event in events], dict(run.points[-1])
+
+    def test_marks_of_a_set_are_those_of_its_tasks(self):
+        self.assertEqual(self.happens(("Marks", 12, 1), *PLAN_F), self.happens(("Mark", 3, 1), ("Mark", 2, 1), *PLAN_F))
+        self.assertEqual(self.happens(("Marks", 13, 1), ("Marks", 2, 2), *PLAN_F), self.happens(*PLAN_F))
+
+
 class Reading(unittest.TestCase):
     def test_a_definition_by_clauses(self):
         found = antt.read_definitions("module _ (n : ℕ) where\n  abbrev pub f : ℕ → ℕ\n  f (Task k) = cond (eqb n k) 1\n      (k + 2)\n")

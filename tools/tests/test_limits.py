@@ -1,9 +1,9 @@
 """The inputs with releases that wait show each wrong way of waiting, those with tasks of one priority each wrong order among them, those with
-spacings each wrong reading of them, and those with enquiries and commits each wrong way with tickets."""
+spacings each wrong reading of them, those with enquiries and commits each wrong way with tickets, and those with marks for sets each wrong way of these."""
 
 import unittest
 
-from sim import other_orders, other_spacings, other_tickets
+from sim import other_marks, other_orders, other_spacings, other_tickets
 from sim.dispatcher import Dispatcher, members
 from sim.earlier import NothingWaits
 from sim.entries import Refused, parts_of, release_entry, two_parts
@@ -110,9 +110,8 @@ class CountsOn(Dispatcher):
 class MarksWhileWaiting(Dispatcher):
     """A mark may change where a release waits."""
 
-    def _check_mark(self, number, mark):
-        if number not in self.waiting:
-            super()._check_mark(number, mark)
+    def _check_marks(self, numbers, mark):
+        super()._check_marks([number for number in numbers if number not in self.waiting], mark)
 
 
 class TakesNoneTooLate(Dispatcher):
@@ -246,6 +245,28 @@ class Tickets(unittest.TestCase):
 
     def test_they_are_among_the_limits(self):
         self.assertLessEqual(set(limits.ticket_sessions()), set(limits.sessions()))
+
+
+class HighestLeftOut(Dispatcher):
+    """Of several tasks the one with the highest number is left out."""
+
+    def mark_all(self, tasks, mark):
+        self._check_marks(members(tasks), mark)
+        super().mark_all(tasks & ~(1 << tasks.bit_length() - 1) if tasks.bit_count() > 1 else tasks, mark)
+
+
+class Desks(unittest.TestCase):
+    def test_sessions_show_each_wrong_way(self):
+        for wrong in (*other_marks.ALL, HighestLeftOut, MarksWhileWaiting):
+            with self.subTest(wrong=wrong.__name__):
+                self.assertTrue(any(lines_by(wrong, data) != lines_by(Dispatcher, data) for data in limits.desk_sessions()))
+
+    def test_each_refusal_and_the_marks_that_are_served(self):
+        lines = [line for data in limits.desk_sessions() for line in session_lines(data)]
+        self.assertLessEqual({"M", "R 6", "R 16", "R 17", "X"}, set(lines))
+
+    def test_they_are_among_the_limits(self):
+        self.assertLessEqual(set(limits.desk_sessions()), set(limits.sessions()))
 
 
 if __name__ == "__main__":

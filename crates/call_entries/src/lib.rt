@@ -47,6 +47,13 @@ pub fn answer(d: Dispatcher, entry: CallEntry) -> Answered
             let state = d;
             Answered { state, text }
         }
+        CallEntry::MarksCall { set, mark } => {
+            let step = d.mark_all(set, mark);
+            let state = step.state;
+            let answer = step.answer;
+            let text = lines::mark_lines(answer);
+            Answered { state, text }
+        }
         CallEntry::CommitCall { ticket, time, set } => {
             let step = d.commit(ticket, time, set);
             let state = step.state;

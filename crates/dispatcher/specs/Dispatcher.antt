@@ -3,6 +3,7 @@ use Rattle.dispatcher.specs.Types.{ℕ, _≡_, State, Dispatcher, Answer
 use Rattle.rules.specs.Calls as rules
 use Rattle.rules.specs.Tickets as tickets
 use Rattle.rules.specs.Answers.{answer-number, answer-values, mark-number}
+use Rattle.rules.specs.DeskMarks.{DeskMarks}
 use Rattle.rules.specs.Kept.{Kept, kept, by-task, Beside, beside, read}
 
 -- what it is kept as: the numbers, and the arrays beside them
@@ -50,6 +51,14 @@ pub record MarkAnswers (d : Dispatcher) (n m : ℕ) (r : MarkStep) : Type 0 wher
   pub number : mark-number (r .answer) ≡ rules.mark-refusal (state-of d) n m
   pub ticket : r .state .ticket ≡ tickets.ticket-after (rules.mark-refusal (state-of d) n m) (d .ticket)
   pub untouched : (rules.mark-refusal (state-of d) n m ≡ 0 → ⊥) → r .state ≡ d
+
+-- 10/13: marks for a set of tasks, and what they are, said for itself
+pub record MarksAnswers (d : Dispatcher) (set m : ℕ) (r : MarkStep) : Type 0 where
+  pub step : mark-step-of r ≡ rules.marks (state-of d) set m
+  pub number : mark-number (r .answer) ≡ rules.marks-refusal (state-of d) set m
+  pub ticket : r .state .ticket ≡ tickets.ticket-after (rules.marks-refusal (state-of d) set m) (d .ticket)
+  pub untouched : (rules.marks-refusal (state-of d) set m ≡ 0 → ⊥) → r .state ≡ d
+  pub desk : DeskMarks (state-of d) set m
 
 -- 9/13: an enquiry and a commit
 pub record Enquires (d : Dispatcher) (t set : ℕ) (r : Enquiry) : Type 0 where

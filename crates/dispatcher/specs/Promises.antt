@@ -5,7 +5,7 @@ use Prim.Native.Nat.{_+_, _^_, _<_}
 use mathlib.Core.Bool.{Bool, false}
 use lib.ListN.{getD, set}
 use Rattle.rules.specs.Instant.{processor-task, copyout-task, copyin-task, copyin-fate, entry-with, step-a, step-e, step-f, due, at-g, occurred}
-use Rattle.rules.specs.Calls.{refusal, not-after, mark-refusal, with-mark}
+use Rattle.rules.specs.Calls.{refusal, not-after, mark-refusal, marks-refusal, with-marks}
 use Rattle.rules.specs.Registers.{as-task, processor-in, copyout-in, copyin-in, interval-in, phase-in}
 use Rattle.rules.specs.Kept.{Kept, kept, Whole, ByTask, by-task, Beside, beside, registers-in, clock-in, read, copyout-ends}
 use Rattle.dispatcher.specs.Telling as telling
@@ -21,10 +21,13 @@ Refuses t set times sets codes x = (b : Beside) → x ≡ refusal (read (kept ti
 abbrev pub MarkRefuses : ℕ → ℕ → List ℕ → ℕ → Type 0
 MarkRefuses n m sets x = (times codes : List ℕ) (b : Beside) → x ≡ mark-refusal (read (kept times sets codes) b) n m
 
--- one task's mark set or taken away
+abbrev pub MarksRefuses : ℕ → ℕ → List ℕ → ℕ → Type 0
+MarksRefuses set m sets x = (times codes : List ℕ) (b : Beside) → x ≡ marks-refusal (read (kept times sets codes) b) set m
+
+-- the marks of some tasks set or taken away
 abbrev pub MarksAt : ℕ → ℕ → List ℕ → List ℕ → Type 0
-MarksAt n m sets sets' =
-    (times codes : List ℕ) (b : Beside) → read (kept times sets' codes) b ≡ with-mark (read (kept times sets codes) b) n m
+MarksAt set m sets sets' =
+    (times codes : List ℕ) (b : Beside) → read (kept times sets' codes) b ≡ with-marks (read (kept times sets codes) b) set m
 
 -- ---- Telling a job
 

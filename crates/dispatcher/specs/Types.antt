@@ -5,7 +5,7 @@ pub use Rattle.rules.specs.declared.Done.the-variants.{NoJob, Job}
 pub use Rattle.rules.specs.declared.Closing.{Closing}
 pub use Rattle.rules.specs.declared.Closing.the-variants.{Unclosed, BeforeReleases, AfterReleases}
 pub use Rattle.rules.specs.declared.Call.{Call}
-pub use Rattle.rules.specs.declared.Call.the-variants.{Instant, Mark}
+pub use Rattle.rules.specs.declared.Call.the-variants.{Instant, Mark, Marks}
 pub use Rattle.rules.specs.declared.Due.{Due}
 pub use Rattle.rules.specs.declared.Due.the-variants.{Never, Tick}
 pub use Rattle.rules.specs.declared.Occurred.{Occurred}

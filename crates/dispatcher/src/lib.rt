@@ -9,10 +9,11 @@ mod stepping;
 mod telling;
 mod ticket;
 
-pub use mark::marked_with;
+pub use mark::marked_all;
 pub use open_tasks::open;
 pub use open_tasks::opened;
 pub use refusing::mark_refusal;
+pub use refusing::marks_refusal;
 pub use refusing::refusal;
 use rules::Answer;
 use rules::MarkAnswer;

@@ -6,7 +6,7 @@ ghost use mathlib.Core.Path.{_≡_};
 ghost use mathlib.Core.Bool.{not, _&&_};
 ghost use lib.Dec.{eqb, ltb};
 ghost use Rattle.entries.specs.Limits as limits;
-ghost use Rattle.dispatcher.specs.Promises.{NotAfter, Refuses, MarkRefuses};
+ghost use Rattle.dispatcher.specs.Promises.{NotAfter, Refuses, MarkRefuses, MarksRefuses};
 
 // Whether there was an instant at or after `t`: 0 is allowed first.
 fn not_after(t: u64, times: &at::Times, codes: &at::Codes) -> bool
@@ -64,6 +64,23 @@ pub fn mark_refusal(task: u8, mark: u8, sets: &at::Sets) -> u8
         return 6;
     }
     if sets::contains(sets::union(sets[at::PENDING], sets[at::WAITING]), task) {
+        return 17;
+    }
+    0
+}
+
+// 10/13, marks for a set of tasks: 16, 6, 17 of any of them, in this order; 0 is none.
+pub fn marks_refusal(set: u32, mark: u8, sets: &at::Sets) -> u8
+    ensures { λ r. ⌜ MarksRefuses set mark (now (sets .entry)) r ⌝ }
+{
+    if sets::difference(set, sets[at::PRESENT]) != 0 {
+        return 16;
+    }
+    if 1 < mark {
+        return 6;
+    }
+    let busy = sets::union(sets[at::PENDING], sets[at::WAITING]);
+    if sets::intersection(set, busy) != 0 {
         return 17;
     }
     0

@@ -8,9 +8,9 @@ use borrow.Author.Tests.{leb-true}
 use lib.Dec.{eqb, leb}
 use lib.ListN.{length}
 use Rattle.words.specs.Words.{numberAt}
-use Rattle.entries.specs.Types.{CallEntry, CutShort, OtherKind, InstantCall, MarkCall, EnquiryCall, CommitCall}
+use Rattle.entries.specs.Types.{CallEntry, CutShort, OtherKind, InstantCall, MarkCall, EnquiryCall, CommitCall, MarksCall}
 use Rattle.entries.specs.Entries.{size}
-use Rattle.entries.specs.Calls.{instant-at, mark-at, enquiry-at, commit-at, call-at, call-size}
+use Rattle.entries.specs.Calls.{instant-at, mark-at, enquiry-at, commit-at, marks-at, call-at, call-size}
 
 -- by the value of a test
 either : (b : Bool) (x y : CallEntry) (n : ℕ) → (b ≡ true → call-size x ≤ n) → call-size y ≤ n → call-size (cond b x y) ≤ n
@@ -45,17 +45,26 @@ commit-fits s at =
     (λ e. leb-true (size 67) (length s - at) e)
     (omega arith)
 
+marks-fits : (s : List ℕ) (at : ℕ) → call-size (marks-at s at) ≤ length s - at
+unfolding marks-at
+marks-fits s at =
+    either (leb (size 68) (length s - at)) (MarksCall (numberAt 4 s (at + 1)) (numberAt 1 s (at + 5))) CutShort (length s - at)
+    (λ e. leb-true (size 68) (length s - at) e)
+    (omega arith)
+
 call-fits : (s : List ℕ) (at : ℕ) → call-size (call-at s at) ≤ length s - at
 unfolding call-at
 call-fits s at =
-    let commit = cond (eqb (numberAt 1 s at) 67) (commit-at s at) OtherKind in
+    let marks = cond (eqb (numberAt 1 s at) 68) (marks-at s at) OtherKind in
+    let commit = cond (eqb (numberAt 1 s at) 67) (commit-at s at) marks in
     let enquiry = cond (eqb (numberAt 1 s at) 66) (enquiry-at s at) commit in
     let mark = cond (eqb (numberAt 1 s at) 65) (mark-at s at) enquiry in
     either (leb (length s) at) CutShort (cond (eqb (numberAt 1 s at) 64) (instant-at s at) mark) (length s - at) (λ e. omega arith)
     (either (eqb (numberAt 1 s at) 64) (instant-at s at) mark (length s - at) (λ e. instant-fits s at)
     (either (eqb (numberAt 1 s at) 65) (mark-at s at) enquiry (length s - at) (λ e. mark-fits s at)
     (either (eqb (numberAt 1 s at) 66) (enquiry-at s at) commit (length s - at) (λ e. enquiry-fits s at)
-    (either (eqb (numberAt 1 s at) 67) (commit-at s at) OtherKind (length s - at) (λ e. commit-fits s at) (omega arith)))))
+    (either (eqb (numberAt 1 s at) 67) (commit-at s at) marks (length s - at) (λ e. commit-fits s at)
+    (either (eqb (numberAt 1 s at) 68) (marks-at s at) OtherKind (length s - at) (λ e. marks-fits s at) (omega arith))))))
 
 pub size-fits : (s : List ℕ) (at : ℕ) {entry : CallEntry} {size : ℕ} → size ≡ call-size entry → entry ≡ call-at s at → size ≤ length s - at
 size-fits s at e f = rw (e, f) (call-fits s at)

@@ -6,7 +6,7 @@ use lib.Dec.{eqb, leb}
 use lib.ListN.{length}
 use Rattle.words.specs.Words.{numberAt}
 use Rattle.entries.specs.Entries.{size}
-use Rattle.entries.specs.Types.{CallEntry, CutShort, OtherKind, InstantCall, MarkCall, EnquiryCall, CommitCall}
+use Rattle.entries.specs.Types.{CallEntry, CutShort, OtherKind, InstantCall, MarkCall, EnquiryCall, CommitCall, MarksCall}
 
 -- kind 64, an instant: time (8), set (4)
 unfoldable pub instant-at : List ℕ → ℕ → CallEntry
@@ -25,6 +25,10 @@ unfoldable pub commit-at : List ℕ → ℕ → CallEntry
 commit-at s at =
     cond (leb (size 67) (length s - at)) (CommitCall (numberAt 8 s (at + 1)) (numberAt 8 s (at + 9)) (numberAt 4 s (at + 17))) CutShort
 
+-- 10/13, kind 68, marks for a set of tasks: set (4), mark (1)
+unfoldable pub marks-at : List ℕ → ℕ → CallEntry
+marks-at s at = cond (leb (size 68) (length s - at)) (MarksCall (numberAt 4 s (at + 1)) (numberAt 1 s (at + 5))) CutShort
+
 -- the call whose kind byte is at a place; where the bytes end there, it is cut short
 unfoldable pub call-at : List ℕ → ℕ → CallEntry
 call-at s at =
@@ -33,7 +37,8 @@ call-at s at =
     (cond (eqb kind 64) (instant-at s at)
     (cond (eqb kind 65) (mark-at s at)
     (cond (eqb kind 66) (enquiry-at s at)
-    (cond (eqb kind 67) (commit-at s at) OtherKind))))
+    (cond (eqb kind 67) (commit-at s at)
+    (cond (eqb kind 68) (marks-at s at) OtherKind)))))
 
 -- how many bytes a whole call takes; 0 for what is none
 abbrev pub call-size : CallEntry → ℕ
@@ -43,3 +48,4 @@ call-size (InstantCall t set) = size 64
 call-size (MarkCall n m) = size 65
 call-size (EnquiryCall t set) = size 66
 call-size (CommitCall k t set) = size 67
+call-size (MarksCall set m) = size 68

@@ -20,7 +20,8 @@ size kind =
     (cond (eqb kind 64) 13
     (cond (eqb kind 65) 3
     (cond (eqb kind 66) 13
-    (cond (eqb kind 67) 21 0)))))))))
+    (cond (eqb kind 67) 21
+    (cond (eqb kind 68) 6 0))))))))))
 
 -- ---- An entry of the input, taken apart
 

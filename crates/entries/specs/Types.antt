@@ -11,4 +11,4 @@ pub use Rattle.entries.specs.declared.IntervalEntry.{IntervalEntry}
 pub use Rattle.entries.specs.declared.RecordEntry.{RecordEntry}
 pub use Rattle.entries.specs.declared.RecordEntry.the-variants.{MalformedRecord, JobDone, IntervalEnded, ReleaseSkipped}
 pub use Rattle.entries.specs.declared.CallEntry.{CallEntry}
-pub use Rattle.entries.specs.declared.CallEntry.the-variants.{CutShort, OtherKind, InstantCall, MarkCall, EnquiryCall, CommitCall}
+pub use Rattle.entries.specs.declared.CallEntry.the-variants.{CutShort, OtherKind, InstantCall, MarkCall, EnquiryCall, CommitCall, MarksCall}

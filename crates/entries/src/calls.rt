@@ -13,11 +13,15 @@ const ENQUIRY_KIND: u8 = 66;
 
 const COMMIT_KIND: u8 = 67;
 
+const MARKS_KIND: u8 = 68;
+
 const INSTANT_SIZE: usize = 13;
 
 const MARK_SIZE: usize = 3;
 
 const COMMIT_SIZE: usize = 21;
+
+const MARKS_SIZE: usize = 6;
 
 // The places of a call's fields, the kind byte at 0. Those of an enquiry are an instant's.
 const INSTANT_TIME: usize = 1;
@@ -33,6 +37,10 @@ const COMMIT_TICKET: usize = 1;
 const COMMIT_TIME: usize = 9;
 
 const COMMIT_SET: usize = 17;
+
+const MARKS_SET: usize = 1;
+
+const MARKS_MARK: usize = 5;
 
 fn instant_at(s: &[u8], at: usize) -> CallEntry
     requires { ⌜ at < length (now s) ⌝ }
@@ -87,6 +95,19 @@ fn commit_at(s: &[u8], at: usize) -> CallEntry
     }
 }
 
+fn marks_at(s: &[u8], at: usize) -> CallEntry
+    requires { ⌜ at < length (now s) ⌝ }
+    ensures { λ r. ⌜ r ≡ calls.marks-at (now (s .entry)) at ⌝ }
+{
+    if s.len() - at < MARKS_SIZE {
+        return CallEntry::CutShort;
+    }
+    CallEntry::MarksCall {
+        set: words::get_u32(s, at + MARKS_SET),
+        mark: words::get_u8(s, at + MARKS_MARK),
+    }
+}
+
 // The call whose kind byte is at `at`.
 pub fn call_at(s: &[u8], at: usize) -> CallEntry
     ensures { λ r. ⌜ r ≡ calls.call-at (now (s .entry)) at ⌝ }
@@ -107,6 +128,9 @@ pub fn call_at(s: &[u8], at: usize) -> CallEntry
     if kind == COMMIT_KIND {
         return commit_at(s, at);
     }
+    if kind == MARKS_KIND {
+        return marks_at(s, at);
+    }
     CallEntry::OtherKind
 }
 
@@ -125,5 +149,6 @@ pub fn call_size(entry: CallEntry) -> usize
             time: _,
             set: _,
         } => COMMIT_SIZE,
+        CallEntry::MarksCall { set: _, mark: _ } => MARKS_SIZE,
     }
 }

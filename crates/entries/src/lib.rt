@@ -158,7 +158,7 @@ pub enum RecordEntry {
 }
 
 // Kind 64 is a call of an instant, with its time and the set of tasks released then, and kind 65 a mark call, with its task and mark;
-// 9/13: kind 66 enquires what an instant would do, and kind 67 commits one, with a ticket.
+// 9/13: kind 66 enquires what an instant would do, and kind 67 commits one, with a ticket; 10/13: kind 68 marks a set of tasks.
 pub enum CallEntry {
     CutShort,
     OtherKind,
@@ -166,6 +166,7 @@ pub enum CallEntry {
     MarkCall { task: u8, mark: u8 },
     EnquiryCall { time: u64, set: u32 },
     CommitCall { ticket: u64, time: u64, set: u32 },
+    MarksCall { set: u32, mark: u8 },
 }
 
 // The task of the entry at the front. One test of the slice's length, by the caller, serves all its bytes.

@@ -3,7 +3,7 @@ use mathlib.Core.Path.{_≡_, refl, sym, ap, ap₂, _∙_, subst}
 use mathlib.Core.Bool.{Bool, true, false, true≢false}
 use borrow.Author.Tests.{eq-eqb, ne-eqb}
 use Rattle.table.specs.Refusals.{refusal-number, refusal-place}
-use Rattle.guarantees.specs.Types.{List, ℕ, State, Answer, Refused, Served, Refusal, NoRefusal, Alone, AtEntry}
+use Rattle.guarantees.specs.Types.{List, ℕ, State, Call, Answer, Refused, Served, Refusal, NoRefusal, Alone, AtEntry}
 use Rattle.guarantees.specs.Claim.{Claim}
 use Rattle.guarantees.specs.Requests.{LookFirst}
 use Rattle.guarantees.specs.Opened.{OpenedWithClaim}
@@ -12,7 +12,7 @@ use Rattle.dispatcher.specs.Dispatcher.{state-of}
 use Rattle.dispatcher.specs.Promises.{Instant}
 use Rattle.rules.specs.Instant.{at-g, occurred}
 use Rattle.rules.specs.Calls as calls
-use Rattle.rules.specs.Calls.{refusal, instant, served, mark-refusal, with-mark, after-call}
+use Rattle.rules.specs.Calls.{refusal, instant, served, row, after-call}
 use Rattle.rules.specs.Tickets.{Ticketed, raised, TicketedStep, instant-step}
 use Rattle.rules.specs.View.{viewed}
 use Rattle.rules.specs.Kept.{Kept, Beside, read}
@@ -90,20 +90,20 @@ module _ (k : Kept) (b : Beside) (ticket t set : ℕ) {told : List ℕ} {number 
 
 -- ---- a mark call
 
-module _ (k : Kept) (b : Beside) (ticket n m : ℕ) {number : ℕ} (e : number ≡ mark-refusal (read k b) n m) where
-  pub mark-refused-at : (number ≡ 0 → ⊥) → MarkedIn k b ticket n m number k ticket
+module _ (c : Call) (k : Kept) (b : Beside) (ticket : ℕ) {number : ℕ} (e : number ≡ row c .number (read k b)) where
+  pub mark-refused-at : (number ≡ 0 → ⊥) → MarkedIn c k b ticket number k ticket
   unfolding after-call
   mark-refused-at some = record {
     number-is = e;
-    left-is = let z = ne-eqb (mark-refusal (read k b) n m) 0 (λ x. some (e ∙ x)) in rw (after-call, z);
+    left-is = let z = ne-eqb (row c .number (read k b)) 0 (λ x. some (e ∙ x)) in rw (after-call, z);
     untouched = λ f. (refl, refl);
   }
 
-  pub marked-at : {k' : Kept} {ticket' : ℕ} → number ≡ 0 → read k' b ≡ with-mark (read k b) n m → ticket' ≡ raised ticket → MarkedIn k b ticket n m 0 k' ticket'
+  pub marked-at : {k' : Kept} {ticket' : ℕ} → number ≡ 0 → read k' b ≡ row c .leaves (read k b) → ticket' ≡ raised ticket → MarkedIn c k b ticket 0 k' ticket'
   unfolding after-call
   marked-at none x i = record {
     number-is = sym none ∙ e;
-    left-is = let z = eq-eqb (mark-refusal (read k b) n m) 0 (sym e ∙ none) in rw (after-call, z, x, i);
+    left-is = let z = eq-eqb (row c .number (read k b)) 0 (sym e ∙ none) in rw (after-call, z, x, i);
     untouched = λ f. absurd (f (sym e ∙ none));
   }
 

@@ -1,10 +1,10 @@
 -- What the calls on a dispatcher that C or Rust keeps promise: the rules' outcome, of the states that are read before and after; a
 -- refused call leaves what is kept, and what was told before, as it was.
-use Rattle.guarantees.specs.Types.{List, ℕ, _≡_, State, Call, Mark, Occurred, Answer, Refused, Served, NoRefusal}
+use Rattle.guarantees.specs.Types.{List, ℕ, _≡_, State, Call, Mark, Marks, Occurred, Answer, Refused, Served, NoRefusal}
 use mathlib.Core.List.{[], _∷_}
 use Rattle.rules.specs.declared.View.{View}
 use Rattle.rules.specs.View.{viewed}
-use Rattle.rules.specs.Calls.{refusal, mark-refusal, opening}
+use Rattle.rules.specs.Calls.{refusal, row, opening}
 use Rattle.rules.specs.Tickets.{Ticketed, after-ticketed, TicketedStep, instant-step, Enquiry, enquiry, commit-refusal, commit}
 use Rattle.rules.specs.Kept.{Kept, kept, Beside, read}
 use Rattle.table.specs.Refusals.{refusal-number, refusal-place}
@@ -84,16 +84,22 @@ abbrev pub Enquired : Kept → Beside → ℕ → ℕ → ℕ → Shared → ℕ
 Enquired k b ticket t set before number after =
     EnquiredAs (enquiry (held k b ticket) t set) (refusal (read k b) t set) number before after
 
--- ---- A mark call, which is lent the sets and the ticket alone: whatever stands beside them
+-- ---- A mark call, of one task or of a set, which is lent the sets and the ticket alone: whatever stands beside them
 
-pub record MarkedIn (k : Kept) (b : Beside) (ticket n m number : ℕ) (k' : Kept) (ticket' : ℕ) : Type 0 where
-  pub number-is : number ≡ mark-refusal (read k b) n m
-  pub left-is : held k' b ticket' ≡ after-ticketed (held k b ticket) (Mark n m)
-  pub untouched : (mark-refusal (read k b) n m ≡ 0 → ⊥) → (k' ≡ k) × (ticket' ≡ ticket)
+pub record MarkedIn (c : Call) (k : Kept) (b : Beside) (ticket number : ℕ) (k' : Kept) (ticket' : ℕ) : Type 0 where
+  pub number-is : number ≡ row c .number (read k b)
+  pub left-is : held k' b ticket' ≡ after-ticketed (held k b ticket) c
+  pub untouched : (row c .number (read k b) ≡ 0 → ⊥) → (k' ≡ k) × (ticket' ≡ ticket)
+
+abbrev pub MarkedBy : Call → List ℕ → ℕ → ℕ → List ℕ → ℕ → Type 0
+MarkedBy c sets ticket number sets' ticket' =
+    (times codes : List ℕ) (b : Beside) → MarkedIn c (kept times sets codes) b ticket number (kept times sets' codes) ticket'
 
 abbrev pub Marked : List ℕ → ℕ → ℕ → ℕ → ℕ → List ℕ → ℕ → Type 0
-Marked sets ticket n m number sets' ticket' =
-    (times codes : List ℕ) (b : Beside) → MarkedIn (kept times sets codes) b ticket n m number (kept times sets' codes) ticket'
+Marked sets ticket n m = MarkedBy (Mark n m) sets ticket
+
+abbrev pub MarkedAll : List ℕ → ℕ → ℕ → ℕ → ℕ → List ℕ → ℕ → Type 0
+MarkedAll sets ticket set m = MarkedBy (Marks set m) sets ticket
 
 -- ---- Opening: where it serves the bytes, the claim of demand 3 for every list of calls and of requests from the state that is kept then
 

@@ -14,7 +14,7 @@ ghost use Rattle.sets.specs.Sets.{member};
 ghost use Rattle.guarantees.specs.Figure.{longest-interval, completes-after};
 ghost use Rattle.rules.specs.Kept.{kept, beside, by-task};
 ghost use Rattle.dispatcher.specs.Dispatcher.{kept-of, beside-of};
-ghost use Rattle.exports_instants.specs.Promises.{Answered, Committed, shown, Enquired, Shows, Marked, OpenedAt};
+ghost use Rattle.exports_instants.specs.Promises.{Answered, Committed, shown, Enquired, Shows, Marked, MarkedAll, OpenedAt};
 
 // An instant of the dispatcher that the arrays keep: 0 and what occurred in `told`, or the number of the refusal. What every instant looks
 // at comes first, in registers.
@@ -94,7 +94,18 @@ pub extern "C" fn gateway_commit_v5<'a>(
         return 20;
     }
     gateway_instant_v5(
-        time, set, times, sets, codes, told, priority, columns, release, blocked, waits, ticket,
+        time,
+        set,
+        times,
+        sets,
+        codes,
+        told,
+        priority,
+        columns,
+        release,
+        blocked,
+        waits,
+        ticket,
     )
 }
 
@@ -209,10 +220,26 @@ pub extern "C" fn gateway_mark_v5(sets: &mut at::Sets, ticket: &mut u64, task: u
     if number != 0 {
         return number;
     }
-    dispatcher::marked_with(task, mark, sets);
+    dispatcher::marked_all(sets::insert(0, task), mark, sets);
     let present = *ticket;
     let behind_mark = dispatcher::raised(present);
     *ticket = behind_mark;
+    0
+}
+
+// 10/13: a mark call of a set of tasks on the dispatcher whose sets and ticket are lent: 0, or the number of the refusal.
+#[no_mangle]
+pub extern "C" fn gateway_marks_v5(sets: &mut at::Sets, ticket: &mut u64, set: u32, mark: u8) -> u8
+    ensures { λ r. ⌜ MarkedAll (now (sets .entry)) (now (ticket .entry)) set mark r (now (sets .exit)) (now (ticket .exit)) ⌝ }
+{
+    let number = dispatcher::marks_refusal(set, mark, sets);
+    if number != 0 {
+        return number;
+    }
+    dispatcher::marked_all(set, mark, sets);
+    let present = *ticket;
+    let behind_marks = dispatcher::raised(present);
+    *ticket = behind_marks;
     0
 }
 

@@ -545,11 +545,13 @@ module _ (pr columns : List ℕ) where
           go NoneOutgoing h readies =
               unfold begin in
               inl (
-                refl, refl,
+                refl,
+                refl,
                 highest-same pr (λ k. x .origins k .since) (λ k. getD (f .jobs .release) k 0) (begun x (f .table) next NoneOutgoing .ready) (f .jobs .ready)
                     (λ k l. bit-same _ _ (omega (arith, left-over x f taken next NoneOutgoing e c h readies since k l, readies k l, h .parts k l))) since
                     ∙ ap (λ (p : List ℕ). highest p (λ k. getD (f .jobs .release) k 0) (f .jobs .ready)) (sym e),
-                refl, refl,
+                refl,
+                refl,
               )
 
       -- ---- the places that a step leaves

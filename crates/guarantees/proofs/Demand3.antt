@@ -5,7 +5,7 @@ use lib.ListN.{getD}
 use Rattle.sets.specs.Sets.{member, size}
 use Rattle.sets.proofs.Laws.{none, same-task, member-task, size-none}
 use Rattle.rules.specs.Instant.{due}
-use Rattle.rules.specs.Calls.{opened, opening, mark-refusal}
+use Rattle.rules.specs.Calls.{opened, opening, row}
 use Rattle.guarantees.specs.History.{Event, Completes, Takes, Defers, history, after-calls, EmptySets}
 use Rattle.guarantees.specs.Queries.{Situation, NoneOpen, situation, intervals, total, is-take, taking, waiting, met}
 use Rattle.guarantees.specs.Pending.{OneAtATime}
@@ -32,7 +32,7 @@ use Rattle.guarantees.proofs.Choices.{all-copies}
 use Rattle.guarantees.proofs.Known.{AllKnown, begins-known, completes-known, all-known}
 use Rattle.guarantees.proofs.Serving.{all-served-jobs}
 use Rattle.guarantees.proofs.Deferred.{taken-small, deferred-small, taken-later}
-use Rattle.guarantees.proofs.Marks.{taken-marked, mark-free}
+use Rattle.guarantees.proofs.Marks.{taken-marked, names-free}
 use Rattle.guarantees.proofs.Fates.{balanced as releases-balanced, none-waits-so, placed}
 use Rattle.guarantees.proofs.Turns.{one-at-a-time, in-time, resumed-in}
 use Rattle.guarantees.proofs.Turning.{turns}
@@ -163,7 +163,7 @@ module _ (table : Table) (marks : ℕ) (fair : Fair table marks) where
       each-release = λ before after n e l. releases-balanced n l d before (none-waits n);
       each-instant = λ before after n t set o e l x. unfold opened in placed n l d before (none-waits n) table (λ s. fair .spacings n s .0) (table-after before) (last-releases table marks fair n l before) t set o x;
       each-mark = λ before after n t set u m xs ys e x. taken-marked d before t set n u m xs ys (same-task n) x;
-      each-mark-call = λ before after n m e x. unwaited before n m x;
+      each-mark-call = λ before after c n e l x h. unwaited before c n l x h;
       each-interval = unfold opened in sym (follows calls .says);
     };
     come-to-an-end = drains table marks fair (mass (after-calls d calls)) (after-calls d calls) good (omega arith);
@@ -200,11 +200,10 @@ module _ (table : Table) (marks : ℕ) (fair : Fair table marks) where
       small n m = member-task n (table .present) (fair .present) m
 
       -- where a mark call is served nothing of its task waits
-      unwaited : (before : List Call) (n m : ℕ) → mark-refusal (after-calls (opened table marks) before) n m ≡ 0 → waiting n Never (history (opened table marks) before) ≡ Never
-      unwaited before n m x =
-          let f = mark-free (after-calls (opened table marks) before) n m x in
-          let l : n < 32 = small n (subst (λ (y : Table). member n (y .present) ≡ true) (table-after before) (f .0)) in
-          none-waits-so n l (opened table marks) before (none-waits n) (f .1 l)
+      unwaited : (before : List Call) (c : Call) (n : ℕ) → n < 32 → row c .number (after-calls (opened table marks) before) ≡ 0 → member n (row c .names) ≡ true
+          → waiting n Never (history (opened table marks) before) ≡ Never
+      unwaited before c n l x h =
+          none-waits-so n l (opened table marks) before (none-waits n) (names-free (after-calls (opened table marks) before) n l c x h)
 
       good : Good table marks fair (after-calls (opened table marks) calls)
       good = good-after table marks fair calls (opened table marks) (good-opened table marks fair)

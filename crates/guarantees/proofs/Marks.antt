@@ -1,13 +1,14 @@
 -- The mark of a job is that of its task at the taking: as opening read it, or as mark calls have changed it.
-use Rattle.guarantees.specs.Types.{_≡_, refl, sym, ap, _∙_, subst, Bool, true, false, cond, not, _&&_, _||_, true≢false, false≢true, List, [], _∷_, _++_, ℕ, _<_, MaybeTask, State, Call, Instant, Mark}
+use Rattle.guarantees.specs.Types.{_≡_, refl, sym, ap, _∙_, subst, Bool, true, false, cond, not, _&&_, _||_, true≢false, false≢true, List, [], _∷_, _++_, ℕ, _<_, MaybeTask, State, Call, Instant, Mark, Marks, ⊎-elim}
 use mathlib.Core.List.{append-nil}
 use native.Mathlib.Omega.{arith}
 use borrow.Author.Tests.{eqb-true}
 use lib.Dec.{eqb, ltb}
-use Rattle.sets.specs.Sets.{member, union, insert, remove}
-use Rattle.sets.proofs.Laws.{by-test, none, united, inserted, removed}
+use Rattle.sets.specs.Sets.{member, union, intersection, difference, insert}
+use Rattle.sets.proofs.Laws.{by-test, clash, none, united, insert-out}
 use Rattle.rules.specs.Instant.{at-g, taken-at, deferred-at}
-use Rattle.rules.specs.Calls.{refusal, mark-refusal, row, after-call}
+use Rattle.rules.specs.Calls.{refusal, unknown, mark-refusal, marks-refusal, row, after-call}
+use Rattle.rules.proofs.DeskMarks.{remarked-member, idle-all}
 use Rattle.guarantees.specs.History.{Event, Comes, Starts, Stops, Finishes, Completes, Ends, Takes, Defers, GivesWay, Begins, happens, by-call, after-calls, take-events}
 use Rattle.guarantees.specs.Queries.{details, is-task, takes}
 use Rattle.guarantees.specs.Entries.{marked-by}
@@ -59,30 +60,11 @@ call-marked d t set =
 -- ---- the marks along the calls
 
 module _ (n : ℕ) (small : n < 32) where
-  with-mark-member : (k m s : ℕ) → member n (cond (eqb m 1) (insert k s) (remove k s)) ≡ cond (eqb n k) (eqb m 1) (member n s)
-  with-mark-member k m s =
-      by-test (eqb m 1)
-      (λ e. rw e (inserted k s n small ∙ on (eqb n k) (member n s)))
-      (λ e. rw e (removed k s n small ∙ off (eqb n k) (member n s)))
-    where
-      on : (a b : Bool) → (a || b) ≡ cond a true b
-      on true b = refl
-      on false b = refl
-
-      off : (a b : Bool) → (not a && b) ≡ cond a false b
-      off true b = refl
-      off false b = refl
-
   -- the marks after a call, by the tasks that it names
   leaves-member : (c : Call) (d : State) → member n (row c .leaves d .marked) ≡ cond (member n (row c .names)) (eqb (row c .mark) 1) (member n (d .marked))
   leaves-member (Instant t set) d = rw (none n) (ap (member n) (marked-g d t set))
-  leaves-member (Mark k m) d =
-      let alone-is : member n (insert k 0) ≡ eqb n k = inserted k 0 n small ∙ rw (none n) (alone (eqb n k)) in
-      with-mark-member k m (d .marked) ∙ ap (λ (b : Bool). cond b (eqb m 1) (member n (d .marked))) (sym alone-is)
-    where
-      alone : (b : Bool) → (b || false) ≡ b
-      alone true = refl
-      alone false = refl
+  leaves-member (Mark k m) d = remarked-member n small (d .marked) (insert k 0) m
+  leaves-member (Marks set m) d = remarked-member n small (d .marked) set m
 
   call-member : (c : Call) (d : State)
       → member n (after-call d c .marked) ≡ cond (member n (row c .names) && eqb (row c .number d) 0) (eqb (row c .mark) 1) (member n (d .marked))
@@ -113,18 +95,27 @@ taken-marked d cs t set n u m xs ys s e =
     let x : (n < 32) × (m ≡ member n (g .marked)) = marked-at (g .marked) xs n u m ys (subst (Marked (g .marked)) e (call-marked g t set)) s in
     x .1 ∙ marks-along n (x .0) cs d (member n (d .marked)) refl
 
--- ---- a mark call that is served: its task is one of the table's, and nothing of it waits
+-- ---- a mark call that is served: nothing waits of the tasks that it names
 
-pub mark-free : (d : State) (n m : ℕ) → mark-refusal d n m ≡ 0 → (member n (d .table .present) ≡ true) × (n < 32 → member n (d .waiting .tasks) ≡ false)
-unfolding mark-refusal
-mark-free d n m h =
-    let f = none-passed 15 5 16 0 (not (member n (d .table .present))) (ltb 1 m) (member n (union (d .jobs .pending) (d .waiting .tasks))) false h in
-    (known (member n (d .table .present)) (f .0), λ l. second (member n (d .jobs .pending)) (member n (d .waiting .tasks)) (sym (united (d .jobs .pending) (d .waiting .tasks) n l) ∙ f .2))
-  where
-    known : (b : Bool) → not b ≡ false → b ≡ true
-    known true e = refl
-    known false e = absurd (true≢false e)
+module _ (d : State) (n : ℕ) (l : n < 32) where
+  second : (a b : Bool) → (a || b) ≡ false → b ≡ false
+  second true b e = absurd (true≢false e)
+  second false b e = e
 
-    second : (a b : Bool) → (a || b) ≡ false → b ≡ false
-    second true b e = absurd (true≢false e)
-    second false b e = e
+  unwaiting : member n (union (d .jobs .pending) (d .waiting .tasks)) ≡ false → member n (d .waiting .tasks) ≡ false
+  unwaiting e = second (member n (d .jobs .pending)) (member n (d .waiting .tasks)) (sym (united (d .jobs .pending) (d .waiting .tasks) n l) ∙ e)
+
+  pub names-free : (c : Call) → row c .number d ≡ 0 → member n (row c .names) ≡ true → member n (d .waiting .tasks) ≡ false
+  unfolding mark-refusal marks-refusal unknown
+  names-free (Instant t set) h x = clash (member n 0) x (none n)
+  names-free (Mark k m) h x =
+      let e : n ≡ k = ⊎-elim (λ y. eqb-true n k y) (λ y. clash (member n 0) y (none n)) (insert-out k 0 n x) in
+      let f = none-passed 15 5 16 0 (not (member k (d .table .present))) (ltb 1 m) (member k (union (d .jobs .pending) (d .waiting .tasks))) false h in
+      unwaiting (ap (λ (j : ℕ). member j (union (d .jobs .pending) (d .waiting .tasks))) e ∙ f .2)
+  names-free (Marks set m) h x =
+      let f = none-passed 15 5 16 0 (not (eqb (difference set (d .table .present)) 0)) (ltb 1 m) (not (eqb (intersection set (union (d .jobs .pending) (d .waiting .tasks))) 0)) false h in
+      unwaiting (idle-all d set m (is-so (eqb (intersection set (union (d .jobs .pending) (d .waiting .tasks))) 0) (f .2)) n l x)
+    where
+      is-so : (b : Bool) → not b ≡ false → b ≡ true
+      is-so true e = refl
+      is-so false e = absurd (true≢false e)

@@ -1,12 +1,13 @@
 -- Walks along the calls: each call is an instant that is served, or leaves all but the marks as it is; and what holds through both holds
 -- through a list of them. A new call that leaves table, clock, jobs, waiting releases and phase as they are needs a line in `each-call` alone.
-use Rattle.guarantees.specs.Types.{_≡_, refl, sym, ap, _∙_, subst, append-assoc, Bool, true, false, cond, not, false≢true, _⊎_, inl, inr, ⊎-elim, List, [], _∷_, _++_, ℕ, State, Call, Instant, Mark, Served, Refused, Occurred}
+use Rattle.guarantees.specs.Types.{_≡_, refl, sym, ap, _∙_, subst, append-assoc, Bool, true, false, cond, not, false≢true, _⊎_, inl, inr, ⊎-elim, List, [], _∷_, _++_, ℕ, State, Call, Instant, Mark, Marks, Served, Refused, Occurred}
 use borrow.Author.Tests.{eqb-true}
 use lib.Dec.{eqb, ltb}
-use Rattle.sets.specs.Sets.{member, union, insert, remove}
-use Rattle.sets.proofs.Laws.{by-test, insert-out, remove-out}
+use Rattle.sets.specs.Sets.{member, union, intersection, difference, insert}
+use Rattle.sets.proofs.Laws.{by-test, clash, none, insert-out}
 use Rattle.rules.specs.Instant.{at-g, occurred}
-use Rattle.rules.specs.Calls.{refusal, instant as instant-step, mark-refusal, with-mark, row, serves, after-call}
+use Rattle.rules.specs.Calls.{refusal, instant as instant-step, unknown, mark-refusal, marks-refusal, remarked, row, serves, after-call}
+use Rattle.rules.proofs.DeskMarks.{remarked-member, known-all}
 use Rattle.guarantees.proofs.Steps.{Sub}
 use Rattle.guarantees.specs.History.{Event, happens, by-call, after-calls, history}
 use Rattle.guarantees.specs.Entries.{answer-of, all-occurred}
@@ -62,30 +63,49 @@ pub record Serves (d : State) (c : Call) : Type 0 where
 same : (d : State) (c : Call) → after-call d c ≡ d → serves d c ≡ false → Quiet d c
 same d c e f = record { marks = d .marked; known = λ h. h; leaves = e; unserved = f }
 
+-- a mark call that is served names tasks of the table
 module _ (d : State) (n m : ℕ) where
-  -- a mark call that is served names a task of the table
-  mark-known : eqb (mark-refusal d n m) 0 ≡ true → member n (d .table .present) ≡ true
+  mark-known : eqb (mark-refusal d n m) 0 ≡ true → Sub (insert n 0) (d .table .present)
   unfolding mark-refusal
-  mark-known = go (member n (d .table .present)) (ltb 1 m) (member n (union (d .jobs .pending) (d .waiting .tasks)))
+  mark-known h k l x =
+      let e : eqb k n ≡ true = ⊎-elim (λ y. y) (λ y. clash (member k 0) y (none k)) (insert-out n 0 k x) in
+      ap (λ (j : ℕ). member j (d .table .present)) (eqb-true k n e)
+      ∙ go (member n (d .table .present)) (ltb 1 m) (member n (union (d .jobs .pending) (d .waiting .tasks))) h
     where
       go : (a b c : Bool) → eqb (cond (not a) 16 (cond b 6 (cond c 17 0))) 0 ≡ true → a ≡ true
       go true b c h = refl
       go false b c h = absurd (false≢true h)
 
-  marks-known : (b : Bool) → member n (d .table .present) ≡ true → MarksKnown d (cond b (insert n (d .marked)) (remove n (d .marked)))
-  marks-known true e h k l x =
-      ⊎-elim (λ y. ap (λ (j : ℕ). member j (d .table .present)) (eqb-true k n y) ∙ e) (λ y. h k l y) (insert-out n (d .marked) k x)
-  marks-known false e h k l x = h k l (remove-out n (d .marked) k x)
+module _ (d : State) (set m : ℕ) where
+  desk-known : eqb (marks-refusal d set m) 0 ≡ true → Sub set (d .table .present)
+  unfolding marks-refusal unknown
+  desk-known h k l x =
+      known-all d set m (go (eqb (difference set (d .table .present)) 0) (ltb 1 m) (not (eqb (intersection set (union (d .jobs .pending) (d .waiting .tasks))) 0)) h) k l x
+    where
+      go : (a b c : Bool) → eqb (cond (not a) 16 (cond b 6 (cond c 17 0))) 0 ≡ true → a ≡ true
+      go true b c h = refl
+      go false b c h = absurd (false≢true h)
+
+  marks-known : Sub set (d .table .present) → MarksKnown d (remarked (d .marked) set m)
+  marks-known e h k l x =
+      by-test (member k set) (λ y. e k l y)
+      (λ y. h k l (sym (ap (λ (b : Bool). cond b (eqb m 1) (member k (d .marked))) y) ∙ sym (remarked-member k l (d .marked) set m) ∙ x))
+
+-- and nothing occurs by it
+quiet-marks : (d : State) (c : Call) (set m : ℕ) → serves d c ≡ false → row c .leaves d ≡ with-marks d (remarked (d .marked) set m)
+    → (eqb (row c .number d) 0 ≡ true → Sub set (d .table .present)) → Quiet d c
+quiet-marks d c set m u e s =
+    by-test (eqb (row c .number d) 0)
+    (λ f. record { marks = remarked (d .marked) set m; known = marks-known d set m (s f); leaves = call-served d c f ∙ e; unserved = u })
+    (λ f. same d c (call-refused d c f) u)
 
 pub each-call : (d : State) (c : Call) → Serves d c ⊎ Quiet d c
 each-call d (Instant t set) =
     by-test (eqb (refusal d t set) 0)
     (λ e. inl (record { time = t; set = set; is = refl; no-row = e }))
     (λ e. inr (same d (Instant t set) (refused d t set e) e))
-each-call d (Mark n m) =
-    by-test (eqb (mark-refusal d n m) 0)
-    (λ e. inr (record { marks = with-mark d n m .marked; known = marks-known d n m (eqb m 1) (mark-known d n m e); leaves = call-served d (Mark n m) e; unserved = refl }))
-    (λ e. inr (same d (Mark n m) (call-refused d (Mark n m) e) refl))
+each-call d (Mark n m) = inr (quiet-marks d (Mark n m) (insert n 0) m refl refl (mark-known d n m))
+each-call d (Marks set m) = inr (quiet-marks d (Marks set m) set m refl refl (desk-known d set m))
 
 -- ---- a property of a state, of what occurs by calls from it, and of the state that they leave
 

@@ -1,12 +1,12 @@
 -- That the entries tell the truth: of each job done (kind 16) and of each interval closed (kind 17) that the calls answer with, what it
 -- says is what the history has of it. What stands between quotation marks is document 01; below each quotation stands what it says of a
 -- history.
-use Rattle.guarantees.specs.Types.{_≡_, Bool, false, cond, _&&_, List, [], _∷_, _++_, ℕ, _+_, _<_, MaybeTask, NoTask, Task, State, Never, Tick, Call, Instant, Mark, Answer, Refused, Served, Occurred, Done, NoJob, Job, Closing, Unclosed, BeforeReleases, AfterReleases, JobEntry, IntervalEntry}
+use Rattle.guarantees.specs.Types.{_≡_, Bool, true, false, cond, _&&_, List, [], _∷_, _++_, ℕ, _+_, _<_, MaybeTask, NoTask, Task, State, Never, Tick, Call, Instant, Mark, Answer, Refused, Served, Occurred, Done, NoJob, Job, Closing, Unclosed, BeforeReleases, AfterReleases, JobEntry, IntervalEntry}
 use lib.Dec.{eqb, ltb}
 use lib.ListN.{getD}
 use Rattle.sets.specs.Sets.{member, bit}
 use Rattle.rules.specs.Instant.{occurred}
-use Rattle.rules.specs.Calls.{mark-refusal, instant, row, serves, after-call}
+use Rattle.rules.specs.Calls.{instant, row, serves, after-call}
 use Rattle.guarantees.specs.History.{Event, Takes, by-call, history, after-calls}
 use Rattle.guarantees.specs.Queries.{details, completes, each, NoneOpen, situation, waiting, original, intervals, taking, start, waited}
 use Rattle.guarantees.specs.Releases.{Balance, Placed}
@@ -122,8 +122,8 @@ pub record EntriesTell (d : State) (calls : List Call) : Type 0 where
   -- has the same mark as at its taking, since "a mark cannot change while a release waits"
   pub each-mark : (before after : List Call) (n t set u : ℕ) (m : Bool) (xs ys : List Event) → calls ≡ before ++ (Instant t set ∷ after)
       → by-call (after-calls d before) (Instant t set) ≡ xs ++ (Takes n u m ∷ ys) → m ≡ marked-by n (member n (d .marked)) d before
-  -- 4/13: "A mark cannot change while a release waits"
-  pub each-mark-call : (before after : List Call) (n m : ℕ) → calls ≡ before ++ (Mark n m ∷ after)
-      → mark-refusal (after-calls d before) n m ≡ 0 → waiting n Never (history d before) ≡ Never
+  -- 4/13: "A mark cannot change while a release waits", 10/13: of any task that the call names
+  pub each-mark-call : (before after : List Call) (c : Call) (n : ℕ) → calls ≡ before ++ (c ∷ after) → n < 32
+      → row c .number (after-calls d before) ≡ 0 → member n (row c .names) ≡ true → waiting n Never (history d before) ≡ Never
   -- "kind 17 at the interval's end": one for each interval that ended, in their order, with all that it says
   pub each-interval : closed (all-occurred d calls) ≡ ended (d .table .priority) no-course (history d calls)

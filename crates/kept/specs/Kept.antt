@@ -3,7 +3,11 @@
 use Rattle.dispatcher.specs.Types.{ℕ}
 use Rattle.dispatcher.specs.declared.Dispatcher.{Dispatcher}
 use Rattle.rules.specs.declared.MarkAnswer.{MarkAnswer}
-use Rattle.dispatcher.specs.Dispatcher.{MarkAnswers}
+use Rattle.dispatcher.specs.Dispatcher.{MarkAnswers, MarksAnswers}
 
 abbrev pub MarksKept : Dispatcher → ℕ → ℕ → MarkAnswer → Dispatcher → Type 0
 MarksKept d n m answer after = MarkAnswers d n m (record { state = after; answer = answer })
+
+-- 10/13, and one of a set of tasks
+abbrev pub MarksAllKept : Dispatcher → ℕ → ℕ → MarkAnswer → Dispatcher → Type 0
+MarksAllKept d set m answer after = MarksAnswers d set m (record { state = after; answer = answer })

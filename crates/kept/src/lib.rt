@@ -1,6 +1,6 @@
 // The dispatcher advanced where it is kept: the driver keeps one for each core and lends it.
 ghost use Rattle.dispatcher.specs.Dispatcher.{AnswersKept, CommitsKept};
-ghost use Rattle.kept.specs.Kept.{MarksKept};
+ghost use Rattle.kept.specs.Kept.{MarksKept, MarksAllKept};
 use dispatcher::Dispatcher;
 use rules::Answer;
 use rules::MarkAnswer;
@@ -31,6 +31,16 @@ pub fn mark(d: &mut Dispatcher, task: u8, mark: u8) -> MarkAnswer
 {
     let cur = *d;
     let s = cur.mark(task, mark);
+    *d = s.state;
+    s.answer
+}
+
+// 10/13: a mark call of a set of tasks on the dispatcher behind `d`. On a refusal what stands there is as it was.
+pub fn mark_all(d: &mut Dispatcher, set: u32, mark: u8) -> MarkAnswer
+    ensures { λ r. ⌜ MarksAllKept (now (d .entry)) set mark r (now (d .exit)) ⌝ }
+{
+    let cur = *d;
+    let s = cur.mark_all(set, mark);
     *d = s.state;
     s.answer
 }

@@ -1,7 +1,7 @@
 -- The refusals of document 01's table, and inputs and calls that meet two of them at once: the first in the document's order counts.
 use mathlib.Core.List.{List, [], _∷_, _++_}
 use Prim.Native.Nat.{ℕ}
-use Rattle.rules.specs.declared.Call.the-variants.{Instant, Mark}
+use Rattle.rules.specs.declared.Call.the-variants.{Instant, Mark, Marks}
 use Rattle.plans.specs.Rows.{Row, recorded, refused, answered}
 use Rattle.plans.specs.Plans.{task, release, tasks}
 
@@ -48,4 +48,7 @@ refusals =
     -- mark calls: 16 before 6 before 17
     answered tasks (Instant 0 2 ∷ Mark 9 2 ∷ Mark 255 0 ∷ Mark 1 2 ∷ Mark 1 1 ∷ Mark 2 1 ∷ [])
     (0 ∷ 0 ∷ 0 ∷ 0 ∷ 2 ∷ 16 ∷ 16 ∷ 6 ∷ 17 ∷ 0 ∷ []) [] ∷
+    -- 10/13, marks for several tasks: in the same order, if any of them; and of no task
+    answered tasks (Instant 0 2 ∷ Marks 514 2 ∷ Marks 6 2 ∷ Marks 6 1 ∷ Marks 12 1 ∷ Marks 0 1 ∷ Marks 0 2 ∷ Mark 2 0 ∷ [])
+    (0 ∷ 0 ∷ 0 ∷ 0 ∷ 2 ∷ 16 ∷ 6 ∷ 17 ∷ 0 ∷ 0 ∷ 6 ∷ 0 ∷ []) [] ∷
     []

@@ -54,7 +54,7 @@ unfolding Words.bytesOf Words.numberAt Words.room Words.written Sets.member Sets
     Instant.cancel Instant.cancel-by Instant.step-d Instant.choose Instant.choose-if Instant.step-e Instant.begin Instant.step-g
     Instant.sooner Instant.due Instant.at-a Instant.at-b Instant.taken-at Instant.deferred-at Instant.skipped-at Instant.steps-c-d
     Instant.steps-c-to-e Instant.at-e Instant.at-f Instant.at-g Instant.occurred Calls.opened Calls.opening Calls.unknown Calls.refusal
-    Calls.mark-refusal Calls.after-call Files.rises Files.release-refusal Files.with-release
+    Calls.mark-refusal Calls.marks-refusal Calls.after-call Files.rises Files.release-refusal Files.with-release
     Files.releases-from Files.releases-of RuleEntries.skipped-entries RuleEntries.entries Run.released-from Run.released-after Run.run
     Entries.each Run.record-entries Run.record-bytes Writing.written Run.moments-of Writing.file Rows.called FileClaim.answers
     History.after-calls Rows.with-put Rows.found Rows.all-found Rows.all-expected Rows.recorded Rows.refused Rows.answered

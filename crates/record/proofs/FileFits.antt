@@ -10,7 +10,7 @@ use Rattle.table.specs.Head.{head-of}
 use Rattle.rules.specs.Instant.{at-g, occurred}
 use Rattle.rules.specs.Entries.{entries}
 use Rattle.rules.specs.Calls.{refusal, after-call}
-use Rattle.guarantees.specs.Types.{State, Call, Instant, Mark}
+use Rattle.guarantees.specs.Types.{State, Call, Instant, Mark, Marks}
 use Rattle.guarantees.proofs.Walk
 use Rattle.run.specs.Files.{Releases, releases-of}
 use Rattle.run.specs.Run.{Moment, record-entries, moments-of}
@@ -26,6 +26,7 @@ answers-fit : (cs : List Call) (d : State) → StateFits d → AllServed d cs �
 unfolding AllServed AllEarly answers record-entries EntriesFit
 answers-fit [] d h a l = tt
 answers-fit (Mark n m ∷ cs) d h a l = absurd (false≢true (a .0))
+answers-fit (Marks set m ∷ cs) d h a l = absurd (false≢true (a .0))
 answers-fit (Instant t set ∷ cs) d h a l =
     let e : eqb (refusal d t set) 0 ≡ true = eq-eqb (refusal d t set) 0 (a .1) in
     let g : StateFits (at-g d t set) = to-g t (omega (arith, l .0)) d set h in

@@ -9,7 +9,7 @@ use lib.Dec.{eqb}
 use Rattle.sets.proofs.Laws.{by-test}
 use Rattle.rules.specs.Calls.{after-call}
 use Rattle.rules.specs.Tickets.{Ticketed, after-ticketed, TicketedStep, commit}
-use Rattle.guarantees.specs.Types.{State, Call, Instant, Mark}
+use Rattle.guarantees.specs.Types.{State, Call, Instant, Mark, Marks}
 use Rattle.guarantees.specs.Requests.{Request, Calls, Enquires, Commits, after-request, calls-made}
 use Rattle.guarantees.proofs.Requests.{commit-is, commit-stays}
 use Rattle.run.specs.Run.{Moment, moment}
@@ -36,3 +36,4 @@ as-commits (Instant t set ∷ cs) d =
     let left : commit d (d .ticket) t set .left ≡ after-ticketed d (Instant t set) = ap (λ (s : TicketedStep). s .left) (commit-is d (d .ticket) t set e) in
     rw (e, left, as-commits cs (after-ticketed d (Instant t set)))
 as-commits (Mark n m ∷ cs) d = ap (λ (l : List Call). Mark n m ∷ l) (as-commits cs (after-ticketed d (Mark n m)))
+as-commits (Marks set m ∷ cs) d = ap (λ (l : List Call). Marks set m ∷ l) (as-commits cs (after-ticketed d (Marks set m)))

@@ -11,3 +11,4 @@ pub mod Cut
 pub mod Releases
 pub mod Kept
 pub mod Instants
+pub mod DeskMarks

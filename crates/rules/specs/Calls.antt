@@ -1,9 +1,9 @@
 -- The dispatcher by instants, over its state: opening from the head, an instant and a mark call, each with its refusals in their
 -- order. A refused call hands the state back as it was.
-use Rattle.rules.specs.Types.{Bool, true, false, cond, not, _&&_, List, ℕ, Table, Clock, Unset, At, NoneNext, NoneOutgoing, Between, State, Call, Instant, Mark, Due, Never, Tick, Answer, Refused, Served, MarkAnswer, MarkRefused, MarkServed, Refusal, Head}
+use Rattle.rules.specs.Types.{Bool, true, false, cond, not, _&&_, List, ℕ, Table, Clock, Unset, At, NoneNext, NoneOutgoing, Between, State, Call, Instant, Mark, Marks, Due, Never, Tick, Answer, Refused, Served, MarkAnswer, MarkRefused, MarkServed, Refusal, Head}
 use lib.Dec.{ltb, leb, eqb}
 use lib.ListN.{replicate}
-use Rattle.sets.specs.Sets.{member, union, difference, insert, remove}
+use Rattle.sets.specs.Sets.{member, union, intersection, difference, insert}
 use Rattle.entries.specs.Limits as limits
 use Rattle.table.specs.Head.{head-alone}
 use Rattle.rules.specs.Instant.{at-g, occurred, due}
@@ -78,10 +78,14 @@ mark-refusal d n m =
     (cond (ltb 1 m) 6
     (cond (member n (union (d .jobs .pending) (d .waiting .tasks))) 17 0))
 
-abbrev pub with-mark : State → ℕ → ℕ → State
-with-mark d n m = record {
+-- the marks of some tasks set or taken away
+abbrev pub remarked : ℕ → ℕ → ℕ → ℕ
+remarked marked set m = cond (eqb set 0) marked (cond (eqb m 1) (union marked set) (difference marked set))
+
+abbrev pub with-marks : State → ℕ → ℕ → State
+with-marks d set m = record {
   table = d .table;
-  marked = cond (eqb m 1) (insert n (d .marked)) (remove n (d .marked));
+  marked = remarked (d .marked) set m;
   clock = d .clock;
   half = d .half;
   jobs = d .jobs;
@@ -89,10 +93,28 @@ with-mark d n m = record {
   phase = d .phase;
 }
 
+-- and of one
+abbrev pub with-mark : State → ℕ → ℕ → State
+with-mark d n m = with-marks d (insert n 0) m
+
 unfoldable pub mark : State → ℕ → ℕ → MarkStep
 mark d n m =
     let r : ℕ = mark-refusal d n m in
     cond (eqb r 0) (record { state = with-mark d n m; answer = MarkServed }) (record { state = d; answer = MarkRefused r })
+
+-- ---- 10/13, "Marks for a whole desk": "If any named task is unknown, the mark is bad, or any has a job pending or a release waiting,
+-- nothing changes, under 16, 6 and 17 in that order."
+
+unfoldable pub marks-refusal : State → ℕ → ℕ → ℕ
+marks-refusal d set m =
+    cond (unknown d set) 16
+    (cond (ltb 1 m) 6
+    (cond (not (eqb (intersection set (union (d .jobs .pending) (d .waiting .tasks))) 0)) 17 0))
+
+unfoldable pub marks : State → ℕ → ℕ → MarkStep
+marks d set m =
+    let r : ℕ = marks-refusal d set m in
+    cond (eqb r 0) (record { state = with-marks d set m; answer = MarkServed }) (record { state = d; answer = MarkRefused r })
 
 -- ---- A call of any kind
 
@@ -126,6 +148,15 @@ row (Mark n m) = record {
   time = 0;
   hands = 0;
   names = insert n 0;
+  mark = m;
+}
+row (Marks set m) = record {
+  number = λ d. marks-refusal d set m;
+  leaves = λ d. with-marks d set m;
+  is-instant = false;
+  time = 0;
+  hands = 0;
+  names = set;
   mark = m;
 }
 

@@ -9,6 +9,7 @@ pub mod Registers
 pub mod Kept
 pub mod Calls
 pub mod Tickets
+pub mod DeskMarks
 pub mod Cut
 pub mod Answers
 pub mod Entries

@@ -50,10 +50,12 @@ pub enum Closing {
     AfterReleases(IntervalEntry),
 }
 
-// A call on the dispatcher: an instant, with its time and the set of tasks released then; or a task's mark from now on.
+// A call on the dispatcher: an instant, with its time and the set of tasks released then; a task's mark from now on; or (10/13) that of
+// a set of tasks.
 pub enum Call {
     Instant { time: u64, set: u32 },
     Mark { task: u8, mark: u8 },
+    Marks { set: u32, mark: u8 },
 }
 
 // What becomes of the releases of an instant, as sets of tasks.

@@ -15,7 +15,7 @@ use Rattle.rules.specs.Types.{Processor, Idle, CopyingIn, Executing, Finished, 
 use Rattle.rules.specs.View.{Values, on-processor, copied-in, copied-out, values-in, values}
 use Rattle.rules.specs.Instant.{at-g}
 use Rattle.rules.specs.Calls.{opened, refusal, after-call}
-use Rattle.guarantees.specs.Types.{State, Clock, Unset, At, Call, Instant, Mark}
+use Rattle.guarantees.specs.Types.{State, Clock, Unset, At, Call, Instant, Mark, Marks}
 use Rattle.guarantees.specs.States.{processor-known, copyin-known, copyout-known, phase-known}
 use Rattle.guarantees.proofs.Proper.{Fair}
 use Rattle.guarantees.proofs.Frames.{clock-g}
@@ -92,6 +92,7 @@ module _ (table : Table) (marks : ℕ) (fair : Fair table marks) where
   unfolding AllServed answers samples
   answers-rise [] d g a = none-after (d .clock)
   answers-rise (Mark n m ∷ cs) d g a = absurd (false≢true (a .0))
+  answers-rise (Marks set m ∷ cs) d g a = absurd (false≢true (a .0))
   answers-rise (Instant t set ∷ cs) d g a =
       let e : eqb (refusal d t set) 0 ≡ true = eq-eqb (refusal d t set) 0 (a .1) in
       let next : State = at-g d t set in

@@ -6,7 +6,7 @@ use Rattle.lines.specs.declared.Text.{Text}
 use Rattle.rules.specs.Calls.{MarkStep}
 use Rattle.rules.specs.Tickets.{Ticketed, TicketedStep, Enquiry}
 use Rattle.dispatcher.specs.Dispatcher.{ticketed-of}
-use Rattle.dispatcher.proofs.Numbered.{ticketed, mark-ticketed}
+use Rattle.dispatcher.proofs.Numbered.{ticketed, mark-ticketed, marks-ticketed}
 use Rattle.call_entries.specs.Calls.{Reply}
 use borrow.Author.Needs.{needs}
 use Rattle.call_entries.proofs.answer.Statement.{statement}
@@ -60,9 +60,19 @@ returns-5 c =
 
 returns-6 : tie.Need-returns-6
 returns-6 c =
+    let step = c .before .before .mark-all in
+    rw (c .before .before .before .before .entry4 .given .1)
+    (record {
+      reply-is = ap₂ reply (marks-ticketed _ _ _ _ (step .ensures)) (c .mark-lines2 .ensures .whole ∙ ap (λ (s : MarkStep). text-of (mark-lines (s .answer))) (step .ensures .step));
+      fits = c .mark-lines2 .ensures .fits;
+      untouched = step .ensures .untouched;
+    })
+
+returns-7 : tie.Need-returns-7
+returns-7 c =
     let step = c .before .before .commit in
     let is = step .ensures .step in
-    rw (c .before .before .before .before .entry4 .given .1)
+    rw (c .before .before .before .before .entry5 .given .1)
     (record {
       reply-is = ap₂ reply (ap (λ (s : TicketedStep). s .left) is) (c .instant-lines2 .ensures .whole ∙ ap (λ (s : TicketedStep). text-of (instant-lines (s .answer))) is);
       fits = c .instant-lines2 .ensures .fits;
@@ -78,4 +88,5 @@ answer-spec =
     (λ c. search needs) (λ c κs. search needs) (λ c κs. search needs)
     (λ c. search needs) (λ c κs. search needs) (λ c κs. search needs)
     (λ c. search needs) (λ c κs. search needs) (λ c κs. search needs)
-    returns returns-2 returns-3 returns-4 returns-5 returns-6)
+    (λ c. search needs) (λ c κs. search needs) (λ c κs. search needs)
+    returns returns-2 returns-3 returns-4 returns-5 returns-6 returns-7)

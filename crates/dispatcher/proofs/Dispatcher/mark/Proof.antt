@@ -11,10 +11,10 @@ use Rattle.dispatcher.proofs.Dispatcher.mark.Tie as tie
 returns : tie.Need-returns
 unfolding mark
 returns c =
-    let s = c .before .before .before .before .before .args in
-    let n = c .before .before .mark-refusal .ensures (s .t1 .times) (s .t1 .codes) (beside-of (s .t1)) in
-    mark-answered _ _ _ _ (simp (← n, eq-eqb _ _ (c .before .if1 .taken), c .with-mark .ensures .0))
-    (simp (← n, eq-eqb _ _ (c .before .if1 .taken), c .with-mark .ensures .1)) (λ f. absurd (f (sym n ∙ c .before .if1 .taken)))
+    let s = c .before .before .before .before .before .before .args in
+    let n = c .before .before .before .mark-refusal .ensures (s .t1 .times) (s .t1 .codes) (beside-of (s .t1)) in
+    mark-answered _ _ _ _ (simp (← n, eq-eqb _ _ (c .before .before .if1 .taken), ← c .before .insert .ensures, c .with-marks .ensures .0))
+    (simp (← n, eq-eqb _ _ (c .before .before .if1 .taken), c .with-marks .ensures .1)) (λ f. absurd (f (sym n ∙ c .before .before .if1 .taken)))
 
 returns-2 : tie.Need-returns-2
 unfolding mark
@@ -26,4 +26,4 @@ returns-2 c =
 pub mark-spec : {M : Type 1} → statement M
 mark-spec = tie.close
     (tie.spec
-    (λ c κs. search needs) (λ c κs. search needs) returns returns-2)
+    (λ c κs. search needs) (λ c κs. search needs) (λ c κs. search needs) returns returns-2)

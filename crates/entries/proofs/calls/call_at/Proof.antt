@@ -33,8 +33,14 @@ enquiry-at-requires c κs = search needs
 returns-4 : tie.Need-returns-4
 unfolding call-at
 returns-4 c =
-    simp (lt-leb _ _ (c .before .before .before .before .before .if1 .left), one-byte, ne-eqb _ _ (c .before .before .before .if2 .left), ne-eqb _ _ (c .before .before .if3 .left),
-    eq-eqb _ _ (c .before .if4 .taken), c .enquiry-at .ensures)
+    simp (
+      lt-leb _ _ (c .before .before .before .before .before .if1 .left),
+      one-byte,
+      ne-eqb _ _ (c .before .before .before .if2 .left),
+      ne-eqb _ _ (c .before .before .if3 .left),
+      eq-eqb _ _ (c .before .if4 .taken),
+      c .enquiry-at .ensures,
+    )
 
 commit-at-requires : tie.Need-commit-at-requires
 commit-at-requires c κs = search needs
@@ -42,14 +48,45 @@ commit-at-requires c κs = search needs
 returns-5 : tie.Need-returns-5
 unfolding call-at
 returns-5 c =
-    simp (lt-leb _ _ (c .before .before .before .before .before .before .if1 .left), one-byte, ne-eqb _ _ (c .before .before .before .before .if2 .left),
-    ne-eqb _ _ (c .before .before .before .if3 .left), ne-eqb _ _ (c .before .before .if4 .left), eq-eqb _ _ (c .before .if5 .taken), c .commit-at .ensures)
+    simp (
+      lt-leb _ _ (c .before .before .before .before .before .before .if1 .left),
+      one-byte,
+      ne-eqb _ _ (c .before .before .before .before .if2 .left),
+      ne-eqb _ _ (c .before .before .before .if3 .left),
+      ne-eqb _ _ (c .before .before .if4 .left),
+      eq-eqb _ _ (c .before .if5 .taken),
+      c .commit-at .ensures,
+    )
+
+marks-at-requires : tie.Need-marks-at-requires
+marks-at-requires c κs = search needs
 
 returns-6 : tie.Need-returns-6
 unfolding call-at
 returns-6 c =
-    simp (lt-leb _ _ (c .before .before .before .before .before .if1 .left), one-byte, ne-eqb _ _ (c .before .before .before .if2 .left), ne-eqb _ _ (c .before .before .if3 .left),
-    ne-eqb _ _ (c .before .if4 .left), ne-eqb _ _ (c .if5 .left))
+    simp (
+      lt-leb _ _ (c .before .before .before .before .before .before .before .if1 .left),
+      one-byte,
+      ne-eqb _ _ (c .before .before .before .before .before .if2 .left),
+      ne-eqb _ _ (c .before .before .before .before .if3 .left),
+      ne-eqb _ _ (c .before .before .before .if4 .left),
+      ne-eqb _ _ (c .before .before .if5 .left),
+      eq-eqb _ _ (c .before .if6 .taken),
+      c .marks-at .ensures,
+    )
+
+returns-7 : tie.Need-returns-7
+unfolding call-at
+returns-7 c =
+    simp (
+      lt-leb _ _ (c .before .before .before .before .before .before .if1 .left),
+      one-byte,
+      ne-eqb _ _ (c .before .before .before .before .if2 .left),
+      ne-eqb _ _ (c .before .before .before .if3 .left),
+      ne-eqb _ _ (c .before .before .if4 .left),
+      ne-eqb _ _ (c .before .if5 .left),
+      ne-eqb _ _ (c .if6 .left),
+    )
 
 pub call-at-spec : {M : Type 1} → statement M
 call-at-spec =
@@ -65,4 +102,6 @@ call-at-spec =
     returns-4
     commit-at-requires
     returns-5
-    returns-6)
+    marks-at-requires
+    returns-6
+    returns-7)
