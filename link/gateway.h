@@ -198,9 +198,9 @@ uint8_t gateway_open_v5(const uint8_t *entries, size_t length, uint64_t *times, 
 uint8_t gateway_instant_v5(uint64_t time, uint32_t set, uint64_t *times, uint32_t *sets, uint8_t *codes, uint64_t *told,
                            const uint8_t *priority, const uint32_t *columns, uint64_t *release, uint8_t *blocked, uint64_t *waits,
                            uint64_t *ticket);
-uint8_t gateway_commit_v5(uint64_t given, uint64_t time, uint32_t set, uint64_t *times, uint32_t *sets, uint8_t *codes, uint64_t *told,
+uint8_t gateway_commit_v5(uint64_t time, uint32_t set, uint64_t *times, uint32_t *sets, uint8_t *codes, uint64_t *told,
                           const uint8_t *priority, const uint32_t *columns, uint64_t *release, uint8_t *blocked, uint64_t *waits,
-                          uint64_t *ticket);
+                          uint64_t *ticket, uint64_t given);
 uint8_t gateway_enquire_v5(uint64_t time, uint32_t set, const uint64_t *times, const uint32_t *sets, const uint8_t *codes, uint64_t *told,
                            const uint8_t *priority, const uint32_t *columns, const uint64_t *release, const uint8_t *blocked,
                            const uint64_t *waits, const uint64_t *ticket, uint64_t *given, uint64_t *ticks, uint32_t *tasks, uint8_t *units);
@@ -287,7 +287,7 @@ static inline uint8_t gateway_commit(gateway_dispatcher *d, uint64_t ticket, uin
 {
     uint64_t told[GATEWAY_ANSWER_WORDS];
     uint8_t number =
-        gateway_commit_v5(ticket, time, set, d->times, d->sets, d->codes, told, d->priority, d->columns, d->release, d->blocked, d->waits, &d->ticket);
+        gateway_commit_v5(time, set, d->times, d->sets, d->codes, told, d->priority, d->columns, d->release, d->blocked, d->waits, &d->ticket, ticket);
     if (number == 0) {
         gateway_put_answer(told, answer);
     }

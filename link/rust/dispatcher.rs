@@ -37,7 +37,6 @@ mod raw {
         ) -> u8;
 
         pub fn gateway_commit_v5(
-            given: u64,
             time: u64,
             set: u32,
             times: &mut [u64; 7],
@@ -50,6 +49,7 @@ mod raw {
             blocked: &mut [u8; 32],
             waits: &mut [u64; 32],
             ticket: &mut u64,
+            given: u64,
         ) -> u8;
 
         pub fn gateway_enquire_v5(
@@ -378,7 +378,6 @@ impl Dispatcher {
         // As above.
         unsafe {
             raw::gateway_commit_v5(
-                ticket,
                 time,
                 set,
                 &mut self.times,
@@ -391,6 +390,7 @@ impl Dispatcher {
                 &mut self.blocked,
                 &mut self.waits,
                 &mut self.ticket,
+                ticket,
             )
         }
     }

@@ -67,7 +67,6 @@ pub extern "C" fn gateway_instant_v5<'a>(
 // 9/13: an instant by the ticket `given`: 20 where that is not the present one, else the instant's answer.
 #[no_mangle]
 pub extern "C" fn gateway_commit_v5<'a>(
-    given: u64,
     time: u64,
     set: u32,
     times: &mut at::Times,
@@ -80,6 +79,7 @@ pub extern "C" fn gateway_commit_v5<'a>(
     blocked: &mut [u8; 32],
     waits: &mut [u64; 32],
     ticket: &mut u64,
+    given: u64,
 ) -> u8
     ensures { λ r. ⌜ Committed given
         (kept (now (times .entry)) (now (sets .entry)) (now (codes .entry)))
