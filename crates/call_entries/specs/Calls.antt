@@ -22,7 +22,8 @@ answered d (InstantCall t set) = record { left = instant-step d t set .left; tex
 answered d (MarkCall n m) = record { left = after-ticketed d (Mark n m); text = text-of (mark-lines (mark (d .state) n m .answer)) }
 answered d (EnquiryCall t set) =
     let e : Enquiry = enquiry d t set in record { left = d; text = text-of (enquiry-lines (e .step .answer) (e .ticket)) }
-answered d (MarksCall set m) = record { left = after-ticketed d (Marks set m); text = text-of (mark-lines (marks (d .state) set m .answer)) }
+answered d (MarksCall set m) =
+    record { left = after-ticketed d (Marks set m); text = text-of (mark-lines (marks (d .state) set m .answer)) }
 answered d (CommitCall k t set) = record { left = commit d k t set .left; text = text-of (instant-lines (commit d k t set .answer)) }
 
 -- what is handed back, read as the rules have it

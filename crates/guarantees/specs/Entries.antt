@@ -1,7 +1,7 @@
 -- That the entries tell the truth: of each job done (kind 16) and of each interval closed (kind 17) that the calls answer with, what it
 -- says is what the history has of it. What stands between quotation marks is document 01; below each quotation stands what it says of a
 -- history.
-use Rattle.guarantees.specs.Types.{_≡_, Bool, true, false, cond, _&&_, List, [], _∷_, _++_, ℕ, _+_, _<_, MaybeTask, NoTask, Task, State, Never, Tick, Call, Instant, Mark, Answer, Refused, Served, Occurred, Done, NoJob, Job, Closing, Unclosed, BeforeReleases, AfterReleases, JobEntry, IntervalEntry}
+use Rattle.guarantees.specs.Types.{_≡_, Bool, true, false, cond, _&&_, List, [], _∷_, _++_, ℕ, _+_, _<_, MaybeTask, NoTask, Task, State, Never, Tick, Call, Instant, Served, Occurred, Done, NoJob, Job, Closing, Unclosed, BeforeReleases, AfterReleases, JobEntry, IntervalEntry}
 use lib.Dec.{eqb, ltb}
 use lib.ListN.{getD}
 use Rattle.sets.specs.Sets.{member, bit}
@@ -38,7 +38,8 @@ module _ (n : ℕ) where
 -- whether it is marked after some calls, where it was or was not before them: by the last mark call on it that is served
 unfoldable pub marked-by : ℕ → Bool → State → List Call → Bool
 marked-by n b d [] = b
-marked-by n b d (c ∷ cs) = marked-by n (cond (member n (row c .names) && eqb (row c .number d) 0) (eqb (row c .mark) 1) b) (after-call d c) cs
+marked-by n b d (c ∷ cs) =
+    marked-by n (cond (member n (row c .names) && eqb (row c .number d) 0) (eqb (row c .mark) 1) b) (after-call d c) cs
 
 -- ---- A job done
 

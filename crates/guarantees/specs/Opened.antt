@@ -1,5 +1,5 @@
--- The claim on a promise: what opening from bytes returns, and, where it serves them, the claim for every list of calls and of requests from
--- the state returned, each read as the rules have it.
+-- The claim on a promise: what opening from bytes returns, and, where it serves them, the claim for every list of calls and of requests
+-- from the state returned, each read as the rules have it.
 use Rattle.guarantees.specs.Types.{_≡_, List, ℕ, NoRefusal, Call}
 use Rattle.table.specs.Refusals.{refusal-number, refusal-place}
 use Rattle.rules.specs.Calls.{opening}

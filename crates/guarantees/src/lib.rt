@@ -1,5 +1,5 @@
-// Demand 3, for every list of instants, mark calls, enquiries and commits: its statement is in specs/, its proof in proofs/. Whoever opens a dispatcher
-// here holds it.
+// Demand 3, for every list of instants, mark calls, enquiries and commits: its statement is in specs/, its proof in proofs/. Whoever
+// opens a dispatcher here holds it.
 mod planning;
 
 use dispatcher::Opening;

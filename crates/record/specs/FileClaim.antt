@@ -3,7 +3,7 @@
 use mathlib.Core.Path.{_≡_}
 use Prim.Native.Nat.{_<_}
 use lib.ListN.{length, take}
-use Rattle.record.specs.Types.{true, cond, List, [], _∷_, _++_, ℕ, _+_, Release, Head, NoRefusal, State, Done, NoJob, Job, Never, Tick, Occurred, Answer, Refused, Served, Step, Outcome}
+use Rattle.record.specs.Types.{true, cond, List, [], _∷_, _++_, ℕ, _+_, Release, Head, NoRefusal, State, Done, NoJob, Job, Never, Tick, Occurred, Outcome}
 use lib.Dec.{eqb}
 use Rattle.sets.specs.Sets.{bit}
 use Rattle.entries.specs.Limits as limits

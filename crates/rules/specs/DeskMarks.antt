@@ -4,7 +4,7 @@ use Rattle.rules.specs.Types.{_≡_, Bool, true, false, _||_, List, [], 
 use Prim.Native.Nat.{_≤_, _<_, _^_}
 use lib.Dec.{eqb}
 use Rattle.sets.specs.Sets.{member, insert}
-use Rattle.rules.specs.Calls.{mark, mark-refusal, with-mark, marks, marks-refusal, with-marks}
+use Rattle.rules.specs.Calls.{mark, mark-refusal, marks-refusal, with-marks}
 
 -- ---- "If any named task is unknown, the mark is bad, or any has a job pending or a release waiting"
 
