@@ -7,10 +7,7 @@ use Prim.Native.Nat.{ℕ, _-_, _^_, _≤_, _<_}
 use native.Mathlib.Omega.{arith}
 use borrow.Author.Tests.{lt-ltb, le-ltb}
 use lib.ListN.{set}
-use Rattle.rules.specs.Instant.{due}
 use Rattle.rules.specs.Calls.{before-now}
-use Rattle.rules.specs.Registers.{phase-in}
-use Rattle.rules.specs.Kept.{kept, registers-in}
 use Rattle.rules.specs.Steps.{Stands, IsDue}
 use Rattle.dispatcher.specs.Types.{Due, Never, Tick}
 use Rattle.dispatcher.specs.Telling.{due-told, due-number}
@@ -33,18 +30,15 @@ due-not-before {x} p t s l =
 
 -- ---- what is told
 
-module _ (times sets codes told : List ℕ) where
-  abbrev next : Due
-  next = due (phase-in (registers-in (kept times sets codes)))
+module _ (p : Due) (told : List ℕ) where
+  tells : {x : ℕ} → p ≡ Tick x → DueTold p told (set (set told 0 x) 4 1)
+  tells e = sym (ap (λ (q : Due). set (due-told q told) 4 (due-number q)) e)
 
-  tells : {x : ℕ} → next ≡ Tick x → DueTold times sets codes told (set told 0 x) 1
-  tells e = record { told-is = sym (ap (λ (p : Due). due-told p told) e); number-is = sym (ap (λ (p : Due). due-number p) e) }
-
-  pub tells-tick : {x : ℕ} → Stands x next → (x ≡ 2 ^ 64 - 1 → ⊥) → DueTold times sets codes told (set told 0 x) 1
+  pub tells-tick : {x : ℕ} → Stands x p → (x ≡ 2 ^ 64 - 1 → ⊥) → DueTold p told (set (set told 0 x) 4 1)
   tells-tick s ne = ⊎-elim (λ e. tells e) (λ w. absurd (ne (w .0))) (s .is)
 
-  pub tells-some : {x : ℕ} {some : Bool} → Stands x next → IsDue some next → some ≡ true → DueTold times sets codes told (set told 0 x) 1
+  pub tells-some : {x : ℕ} {some : Bool} → Stands x p → IsDue some p → some ≡ true → DueTold p told (set (set told 0 x) 4 1)
   tells-some s i h = ⊎-elim (λ e. tells e) (λ w. absurd (i .some h (w .1))) (s .is)
 
-  pub tells-none : {some : Bool} → IsDue some next → some ≡ false → DueTold times sets codes told told 0
-  tells-none i h = record { told-is = sym (ap (λ (p : Due). due-told p told) (i .none h)); number-is = sym (ap (λ (p : Due). due-number p) (i .none h)) }
+  pub tells-none : {some : Bool} → IsDue some p → some ≡ false → DueTold p told (set told 4 0)
+  tells-none i h = sym (ap (λ (q : Due). set (due-told q told) 4 (due-number q)) (i .none h))

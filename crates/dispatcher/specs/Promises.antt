@@ -1,19 +1,25 @@
 -- What the parts of a call promise, over the arrays that a dispatcher is kept as: the rules' outcome of the state that was read before,
 -- whatever stands in the arrays that they are not lent.
-use Rattle.dispatcher.specs.Types.{List, ℕ, _≡_, State, Stage, MaybeTask, NoTask, Task, JobEntry, IntervalEntry, Done, NoJob, Job, Closed, NoInterval, Span, Closing, Occurred}
-use Prim.Native.Nat.{_+_, _^_, _<_}
-use mathlib.Core.Bool.{Bool, false}
+use Rattle.dispatcher.specs.Types.{List, ℕ, _≡_, State, Stage, MaybeTask, NoTask, Task, JobEntry, IntervalEntry, Done, NoJob, Job, Closed, NoInterval, Span, Due}
+use Prim.Native.Nat.{_^_, _<_}
+use mathlib.Core.Bool.{Bool, false, cond}
 use lib.ListN.{getD, set}
 use Rattle.rules.specs.Instant.{processor-task, copyout-task, copyin-task, copyin-fate, entry-with, step-a, step-e, step-f, due, at-g, occurred}
-use Rattle.rules.specs.Calls.{refusal, not-after, mark-refusal, marks-refusal, with-marks}
+use Rattle.rules.specs.Calls.{refusal, not-after, before-now, mark-refusal, marks-refusal, with-marks}
 use Rattle.rules.specs.Registers.{as-task, processor-in, copyout-in, copyin-in, interval-in, phase-in}
-use Rattle.rules.specs.Kept.{Kept, kept, Whole, ByTask, by-task, Beside, beside, registers-in, clock-in, read, copyout-ends}
+use Rattle.rules.specs.Kept.{Kept, kept, Whole, by-task, Beside, beside, registers-in, clock-in, read, copyout-ends}
 use Rattle.dispatcher.specs.Telling as telling
 
 -- ---- Refusals
 
 abbrev pub NotAfter : ℕ → List ℕ → List ℕ → Bool → Type 0
 NotAfter t times codes x = x ≡ not-after (clock-in times codes) t
+
+-- what a time alone is refused by
+abbrev pub TimeRefuses : ℕ → List ℕ → List ℕ → ℕ → Type 0
+TimeRefuses t times codes x =
+    (sets : List ℕ) → x ≡ cond (not-after (clock-in times codes) t) 14
+    (cond (before-now (due (phase-in (registers-in (kept times sets codes)))) t) 15 0)
 
 abbrev pub Refuses : ℕ → ℕ → List ℕ → List ℕ → List ℕ → ℕ → Type 0
 Refuses t set times sets codes x = (b : Beside) → x ≡ refusal (read (kept times sets codes) b) t set
@@ -32,7 +38,7 @@ MarksAt set m sets sets' =
 -- ---- Telling a job
 
 pub record TellsJob (e : JobEntry) (told told' : List ℕ) : Type 0 where
-  pub told-is : told' ≡ telling.job-told e told
+  pub told-is : told' ≡ set (telling.job-told e told) 2 1
   pub task-fits : e .task < 256
   pub blocked-fits : e .blocked < 256
 
@@ -79,20 +85,18 @@ TellsInterval t p times codes told told' =
     (sets : List ℕ)
     → ToldInterval (entry-with (getD codes 0 0) t (interval-in (registers-in (kept times sets codes))) (as-task p)) told told'
 
--- ---- Telling the next due time
+-- ---- Telling what is skipped, and the next due time
 
-pub record DueTold (times sets codes told told' : List ℕ) (x : ℕ) : Type 0 where
-  pub told-is : told' ≡ telling.due-told (due (phase-in (registers-in (kept times sets codes)))) told
-  pub number-is : x ≡ telling.due-number (due (phase-in (registers-in (kept times sets codes))))
-
-abbrev pub TellsDue : List ℕ → List ℕ → List ℕ → List ℕ → ℕ → Type 0
-TellsDue times codes told told' x = (sets : List ℕ) → DueTold times sets codes told told' x
-
--- ---- Telling what there is
-
-pub record TellsFlags (skipped done first last next : ℕ) (told told' : List ℕ) : Type 0 where
-  pub told-is : told' ≡ set (set (set (set told 1 skipped) 2 done) 3 (first + last)) 4 next
+pub record TellsSkipped (skipped : ℕ) (told told' : List ℕ) : Type 0 where
+  pub told-is : told' ≡ set told 1 skipped
   pub skipped-fits : skipped < 2 ^ 32
+
+-- the due time, and whether there is one
+abbrev pub DueTold : Due → List ℕ → List ℕ → Type 0
+DueTold p told told' = told' ≡ set (telling.due-told p told) 4 (telling.due-number p)
+
+abbrev pub TellsDue : List ℕ → List ℕ → List ℕ → List ℕ → Type 0
+TellsDue times codes told told' = (sets : List ℕ) → DueTold (due (phase-in (registers-in (kept times sets codes)))) told told'
 
 -- ---- Steps that tell
 
@@ -101,47 +105,45 @@ DoneFits NoJob = Unit {0}
 DoneFits (Job e) = (e .task < 256) × (e .blocked < 256)
 
 -- a copy-out's end: step a of what is left is that of what was there
-pub record EndedAt (t : ℕ) (k : Kept) (b : Beside) (k' : Kept) (told told' : List ℕ) (x : ℕ) : Type 0 where
+pub record EndedAt (t : ℕ) (k : Kept) (b : Beside) (k' : Kept) (told told' : List ℕ) : Type 0 where
   pub whole : Whole k'
   pub no-more : copyout-ends t (k' .times) (k' .codes) ≡ false
   pub state : step-a (read k' b) t (read k' b .phase) .state ≡ step-a (read k b) t (read k b .phase) .state
-  pub told-is : told' ≡ telling.done-told (step-a (read k b) t (read k b .phase) .done) told
-  pub number-is : x ≡ telling.done-number (step-a (read k b) t (read k b .phase) .done)
+  pub told-is : told' ≡ telling.job-and-whether (step-a (read k b) t (read k b .phase) .done) told
   pub fits : DoneFits (step-a (read k b) t (read k b .phase) .done)
 
-abbrev pub EndsCopyOut : ℕ → List ℕ → List ℕ → List ℕ → List ℕ → List ℕ → List ℕ → List ℕ → List ℕ → List ℕ → ℕ → Type 0
-EndsCopyOut t release blocked times sets codes told sets' codes' told' x =
+abbrev pub EndsCopyOut : ℕ → List ℕ → List ℕ → List ℕ → List ℕ → List ℕ → List ℕ → List ℕ → List ℕ → List ℕ → Type 0
+EndsCopyOut t release blocked times sets codes told sets' codes' told' =
     (priority columns waits : List ℕ) → Whole (kept times sets codes)
-    → EndedAt t (kept times sets codes) (beside priority columns (by-task release blocked waits)) (kept times sets' codes') told told' x
+    → EndedAt t (kept times sets codes) (beside priority columns (by-task release blocked waits)) (kept times sets' codes') told told'
 
 -- the test of an interval's end: what is left, and what is told of the interval that ended
 abbrev pub ClosedReads : Closed → Type 0
 ClosedReads NoInterval = Unit {0}
 ClosedReads (Span e) = Readable e
 
-pub record TestedTold (n : ℕ) (after : Stage) (k' : Kept) (b' : Beside) (told told' : List ℕ) (x : ℕ) : Type 0 where
+pub record TestedTold (tell : Closed → List ℕ → List ℕ) (after : Stage) (k' : Kept) (b' : Beside) (told told' : List ℕ) : Type 0 where
   pub whole : Whole k'
   pub state : read k' b' ≡ after .state
-  pub told-is : told' ≡ telling.closed-told (after .closed) told
-  pub number-is : x ≡ telling.closed-number n (after .closed)
+  pub told-is : told' ≡ tell (after .closed) told
   pub reads : ClosedReads (after .closed)
 
 -- before the releases
-abbrev pub EndsBefore : ℕ → List ℕ → List ℕ → Kept → List ℕ → List ℕ → Kept → List ℕ → List ℕ → ℕ → Type 0
-EndsBefore t priority release k blocked told k' blocked' told' x =
+abbrev pub EndsBefore : ℕ → List ℕ → List ℕ → Kept → List ℕ → List ℕ → Kept → List ℕ → List ℕ → Type 0
+EndsBefore t priority release k blocked told k' blocked' told' =
     (columns waits : List ℕ) → Whole k
-    → TestedTold 1 (step-f (read k (beside priority columns (by-task release blocked waits))) t)
-    k' (beside priority columns (by-task release blocked' waits)) told told' x
+    → TestedTold telling.before-told (step-f (read k (beside priority columns (by-task release blocked waits))) t)
+    k' (beside priority columns (by-task release blocked' waits)) told told'
 
 -- and after them, behind the choice
 abbrev pub step-e-f : State → ℕ → Stage
 step-e-f d t = step-f (step-e d t (d .phase)) t
 
-abbrev pub EndsAfter : ℕ → List ℕ → List ℕ → List ℕ → Kept → List ℕ → List ℕ → Kept → List ℕ → List ℕ → ℕ → Type 0
-EndsAfter t priority release columns k blocked told k' blocked' told' x =
+abbrev pub EndsAfter : ℕ → List ℕ → List ℕ → List ℕ → Kept → List ℕ → List ℕ → Kept → List ℕ → List ℕ → Type 0
+EndsAfter t priority release columns k blocked told k' blocked' told' =
     (waits : List ℕ) → Whole k
-    → TestedTold 2 (step-e-f (read k (beside priority columns (by-task release blocked waits))) t)
-    k' (beside priority columns (by-task release blocked' waits)) told told' x
+    → TestedTold telling.after-told (step-e-f (read k (beside priority columns (by-task release blocked waits))) t)
+    k' (beside priority columns (by-task release blocked' waits)) told told'
 
 -- ---- Steps a to g
 

@@ -27,10 +27,6 @@ abbrev pub done-told : Done → List ℕ → List ℕ
 done-told NoJob told = told
 done-told (Job e) told = job-told e told
 
-abbrev pub closed-told : Closed → List ℕ → List ℕ
-closed-told NoInterval told = told
-closed-told (Span e) told = interval-told e told
-
 abbrev pub closing-told : Closing → List ℕ → List ℕ
 closing-told Unclosed told = told
 closing-told (BeforeReleases e) told = interval-told e told
@@ -45,10 +41,6 @@ abbrev pub done-number : Done → ℕ
 done-number NoJob = 0
 done-number (Job e) = 1
 
-abbrev pub closed-number : ℕ → Closed → ℕ
-closed-number n NoInterval = 0
-closed-number n (Span e) = n
-
 abbrev pub closing-number : Closing → ℕ
 closing-number Unclosed = 0
 closing-number (BeforeReleases e) = 1
@@ -62,6 +54,21 @@ unfoldable pub told-of : Occurred → List ℕ → List ℕ
 told-of o told =
     set (set (set (set (due-told (o .due) (closing-told (o .closed) (done-told (o .done) told)))
     1 (o .skipped)) 2 (done-number (o .done))) 3 (closing-number (o .closed))) 4 (due-number (o .due))
+
+-- ---- Told step by step
+
+-- the job that is done, and whether there is one
+abbrev pub job-and-whether : Done → List ℕ → List ℕ
+job-and-whether d told = set (done-told d told) 2 (done-number d)
+
+-- the interval that ended before the releases, and whether there is one; and where none did, one that ended after them
+abbrev pub before-told : Closed → List ℕ → List ℕ
+before-told NoInterval told = set told 3 0
+before-told (Span e) told = set (interval-told e told) 3 1
+
+abbrev pub after-told : Closed → List ℕ → List ℕ
+after-told NoInterval told = told
+after-told (Span e) told = set (interval-told e told) 3 2
 
 -- ---- Read back
 

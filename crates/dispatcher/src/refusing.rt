@@ -2,11 +2,7 @@
 use entries::limits;
 use rules::at;
 use rules::due_tick;
-ghost use mathlib.Core.Path.{_≡_};
-ghost use mathlib.Core.Bool.{not, _&&_};
-ghost use lib.Dec.{eqb, ltb};
-ghost use Rattle.entries.specs.Limits as limits;
-ghost use Rattle.dispatcher.specs.Promises.{NotAfter, Refuses, MarkRefuses, MarksRefuses};
+ghost use Rattle.dispatcher.specs.Promises.{NotAfter, TimeRefuses, Refuses, MarkRefuses, MarksRefuses};
 
 // Whether there was an instant at or after `t`: 0 is allowed first.
 fn not_after(t: u64, times: &at::Times, codes: &at::Codes) -> bool
@@ -18,17 +14,20 @@ fn not_after(t: u64, times: &at::Times, codes: &at::Codes) -> bool
     t <= times[at::LAST]
 }
 
-// Only a set that is not empty has a last time.
-fn too_late(t: u64, set: u32) -> bool
-    ensures { λ r. ⌜ r ≡ (not (eqb set 0) && ltb limits.last-release t) ⌝ }
+// By its time alone: 14, 15, in this order; 0 is none. The due time as a plain number is enough for 15, and cheaper than the enum.
+fn time_refusal(t: u64, times: &at::Times, codes: &at::Codes) -> u8
+    ensures { λ x. ⌜ TimeRefuses t (now (times .entry)) (now (codes .entry)) x ⌝ }
 {
-    if set == 0 {
-        return false;
+    if not_after(t, times, codes) {
+        return 14;
     }
-    t > limits::LAST_RELEASE
+    if due_tick(times, codes) < t {
+        return 15;
+    }
+    0
 }
 
-// An instant: 16, 10, 14, 15, in this order; 0 is none. The due time as a plain number is enough for 15, and cheaper than the enum.
+// An instant: 16, 10, 14, 15, in this order; 0 is none. Most instants have no release, and the empty set has neither 16 nor 10.
 pub fn refusal<'a>(
     t: u64,
     set: u32,
@@ -38,19 +37,16 @@ pub fn refusal<'a>(
 ) -> u8
     ensures { λ x. ⌜ Refuses t set (now (times .entry)) (now (sets .entry)) (now (codes .entry)) x ⌝ }
 {
+    if set == 0 {
+        return time_refusal(t, times, codes);
+    }
     if sets::difference(set, sets[at::PRESENT]) != 0 {
         return 16;
     }
-    if too_late(t, set) {
+    if t > limits::LAST_RELEASE {
         return 10;
     }
-    if not_after(t, times, codes) {
-        return 14;
-    }
-    if due_tick(times, codes) < t {
-        return 15;
-    }
-    0
+    time_refusal(t, times, codes)
 }
 
 // A mark call: 16, 6, 17, in this order; 0 is none.

@@ -2,16 +2,17 @@
 // first and told afterwards costs as much again. The test of an interval's end stands twice: as one function with two callers it is not
 // inlined. Which releases come too soon is asked first of all, since nothing before step c changes it: amid the steps it takes registers
 // from them.
+use crate::telling::CLOSED;
+use crate::telling::DONE;
 use crate::telling::WORDS;
 use crate::telling::all_words;
 use crate::telling::tell_due;
-use crate::telling::tell_flags;
 use crate::telling::tell_interval;
 use crate::telling::tell_job;
+use crate::telling::tell_skipped;
 use rules::at;
 use rules::codes;
 use table::Columns;
-ghost use Prim.Native.Nat.{_≤_};
 ghost use Rattle.rules.specs.Kept.{kept, by-task, beside};
 ghost use Rattle.dispatcher.specs.Promises.{EndsCopyOut, EndsBefore, EndsAfter, StepsTo};
 
@@ -28,9 +29,9 @@ fn end_copyout(
     release: &[u64; 32],
     blocked: &[u8; 32],
     told: &mut [u64; WORDS],
-) -> u64
-    ensures { λ x. ⌜ EndsCopyOut t (now (release .entry)) (now (blocked .entry)) (now (times .entry))
-        (now (sets .entry)) (now (codes .entry)) (now (told .entry)) (now (sets .exit)) (now (codes .exit)) (now (told .exit)) x ⌝ }
+)
+    ensures { λ _. ⌜ EndsCopyOut t (now (release .entry)) (now (blocked .entry)) (now (times .entry))
+        (now (sets .entry)) (now (codes .entry)) (now (told .entry)) (now (sets .exit)) (now (codes .exit)) (now (told .exit)) ⌝ }
 {
     if rules::copyout_ends(t, times, codes) {
         tell_job(
@@ -38,9 +39,9 @@ fn end_copyout(
             told,
         );
         rules::copied_out(sets, codes);
-        return 1;
+        return;
     }
-    0
+    told[DONE] = 0;
 }
 
 fn end_before(
@@ -52,20 +53,20 @@ fn end_before(
     release: &[u64; 32],
     blocked: &mut [u8; 32],
     told: &mut [u64; WORDS],
-) -> u64
-    ensures { λ x. ⌜ EndsBefore t (now (priority .entry)) (now (release .entry))
+)
+    ensures { λ _. ⌜ EndsBefore t (now (priority .entry)) (now (release .entry))
         (kept (now (times .entry)) (now (sets .entry)) (now (codes .entry))) (now (blocked .entry)) (now (told .entry))
-        (kept (now (times .exit)) (now (sets .exit)) (now (codes .exit))) (now (blocked .exit)) (now (told .exit)) x ⌝ }
-    ensures { λ x. ⌜ x ≤ 1 ⌝ }
+        (kept (now (times .exit)) (now (sets .exit)) (now (codes .exit))) (now (blocked .exit)) (now (told .exit)) ⌝ }
 {
     if rules::is_over(codes) {
         let p = rules::promoted(sets, codes, priority, release);
         rules::count_blocked(sets, codes, priority, blocked);
         tell_interval(t, p, times, codes, told);
         rules::close(p, times, sets, codes);
-        return BEFORE;
+        told[CLOSED] = BEFORE;
+        return;
     }
-    0
+    told[CLOSED] = 0;
 }
 
 fn end_after(
@@ -78,14 +79,13 @@ fn end_after(
     columns: &Columns,
     blocked: &mut [u8; 32],
     told: &mut [u64; WORDS],
-) -> u64
-    ensures { λ x. ⌜ EndsAfter t (now (priority .entry)) (now (release .entry)) (now (columns .entry))
+)
+    ensures { λ _. ⌜ EndsAfter t (now (priority .entry)) (now (release .entry)) (now (columns .entry))
         (kept (now (times .entry)) (now (sets .entry)) (now (codes .entry))) (now (blocked .entry)) (now (told .entry))
-        (kept (now (times .exit)) (now (sets .exit)) (now (codes .exit))) (now (blocked .exit)) (now (told .exit)) x ⌝ }
-    ensures { λ x. ⌜ x ≤ 2 ⌝ }
+        (kept (now (times .exit)) (now (sets .exit)) (now (codes .exit))) (now (blocked .exit)) (now (told .exit)) ⌝ }
 {
     if codes[at::COPYIN] == codes::NO_INTERVAL {
-        return 0;
+        return;
     }
     rules::choose(t, times, sets, codes, columns, priority, release);
     if rules::is_over(codes) {
@@ -93,9 +93,8 @@ fn end_after(
         rules::count_blocked(sets, codes, priority, blocked);
         tell_interval(t, p, times, codes, told);
         rules::close(p, times, sets, codes);
-        return AFTER;
+        told[CLOSED] = AFTER;
     }
-    0
 }
 
 pub fn steps<'a>(
@@ -122,14 +121,15 @@ pub fn steps<'a>(
     let soon = rules::too_soon(t, set, sets, columns, release, waits);
     all_words(told);
     rules::stamp(t, times, sets, codes);
-    let done = end_copyout(t, times, sets, codes, release, blocked, told);
+    end_copyout(t, times, sets, codes, release, blocked, told);
     rules::others_end(t, times, codes, columns);
-    let first = end_before(t, times, sets, codes, priority, release, blocked, told);
+    end_before(t, times, sets, codes, priority, release, blocked, told);
     let passing = sets::difference(set, soon);
     let r = rules::released(sets[at::PENDING], sets[at::WAITING], passing);
+    tell_skipped(sets::union(soon, r.skipped), told);
     let held = rules::held_over(codes, r.taken);
     rules::take_releases(t, r, sets, codes, priority, release, blocked, waits);
-    let last = end_after(
+    end_after(
         t,
         times,
         sets,
@@ -141,6 +141,5 @@ pub fn steps<'a>(
         told,
     );
     rules::begin_interval(t, held, times, sets, codes, columns, priority, release);
-    let next = tell_due(times, codes, told);
-    tell_flags(sets::union(soon, r.skipped), done, first, last, next, told);
+    tell_due(times, codes, told);
 }

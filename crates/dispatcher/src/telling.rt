@@ -4,13 +4,18 @@ use entries::JobEntry;
 use rules::at;
 use rules::codes;
 ghost use mathlib.Core.Path.{_≡_};
-ghost use Prim.Native.Nat.{_^_, _<_, _≤_};
+ghost use Prim.Native.Nat.{_^_, _<_};
 ghost use lib.ListN.{length};
 ghost use Rattle.rules.specs.Registers.{as-task};
-ghost use Rattle.dispatcher.specs.Promises.{TaskWord, ProcessorWord, CopyOutWord, CopyInWord, FateWord, TellsJob, TellsInterval, TellsDue, TellsFlags};
+ghost use Rattle.dispatcher.specs.Promises.{TaskWord, ProcessorWord, CopyOutWord, CopyInWord, FateWord, TellsJob, TellsInterval, TellsSkipped, TellsDue};
 
 // How many words there are.
 pub const WORDS: usize = 19;
+
+// The words that say what there is: whether a job is done, and whether an interval closed, 1 before the releases and 2 after them.
+pub const DONE: usize = 2;
+
+pub const CLOSED: usize = 3;
 
 // No task, as a word: more than a byte has.
 pub const NOBODY: u64 = 511;
@@ -45,6 +50,7 @@ pub fn tell_job(e: JobEntry, told: &mut [u64; WORDS])
     told[7] = e.completion;
     told[8] = wide(e.task);
     told[9] = wide(e.blocked);
+    told[DONE] = 1;
 }
 
 // The words of an interval's entry, of the numbers of its units: an entry that is made first and taken apart afterwards is slower.
@@ -114,38 +120,27 @@ pub fn tell_interval(
     told[18] = promoted_word(promoted);
 }
 
+// The skipped releases.
+pub fn tell_skipped(skipped: u32, told: &mut [u64; WORDS])
+    ensures { λ _. ⌜ TellsSkipped skipped (now (told .entry)) (now (told .exit)) ⌝ }
+{
+    told[1] = wider(skipped);
+}
+
 // The next due time, if there is one, and whether there is.
-pub fn tell_due(times: &at::Times, codes: &at::Codes, told: &mut [u64; WORDS]) -> u64
-    ensures { λ x. ⌜ TellsDue (now (times .entry)) (now (codes .entry)) (now (told .entry)) (now (told .exit)) x ⌝ }
+pub fn tell_due(times: &at::Times, codes: &at::Codes, told: &mut [u64; WORDS])
+    ensures { λ _. ⌜ TellsDue (now (times .entry)) (now (codes .entry)) (now (told .entry)) (now (told .exit)) ⌝ }
 {
     let tick = rules::due_tick(times, codes);
     if tick != u64::MAX {
         told[0] = tick;
-        return 1;
+        told[4] = 1;
+        return;
     }
     if rules::some_due(codes) {
         told[0] = tick;
-        return 1;
+        told[4] = 1;
+        return;
     }
-    0
-}
-
-// What there is: the skipped releases, whether a job is done, whether an interval closed, of which one at most ends at steps b and f, and
-// whether there is a due time.
-pub fn tell_flags(
-    skipped: u32,
-    done: u64,
-    first: u64,
-    last: u64,
-    next: u64,
-    told: &mut [u64; WORDS],
-)
-    requires { ⌜ first ≤ 1 ⌝ }
-    requires { ⌜ last ≤ 2 ⌝ }
-    ensures { λ _. ⌜ TellsFlags skipped done first last next (now (told .entry)) (now (told .exit)) ⌝ }
-{
-    told[1] = wider(skipped);
-    told[2] = done;
-    told[3] = first + last;
-    told[4] = next;
+    told[4] = 0;
 }

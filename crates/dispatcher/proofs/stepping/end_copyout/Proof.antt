@@ -25,4 +25,4 @@ end-copyout-spec =
     tie.close
     (tie.spec
     (λ c κs. search needs) (λ c κs. search needs) (λ c κs. search needs) (λ c κs. search needs) returns
-    returns-2)
+    (λ c. search needs) returns-2)

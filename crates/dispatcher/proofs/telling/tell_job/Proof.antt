@@ -1,4 +1,4 @@
--- `dispatcher::telling::tell_job` meets its contract: its five words. Assumes nothing.
+-- `dispatcher::telling::tell_job` meets its contract: its five words and the one that says that there is a job. Assumes nothing.
 use mathlib.Core.Path.{_≡_}
 use native.Mathlib.Omega.{arith}
 use Rattle.dispatcher.specs.Telling.{job-told}
@@ -18,4 +18,4 @@ tell-job-spec =
     tie.close
     (tie.spec
     (λ c. search needs) (λ c. search needs) (λ c. search needs) (λ c κs. search needs) (λ c. search needs)
-    (λ c κs. search needs) (λ c. search needs) returns)
+    (λ c κs. search needs) (λ c. search needs) (λ c. search needs) returns)
