@@ -24,8 +24,8 @@ OF_CLAIM = {"of-the-list", "entries", "with-empty-sets", "nothing-pending", "com
 OF_STATES = {"behind", "counts"}
 
 OF_HISTORIES = (
-    "PlansAccepted", "WrongRefused", "FigureTells", "OneEntry", "WaitedEntry", "ReleasesRefused", "Marks", "PlanEntries", "BoundsMet",
-    "SpacingsAccepted", "SpacingsRefused", "LastReleases")
+    "PlansAccepted", "WrongRefused", "LaterEnd", "FigureTells", "OneEntry", "WaitedEntry", "ReleasesRefused", "Marks", "PlanEntries",
+    "BoundsMet", "SpacingsAccepted", "SpacingsRefused", "LastReleases")
 
 RUNS = 26
 WITHOUT_DESKS = 22

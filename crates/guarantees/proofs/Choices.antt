@@ -39,11 +39,15 @@ use Rattle.guarantees.proofs.Causes.{c-same, e-same}
 module _ (pr columns : List ℕ) where
   -- ---- along a history
 
+  -- the engine has become free, and what it chose has finished or given way
+  abbrev Made : Choice → Type 0
+  Made x = (c : ℕ) × (x .free ≡ Tick c) × (x .seen ≡ x .pick)
+
   abbrev So : Choice → Due → Event → Type 0
   So x w e =
       ((n : ℕ) → finishes e ≡ true → details e .task ≡ Task n → (c : ℕ) × (x .pick ≡ Task n) × (x .free ≡ Tick c) × (w ≡ Tick (c + copyin-length columns n)))
       × ((n c : ℕ) → gives-way e ≡ true → details e .task ≡ Task n → (x .pick ≡ Task n) × (x .seen ≡ NoTask → x .free ≡ Tick c → w ≡ Tick (c + copyin-length columns n) → ⊥))
-      × (ends e ≡ true → x .seen ≡ x .pick)
+      × (ends e ≡ true → Made x)
       × ((n c : ℕ) → comes e ≡ true → x .pick ≡ Task n → x .seen ≡ NoTask → x .free ≡ Tick c → details e .tick ≤ c + copyin-length columns n)
 
   unfoldable pub Chosen : Choice → Due → List Event → Type 0
@@ -83,13 +87,17 @@ module _ (pr columns : List ℕ) where
   abbrev Readies : Choice → ℕ → Phase → Type 0
   Readies x pending p = (k : ℕ) → k < 32 → bit (member k (x .ready)) + spots k p ≡ bit (member k pending)
 
+  -- the engine has become free
+  abbrev Freed : Choice → Type 0
+  Freed x = (c : ℕ) × (x .free ≡ Tick c)
+
   -- what the engine copies in
   abbrev Run : Choice → CopyOut → CopyIn → Type 0
   Run x o Unchosen = (x .pick ≡ NoTask) × (x .seen ≡ NoTask)
-  Run x o NoneChosen = (copying-out o ≡ false) × (x .pick ≡ NoTask) × (x .seen ≡ NoTask)
+  Run x o NoneChosen = (copying-out o ≡ false) × (x .pick ≡ NoTask) × (x .seen ≡ NoTask) × Freed x
   Run x o (Copying n until) = (copying-out o ≡ false) × (x .pick ≡ Task n) × ((c : ℕ) × (x .free ≡ Tick c) × (until ≡ later c (copyin-length columns n)))
-  Run x o (Loaded n) = (copying-out o ≡ false) × (x .pick ≡ Task n) × (x .seen ≡ Task n)
-  Run x o (Cancelled n fate) = (copying-out o ≡ false) × (x .pick ≡ Task n) × (x .seen ≡ Task n)
+  Run x o (Loaded n) = (copying-out o ≡ false) × (x .pick ≡ Task n) × (x .seen ≡ Task n) × Freed x
+  Run x o (Cancelled n fate) = (copying-out o ≡ false) × (x .pick ≡ Task n) × (x .seen ≡ Task n) × Freed x
 
   abbrev Runs : Choice → Phase → Type 0
   Runs x (Between next outgoing) = x .seen ≡ x .pick
@@ -164,7 +172,7 @@ module _ (pr columns : List ℕ) where
         go true e k =
             unfold Chosen in (
               ((λ m y z. at-its-end e m z), (λ n i y. absurd (false≢true y)), (λ y. absurd (false≢true y)), (λ n i y. absurd (false≢true y))),
-              k (choice-by pr x (Finishes n)) (record { ready = refl; origins = λ j. refl }) refl (r .0, r .1, refl) tt tt,
+              k (choice-by pr x (Finishes n)) (record { ready = refl; origins = λ j. refl }) refl (r .0, r .1, refl, (r .2 .0, r .2 .1)) tt tt,
             )
         go false e k = k x (like x) refl r tt (e, p)
 
@@ -225,14 +233,14 @@ module _ (pr columns : List ℕ) where
 
       -- ---- b
 
-      run-seen : (x : Choice) (o : CopyOut) (c : CopyIn) → settled c ≡ true → Run x o c → x .seen ≡ x .pick
+      run-seen : (x : Choice) (o : CopyOut) (c : CopyIn) → settled c ≡ true → Run x o c → Made x
       run-seen x o Unchosen s r = absurd (false≢true s)
-      run-seen x o NoneChosen s r = r .2 ∙ sym (r .1)
+      run-seen x o NoneChosen s r = (r .3 .0, r .3 .1, r .2 ∙ sym (r .1))
       run-seen x o (Copying n until) s r = absurd (false≢true s)
-      run-seen x o (Loaded n) s r = r .2 ∙ sym (r .1)
-      run-seen x o (Cancelled n fate) s r = r .2 ∙ sym (r .1)
+      run-seen x o (Loaded n) s r = (r .3 .0, r .3 .1, r .2 ∙ sym (r .1))
+      run-seen x o (Cancelled n fate) s r = (r .3 .0, r .3 .1, r .2 ∙ sym (r .1))
 
-      ended-seen : (x : Choice) (i : Interval) → over i ≡ true → Mode x (Within i) → (x .seen ≡ x .pick) × (x .choosing ≡ false)
+      ended-seen : (x : Choice) (i : Interval) → over i ≡ true → Mode x (Within i) → Made x × (x .choosing ≡ false)
       ended-seen x i o m =
           ⊎-elim (λ z. clash (settled (i .copyin)) (settles i o) (ap settled (z .1 .0))) (λ z. (run-seen x (i .copyout) (i .copyin) (settles i o) (z .1), z .0)) m
 
@@ -250,7 +258,7 @@ module _ (pr columns : List ℕ) where
           go true o k =
               unfold Chosen in (
                 ((λ n y z. absurd (false≢true y)), (λ n j y. absurd (false≢true y)), (λ y. ended-seen x i o m .0), (λ n j y. absurd (false≢true y))),
-                k (λ j l. omega (arith, h j l, b-outgoing-bit present tasks j (i .processor) (rests i o), b-copyout-bit present tasks j (i .copyout) (no-copyout i o))) (inr (ended-seen x i o m .1, ended-seen x i o m .0, tt, tt)),
+                k (λ j l. omega (arith, h j l, b-outgoing-bit present tasks j (i .processor) (rests i o), b-copyout-bit present tasks j (i .copyout) (no-copyout i o))) (inr (ended-seen x i o m .1, ended-seen x i o m .0 .2, tt, tt)),
               )
           go false o k = stays (s .state .phase) e k
 
@@ -371,7 +379,7 @@ module _ (pr columns : List ℕ) where
       chosen-runs : (x : Choice) (c : State) (i : Interval) (q : MaybeTask) → c .table .columns ≡ columns → copying-out (i .copyout) ≡ false → x .pick ≡ q → x .free ≡ Tick t → x .seen ≡ NoTask
           → Runs x (choose c t i q .phase)
       unfolding choose
-      chosen-runs x c i NoTask e o p f s = (o, p, s)
+      chosen-runs x c i NoTask e o p f s = (o, p, s, (t, f))
       chosen-runs x c i (Task n) e o p f s = (o, p, (t, f, ap (λ (l : List ℕ). later t (copyin-length l n)) e))
 
       -- step e
@@ -400,13 +408,17 @@ module _ (pr columns : List ℕ) where
       abbrev Early : Choice → ℕ → Type 0
       Early x n = (c : ℕ) → x .seen ≡ NoTask → x .free ≡ Tick c → Tick t ≡ Tick (c + copyin-length columns n) → ⊥
 
+      -- what the engine has copied in, or still copies in
+      abbrev Held : Choice → Interval → ℕ → Type 0
+      Held x i n = (copying-out (i .copyout) ≡ false) × (x .pick ≡ Task n) × Early x n × Freed x
+
       abbrev Gave : Choice → State → State → Type 0
       Gave x c z = ((n : ℕ) × (giving-events-in (c .phase) (z .phase) ≡ GivesWay n ∷ []) × (x .pick ≡ Task n) × Early x n × Ready (choice-by pr x (GivesWay n)) z (z .phase)) ⊎ (z ≡ c)
 
-      cancelled : (x : Choice) (c : State) (i : Interval) (n fate : ℕ) → copying-out (i .copyout) ≡ false → x .pick ≡ Task n
+      cancelled : (x : Choice) (c : State) (i : Interval) (n fate : ℕ) → copying-out (i .copyout) ≡ false → x .pick ≡ Task n → Freed x
           → let z : State = cancel c i n fate true in Ready (choice-by pr x (GivesWay n)) z (z .phase)
       unfolding cancel
-      cancelled x c i n fate o p = inr ((o, p, refl), tt, tt)
+      cancelled x c i n fate o p f = inr ((o, p, refl, f), tt, tt)
 
       d-gave : (x : Choice) (c : State) (taken : ℕ) → Ready x c (c .phase) → Gave x c (step-d c taken (c .phase))
       d-gave x c taken h = d-fates (Gave x c) c taken (inr refl) (λ i n fate p held b. inl (gives i n fate p held (subst (Ready x c) p h)))
@@ -416,7 +428,7 @@ module _ (pr columns : List ℕ) where
               unfold cancel giving-events-in giving-events in
               ⊎-elim (λ z. ap (λ (c : CopyIn). giving-events (given-way c) (Task n)) (z .1)) (λ z. ap (λ (c : CopyIn). giving-events (given-way c) (Task n)) (z .0)) h
 
-          held-run : (i : Interval) (n fate : ℕ) → HeldFor (i .copyin) n fate → Ready x c (Within i) → (copying-out (i .copyout) ≡ false) × (x .pick ≡ Task n) × Early x n
+          held-run : (i : Interval) (n fate : ℕ) → HeldFor (i .copyin) n fate → Ready x c (Within i) → Held x i n
           held-run i n fate held r =
               ⊎-elim (λ a. ⊎-elim (λ z. absurd (true≢false (ap is-unchosen (sym (a .0) ∙ z .1)))) (λ z. absurd (true≢false (ap is-unchosen (sym (a .0) ∙ z .0)))) held)
               (λ a. ⊎-elim (λ z. copying (z .0) (z .1) (a .0) (a .2)) (λ z. loaded (z .0) (a .0)) held) r
@@ -437,20 +449,20 @@ module _ (pr columns : List ℕ) where
               is-unchosen (Loaded n) = false
               is-unchosen (Cancelled n fate) = false
 
-              copying : (until : ℕ) → i .copyin ≡ Copying n until → Run x (i .copyout) (i .copyin) → Unended (i .copyin) → (copying-out (i .copyout) ≡ false) × (x .pick ≡ Task n) × Early x n
+              copying : (until : ℕ) → i .copyin ≡ Copying n until → Run x (i .copyout) (i .copyin) → Unended (i .copyin) → Held x i n
               copying until e r u =
                   let y : Run x (i .copyout) (Copying n until) = subst (Run x (i .copyout)) e r in
                   let v : Unended (Copying n until) = subst Unended e u in
-                  (y .0, y .1, λ c s f z. early until (y .2 .0) c (y .2 .2) (v .0) (v .1) (sym (y .2 .1) ∙ f) z)
+                  (y .0, y .1, (λ c s f z. early until (y .2 .0) c (y .2 .2) (v .0) (v .1) (sym (y .2 .1) ∙ f) z), (y .2 .0, y .2 .1))
 
-              loaded : i .copyin ≡ Loaded n → Run x (i .copyout) (i .copyin) → (copying-out (i .copyout) ≡ false) × (x .pick ≡ Task n) × Early x n
-              loaded e r = let y : Run x (i .copyout) (Loaded n) = subst (Run x (i .copyout)) e r in (y .0, y .1, λ c s f z. absurd (no-task n (sym s ∙ y .2)))
+              loaded : i .copyin ≡ Loaded n → Run x (i .copyout) (i .copyin) → Held x i n
+              loaded e r = let y : Run x (i .copyout) (Loaded n) = subst (Run x (i .copyout)) e r in (y .0, y .1, (λ c s f z. absurd (no-task n (sym s ∙ y .2))), y .3)
 
           gives : (i : Interval) (n fate : ℕ) → c .phase ≡ Within i → HeldFor (i .copyin) n fate → Ready x c (Within i)
               → let z : State = cancel c i n fate true in (m : ℕ) × (giving-events-in (c .phase) (z .phase) ≡ GivesWay m ∷ []) × (x .pick ≡ Task m) × Early x m × Ready (choice-by pr x (GivesWay m)) z (z .phase)
           gives i n fate p held r =
-              let h : (copying-out (i .copyout) ≡ false) × (x .pick ≡ Task n) × Early x n = held-run i n fate held r in
-              (n, subst (λ (q : Phase). giving-events-in q (cancel c i n fate true .phase) ≡ GivesWay n ∷ []) (sym p) (gives-it i n fate held), h .1, h .2, cancelled x c i n fate (h .0) (h .1))
+              let h : Held x i n = held-run i n fate held r in
+              (n, subst (λ (q : Phase). giving-events-in q (cancel c i n fate true .phase) ≡ GivesWay n ∷ []) (sym p) (gives-it i n fate held), h .1, h .2, cancelled x c i n fate (h .0) (h .1) (h .3))
 
       -- step c
       c-ready : (x : Choice) (b c : State) (taken : ℕ) (p : Phase) → Ready x c p → Ready x c (with-candidates b taken p)
@@ -497,7 +509,7 @@ module _ (pr columns : List ℕ) where
           go true o k =
               unfold Chosen in (
                 ((λ n y z. absurd (false≢true y)), (λ n j y. absurd (false≢true y)), (λ y. run-seen x (i .copyout) (i .copyin) (settles i o) m), (λ n j y. absurd (false≢true y))),
-                k (λ j l. omega (arith, h j l, b-outgoing-bit present tasks j (i .processor) (rests i o), b-copyout-bit present tasks j (i .copyout) (no-copyout i o))) (run-seen x (i .copyout) (i .copyin) (settles i o) m),
+                k (λ j l. omega (arith, h j l, b-outgoing-bit present tasks j (i .processor) (rests i o), b-copyout-bit present tasks j (i .copyout) (no-copyout i o))) (run-seen x (i .copyout) (i .copyin) (settles i o) m .2),
               )
           go false o k = stays (s .state .phase) e k
 
@@ -625,10 +637,10 @@ module _ (pr columns : List ℕ) where
 
       run-as : (x y : Choice) (o : CopyOut) (c : CopyIn) → y .free ≡ x .free → y .seen ≡ x .seen → y .pick ≡ x .pick → Run x o c → Run y o c
       run-as x y o Unchosen f s p r = (p ∙ r .0, s ∙ r .1)
-      run-as x y o NoneChosen f s p r = (r .0, p ∙ r .1, s ∙ r .2)
+      run-as x y o NoneChosen f s p r = (r .0, p ∙ r .1, s ∙ r .2, (r .3 .0, f ∙ r .3 .1))
       run-as x y o (Copying n until) f s p r = (r .0, p ∙ r .1, (r .2 .0, f ∙ r .2 .1, r .2 .2))
-      run-as x y o (Loaded n) f s p r = (r .0, p ∙ r .1, s ∙ r .2)
-      run-as x y o (Cancelled n fate) f s p r = (r .0, p ∙ r .1, s ∙ r .2)
+      run-as x y o (Loaded n) f s p r = (r .0, p ∙ r .1, s ∙ r .2, (r .3 .0, f ∙ r .3 .1))
+      run-as x y o (Cancelled n fate) f s p r = (r .0, p ∙ r .1, s ∙ r .2, (r .3 .0, f ∙ r .3 .1))
 
       runs-as : (x y : Choice) (p : Phase) → y .free ≡ x .free → y .seen ≡ x .seen → y .pick ≡ x .pick → Runs x p → Runs y p
       runs-as x y (Between next outgoing) f s p r = s ∙ r ∙ sym p

@@ -68,5 +68,7 @@ module _ (priority : List ℕ) where
     -- no instant comes behind the end of one under way
     pub each-instant : (before after : List Event) (n t c : ℕ) → h ≡ before ++ (Comes t ∷ after)
         → choice before .pick ≡ Task n → choice before .seen ≡ NoTask → choice before .free ≡ Tick c → t ≤ c + copyin-length columns n
-    -- and an interval ends when that copy-in has finished or given way, or nobody was ready
-    pub each-end : (before after : List Event) (t : ℕ) → h ≡ before ++ (Ends t ∷ after) → choice before .seen ≡ choice before .pick
+    -- and an interval ends when "its copy-in choice has been made and no copy is under way": the engine has become free in it, and that
+    -- copy-in has finished or given way, or nobody was ready
+    pub each-end : (before after : List Event) (t : ℕ) → h ≡ before ++ (Ends t ∷ after)
+        → (c : ℕ) × (choice before .free ≡ Tick c) × (choice before .seen ≡ choice before .pick)

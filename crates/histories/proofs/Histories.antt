@@ -28,7 +28,7 @@ use Rattle.guarantees.specs.Queries.{details, is-task, takes, completes, after,
 use Rattle.guarantees.specs.Figure.{greatest, longest-interval, not-lower-in, before-start}
 use Rattle.guarantees.specs.Claim.{Holds, Completed, TakenLater, AllCompleted, Claim, Demand3}
 use Rattle.sets.proofs.Laws.{by-test, same-task}
-use Rattle.histories.specs.Histories.{task, tasks, three, plans-table, spaced-tasks, spaced-table, AcceptsOf, Accepts, Refuses, PlansAccepted, WrongRefused, calls-a, history-a, calls-b, history-b, calls-c, history-c, calls-d, history-d, calls-e, history-e, calls-f, history-f, calls-f′, history-f′, calls-waiting, history-waiting, second-lower, second-finished, thrown-out-runs, third-idle, third-lower, copyout-late, four-intervals, copyout-not-at-once, completion-late, completion-missing, completion-unexecuted, begins-late, no-ticks, not-executed, loaded-late, promoted-early, execution-long, promoted-unmarked, starts-unasked, starts-twice, stops-unstarted, cut-short, one-waits, never-taken, two-wait, waited-unexecuted, before-13, before-17, job-1, Tells, OneEntry, WaitedEntry, taken-late, waits-for-nothing, taken-twice, completed-twice, runs-unreleased, executed-again, another-tick, instants-fall, nobody-promoted, promoted-late, promoted-beside-the-loaded, begins-twice, ends-twice, finishes-twice, gives-way-twice, FigureRefuses, FigureTells, unmarked-in-four, marked-in-three, marked-behind-idle, marked-idles, lasts-long, open-long, completes-behind-two, unmarked-late, marked-late, between-unstarted, between-unstopped, Marks, calls-one, taken-another, up-to-5, ReleasesRefused, calls-skipped, history-skipped, calls-third, history-third, RefusesSpaced, taken-at-0, SpacingsAccepted, SpacingsRefused, LastReleases, PlanEntries, waits-between, ends-late, stays-open, ends-a-tick-late, taken-unchosen, ends-behind-a-taking, begins-a-tick-late, lower-chosen, nobody-chosen, copyin-short, copyin-overdue, cancelled-at-its-end, gives-way-unchosen, calls-unmarked, history-unmarked, BoundsMet}
+use Rattle.histories.specs.Histories.{task, tasks, three, plans-table, spaced-tasks, spaced-table, AcceptsOf, Accepts, Refuses, PlansAccepted, WrongRefused, calls-a, history-a, calls-b, history-b, calls-c, history-c, calls-d, history-d, calls-e, history-e, calls-f, history-f, calls-f′, history-f′, calls-waiting, history-waiting, second-lower, second-finished, thrown-out-runs, third-idle, third-lower, copyout-late, four-intervals, copyout-not-at-once, completion-late, completion-missing, completion-unexecuted, begins-late, no-ticks, not-executed, loaded-late, promoted-early, execution-long, promoted-unmarked, starts-unasked, starts-twice, stops-unstarted, cut-short, one-waits, never-taken, two-wait, waited-unexecuted, before-13, before-17, job-1, Tells, OneEntry, WaitedEntry, taken-late, waits-for-nothing, taken-twice, completed-twice, runs-unreleased, executed-again, another-tick, instants-fall, nobody-promoted, promoted-late, promoted-beside-the-loaded, begins-twice, ends-twice, finishes-twice, gives-way-twice, FigureRefuses, FigureTells, unmarked-in-four, marked-in-three, marked-behind-idle, marked-idles, lasts-long, open-long, completes-behind-two, unmarked-late, marked-late, between-unstarted, between-unstopped, Marks, calls-one, taken-another, up-to-5, ReleasesRefused, calls-skipped, history-skipped, calls-third, history-third, RefusesSpaced, taken-at-0, SpacingsAccepted, SpacingsRefused, LastReleases, PlanEntries, waits-between, ends-late, stays-open, ends-a-tick-late, taken-unchosen, ends-behind-a-taking, begins-a-tick-late, lower-chosen, nobody-chosen, copyin-short, copyin-overdue, cancelled-at-its-end, gives-way-unchosen, slow-tasks, slow-table, calls-slow, history-slow, ends-copying-out, LaterEnd, calls-unmarked, history-unmarked, BoundsMet}
 use Rattle.guarantees.specs.Intervals.{ended}
 use Rattle.guarantees.specs.Entries.{lower-in, handed-in, marked-by}
 use Rattle.guarantees.specs.Queries.{until}
@@ -47,7 +47,8 @@ unfolding Words.numberAt Sets.member Sets.below Sets.collect Sets.union Sets.int
     Instant.deferred-at Instant.skipped-at Instant.at-e Instant.at-f Instant.at-g Instant.occurred Calls.opened Calls.opening Calls.unknown Calls.refusal Calls.served Calls.instant History.processor-events
     History.processor-events-in History.finish-events History.finish-events-in History.completion-events History.end-events History.take-events History.defer-events History.giving-events
     History.giving-events-in History.begin-events History.execution-events History.start-events History.happens Calls.after-call History.by-call History.after-calls History.history task tasks three
-    plans-table spaced-tasks spaced-table calls-a history-a calls-b history-b calls-c history-c calls-d history-d calls-e history-e calls-f history-f calls-f′ history-f′ calls-waiting history-waiting calls-skipped history-skipped calls-third history-third
+    plans-table spaced-tasks spaced-table slow-tasks slow-table calls-a history-a calls-b history-b calls-c history-c calls-d history-d calls-e history-e calls-f history-f calls-f′ history-f′ calls-waiting history-waiting calls-skipped history-skipped calls-third history-third
+    calls-slow history-slow
 computed = tt
 
 -- the bytes are those of a table
@@ -401,7 +402,7 @@ refuses-lower-chosen h = other-task 2 3 (λ e. omega arith) (h .each-copyin .eac
 
 refuses-nobody-chosen : Refuses nobody-chosen
 unfolding nobody-chosen after plans-table three Sets.member Sets.below Sets.collect Sets.insert Sets.remove Order.better Order.highest-below Order.highest
-refuses-nobody-chosen h = no-task 3 (h .each-copyin .each-end (take 11 nobody-chosen) (drop 12 nobody-chosen) 6 refl)
+refuses-nobody-chosen h = no-task 3 (h .each-copyin .each-end (take 11 nobody-chosen) (drop 12 nobody-chosen) 6 refl .2)
 
 refuses-copyin-short : Refuses copyin-short
 unfolding copyin-short after plans-table three Sets.member Sets.below Sets.collect Sets.insert Sets.remove Order.better Order.highest-below Order.highest
@@ -482,6 +483,25 @@ wrong-refused = (
   refuses-late-taking,
   refuses-waited-unexecuted,
 )
+
+-- ---- the later end
+
+opens-slow : Opens slow-tasks slow-table
+unfolding computed
+opens-slow = record { served = refl; read = refl }
+
+slow-made : MakesOf slow-tasks calls-slow history-slow
+unfolding computed
+slow-made = record { made = refl; at-rest = refl }
+
+refuses-ends-copying-out : Holds slow-table ends-copying-out → ⊥
+unfolding ends-copying-out after
+refuses-ends-copying-out h =
+    let x : (c : ℕ) × (Never ≡ Tick c) × _ = h .each-copyin .each-end (take 18 ends-copying-out) (drop 19 ends-copying-out) 10 refl in not-never (x .0) (x .1)
+
+pub later-end : LaterEnd
+unfolding LaterEnd
+later-end = (accepts-of slow-tasks slow-table opens-slow calls-slow history-slow slow-made, refuses-ends-copying-out)
 
 -- ---- the figure
 

@@ -678,6 +678,42 @@ WrongRefused =
     × (AllCompleted taken-late → ⊥)
     × (AllCompleted waited-unexecuted → ⊥)
 
+-- ---- R6: a copy-out that lasts longer than an execution
+
+-- the same tasks, where the copy-out of 3 lasts 4 ticks
+unfoldable pub slow-tasks : List ℕ
+slow-tasks = task 1 1 1 2 3 1 ++ (task 2 2 0 2 4 1 ++ task 3 3 0 2 5 4)
+
+unfoldable pub slow-table : Table
+slow-table =
+    record { present = 14; spaced = 0; priority = three 1 2 3; columns = three 2 2 2 ++ (three 3 4 5 ++ (three 1 1 4 ++ three 0 0 0)) }
+
+unfoldable pub calls-slow : List Call
+calls-slow = Instant 0 8 ∷ Instant 2 2 ∷ Instant 4 0 ∷ Instant 7 0 ∷ Instant 10 0 ∷ Instant 11 0 ∷ Instant 12 0 ∷ []
+
+-- the interval that begins at 7 executes 1 until 10, copies 3 out until 11, and ends then
+unfoldable pub history-slow : List Event
+history-slow =
+    Comes 0 ∷ Takes 3 0 false ∷ Begins 0 NoTask NoTask ∷
+    Comes 2 ∷ Finishes 3 ∷ Ends 2 ∷ Takes 1 2 true ∷ Begins 2 (Task 3) NoTask ∷ Starts 3 2 ∷
+    Comes 4 ∷ Finishes 1 ∷
+    Comes 7 ∷ Stops 3 7 ∷ Ends 7 ∷ Begins 7 (Task 1) (Task 3) ∷ Starts 1 7 ∷
+    Comes 10 ∷ Stops 1 10 ∷
+    Comes 11 ∷ Completes 3 11 ∷ Ends 11 ∷ Begins 11 NoTask (Task 1) ∷
+    Comes 12 ∷ Completes 1 12 ∷ Ends 12 ∷ []
+
+-- it ends with the execution, while it copies 3 out; the list does not go on to where 3 should complete
+unfoldable pub ends-copying-out : List Event
+ends-copying-out =
+    Comes 0 ∷ Takes 3 0 false ∷ Begins 0 NoTask NoTask ∷
+    Comes 2 ∷ Finishes 3 ∷ Ends 2 ∷ Takes 1 2 true ∷ Begins 2 (Task 3) NoTask ∷ Starts 3 2 ∷
+    Comes 4 ∷ Finishes 1 ∷
+    Comes 7 ∷ Stops 3 7 ∷ Ends 7 ∷ Begins 7 (Task 1) (Task 3) ∷ Starts 1 7 ∷
+    Comes 10 ∷ Stops 1 10 ∷ Ends 10 ∷ Begins 10 NoTask (Task 1) ∷ []
+
+unfoldable pub LaterEnd : Type 0
+LaterEnd = AcceptsOf slow-tasks slow-table calls-slow history-slow × (Holds slow-table ends-copying-out → ⊥)
+
 -- ---- 7/13: the figure. M is 7 here: the L + C of task 3
 
 -- an unmarked job with four intervals, none of which executes one that is not lower: 3 is copied in before 2, and the third is idle
