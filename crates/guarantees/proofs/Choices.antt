@@ -1,37 +1,37 @@
 -- What the engine copies in, by the history: the job that is highest when the engine becomes free, for as long as its copy-in lasts; step by step and along the
 -- calls.
-use Rattle.guarantees.specs.Types.{_≡_, refl, sym, ap, _∙_, subst, Bool, true, false, cond, not, _||_, true≢false, false≢true, List, [], _∷_, _++_, append-assoc, _⊎_, inl, inr, ⊎-elim, ℕ, zero, suc, _+_, _≤_, _<_, Table, Jobs, MaybeTask, NoTask, Task, Processor, CopyOut, NoCopyOut, CopyingOut, CopiedOut, CopyIn, Unchosen, NoneChosen, Copying, Loaded, Cancelled, Interval, Next, NoneNext, LoadedNext, PromotedNext, Outgoing, NoneOutgoing, AwaitsCopyOut, Phase, Between, Within, State, Stage, NoJob, Job, Due, Never, Tick, Call}
+use Rattle.guarantees.specs.Types.{_≡_, refl, sym, ap, _∙_, subst, Bool, true, false, cond, not, _&&_, _||_, true≢false, false≢true, List, [], _∷_, _++_, append-assoc, _⊎_, inl, inr, ⊎-elim, ℕ, zero, suc, _+_, _≤_, _<_, _^_, Table, Clock, Jobs, MaybeTask, NoTask, Task, Processor, Idle, CopyingIn, Executing, Finished, CopyOut, NoCopyOut, CopyingOut, CopiedOut, CopyIn, Unchosen, NoneChosen, Copying, Loaded, Cancelled, Interval, Next, NoneNext, LoadedNext, PromotedNext, Outgoing, NoneOutgoing, AwaitsCopyOut, Phase, Between, Within, State, Stage, NoJob, Job, Due, Never, Tick, Call}
 use mathlib.Core.List.{append-nil}
 use native.Mathlib.Omega.{arith}
-use borrow.Author.Tests.{eqb-true, eqb-false}
+use borrow.Author.Tests.{eqb-true, eqb-false, eq-eqb, not-true, not-false}
 use lib.Dec.{eqb}
 use lib.ListN.{getD}
-use Rattle.table.specs.Table.{copyin-length}
+use Rattle.table.specs.Table.{copyin-length, execution-length}
 use Rattle.sets.specs.Sets.{member, union, insert, bit}
-use Rattle.sets.proofs.Laws.{by-test, clash, none, same-task, united, inserted, removed}
+use Rattle.sets.proofs.Laws.{by-test, clash, none, same-task, member-task, empty, united, inserted, removed}
 use Rattle.rules.specs.With.{at-clock, later}
 use Rattle.rules.specs.Order.{highest, highest-of}
 use Rattle.rules.specs.Calls.{opened}
-use Rattle.rules.specs.Instant.{step-a, without-done, step-b, step-c, step-d, step-e, step-g, cancel, choose, choose-if, close, close-stage, over, settled, copying-out, copyin-at, copyout-at, ended, completed, job-entry, begin, begin-processor, begin-copyout, wanted, processor-task, copyout-task, with-candidates, steps-c-d, steps-c-to-e, at-a, at-b, at-e, at-f, at-g, taken, taken-at, deferred-at, fresh-stage}
-use Rattle.guarantees.specs.History.{Event, Comes, Starts, Stops, Finishes, Completes, Ends, Takes, Defers, GivesWay, Begins, history, happens, processor-events-in, finish-events, finish-events-in, completion-events, end-events, take-events, defer-events, given-way, giving-events, giving-events-in, begin-events, start-events}
-use Rattle.guarantees.specs.Queries.{details, comes, finishes, ends, gives-way, after, Origin, origin-by}
+use Rattle.rules.specs.Instant.{resting, processor-at, step-a, without-done, step-b, step-c, step-d, step-e, step-g, cancel, choose, choose-if, close, close-stage, over, settled, copying-out, copyin-at, copyout-at, ended, completed, job-entry, begin, begin-processor, begin-copyout, wanted, processor-task, copyout-task, with-candidates, steps-c-d, steps-c-to-e, at-a, at-b, at-e, at-f, at-g, taken, taken-at, deferred-at, fresh-stage}
+use Rattle.guarantees.specs.History.{Event, Comes, Starts, Stops, Finishes, Completes, Ends, Takes, Defers, GivesWay, Begins, history, happens, processor-events, processor-events-in, finish-events, finish-events-in, completion-events, end-events, take-events, defer-events, given-way, giving-events, giving-events-in, begin-events, start-events}
+use Rattle.guarantees.specs.Queries.{details, comes, finishes, ends, begins, gives-way, after, at-rest, Origin, origin-by}
 use Rattle.guarantees.specs.Pending.{now-by}
-use Rattle.guarantees.specs.Copying.{Choice, no-choice, choice, without-task, ready-by, highest-ready, choice-by, Copies}
+use Rattle.guarantees.specs.Copying.{Choice, no-choice, choice, without-task, ready-by, highest-ready, choice-by, has-task, Copies}
 use Rattle.guarantees.proofs.Proper.{Fair}
 use Rattle.guarantees.proofs.Walk.{walk}
 use Rattle.guarantees.proofs.Cases.{HeldFor, held-at, copyin-cases, d-fates, d-cases, e-cases}
 use Rattle.guarantees.proofs.Steps.{Sub, settles}
-use Rattle.guarantees.proofs.Frames.{Frame, frame, at-c, b-frame, d-frame, frame-e, frame-g, pending-g, release-b, waiting-b, release-g, waiting-g, table-b, c-table}
+use Rattle.guarantees.proofs.Frames.{Frame, frame, at-c, b-frame, d-frame, frame-e, frame-g, pending-g, release-b, waiting-b, release-g, waiting-g, table-b, c-table, clock-g}
 use Rattle.guarantees.proofs.Highest.{highest-same}
 use Rattle.guarantees.proofs.Releases.{taken-not-pending, passed}
-use Rattle.guarantees.proofs.Settled.{Decided, DecidedAt}
-use Rattle.guarantees.proofs.Events.{by-processor-at, by-takes, by-defers, by-starts, tail-of, happens-parts, front-parts, tail-parts}
+use Rattle.guarantees.proofs.Settled.{Decided, DecidedAt, OpenAt}
+use Rattle.guarantees.proofs.Events.{by-takes, by-defers, by-starts, tail-of, happens-parts, front-parts, tail-parts}
 use Rattle.guarantees.proofs.Places.{Parted, copyin-bit, processor-bit, copyout-bit, next-bit, outgoing-bit, stage, rests, no-copyout, a-moves, b-outgoing-bit, b-copyout-bit, g-processor, g-copyout, b-moves, to-b, to-e}
 use Rattle.guarantees.proofs.Origins.{OriginIs, taken-origin, deferred-origin, takes-origin, defers-origin, c-origin, opened-origin}
 use Rattle.guarantees.proofs.Deferred.{at-task}
-use Rattle.guarantees.proofs.Served.{Served-at, served-at}
-use Rattle.guarantees.proofs.Invariant.{Good, good-opened, good-next, good-quiet}
-use Rattle.guarantees.proofs.Times.{Times, copyin-times}
+use Rattle.guarantees.proofs.Served.{last, Served-at, served-at}
+use Rattle.guarantees.proofs.Invariant.{Until, mass, debt, few-f, Good, good-opened, good-next, good-quiet}
+use Rattle.guarantees.proofs.Times.{Times, copyin-times, times-map}
 use Rattle.guarantees.proofs.CopyOuts.{Both, begun-both, Plain, plain}
 use Rattle.guarantees.proofs.Courses.{gives-same}
 use Rattle.guarantees.proofs.Causes.{c-same, e-same}
@@ -43,15 +43,26 @@ module _ (pr columns : List ℕ) where
   abbrev Made : Choice → Type 0
   Made x = (c : ℕ) × (x .free ≡ Tick c) × (x .seen ≡ x .pick)
 
+  -- where an instant is over no interval is open that is over, and no copy-in is under way that should have ended
+  abbrev Rest : Choice → Due → Type 0
+  Rest x w =
+      ((c : ℕ) → x .free ≡ Tick c → x .works ≡ false → x .seen ≡ x .pick → ⊥)
+      × ((n t c : ℕ) → x .pick ≡ Task n → x .seen ≡ NoTask → x .free ≡ Tick c → w ≡ Tick t → t < c + copyin-length columns n)
+
+  -- and none comes behind its end
+  abbrev InTime : Choice → ℕ → Type 0
+  InTime x t = (n c : ℕ) → x .pick ≡ Task n → x .seen ≡ NoTask → x .free ≡ Tick c → t ≤ c + copyin-length columns n
+
   abbrev So : Choice → Due → Event → Type 0
   So x w e =
       ((n : ℕ) → finishes e ≡ true → details e .task ≡ Task n → (c : ℕ) × (x .pick ≡ Task n) × (x .free ≡ Tick c) × (w ≡ Tick (c + copyin-length columns n)))
       × ((n c : ℕ) → gives-way e ≡ true → details e .task ≡ Task n → (x .pick ≡ Task n) × (x .seen ≡ NoTask → x .free ≡ Tick c → w ≡ Tick (c + copyin-length columns n) → ⊥))
       × (ends e ≡ true → Made x)
-      × ((n c : ℕ) → comes e ≡ true → x .pick ≡ Task n → x .seen ≡ NoTask → x .free ≡ Tick c → details e .tick ≤ c + copyin-length columns n)
+      × (comes e ≡ true → Rest x w × InTime x (details e .tick))
+      × (begins e ≡ true → details e .out ≡ NoTask → x .ready ≡ 0 → ⊥)
 
   unfoldable pub Chosen : Choice → Due → List Event → Type 0
-  Chosen x w [] = Unit {0}
+  Chosen x w [] = Rest x w
   Chosen x w (e ∷ es) = So x w e × Chosen (choice-by pr x e) (now-by w e) es
 
   so-at : (before rest : List Event) (e : Event) (x : Choice) (w : Due) → Chosen x w (before ++ (e ∷ rest)) → So (after (choice-by pr) x before) (after now-by w before) e
@@ -59,12 +70,21 @@ module _ (pr columns : List ℕ) where
   so-at [] rest e x w h = h .0
   so-at (y ∷ before) rest e x w h = so-at before rest e (choice-by pr x y) (now-by w y) (h .1)
 
+  rest-at : (before rest : List Event) (x : Choice) (w : Due) → at-rest rest ≡ true → Chosen x w (before ++ rest) → Rest (after (choice-by pr) x before) (after now-by w before)
+  unfolding Chosen after
+  rest-at [] [] x w q h = h
+  rest-at [] (e ∷ es) x w q h = h .0 .3 q .0
+  rest-at (y ∷ before) rest x w q h = rest-at before rest (choice-by pr x y) (now-by w y) q (h .1)
+
   pub copies : (h : List Event) → Chosen no-choice Never h → Copies pr columns h
   copies h x = record {
     each-finish = λ before after n e. at before (Finishes n) after e .0 n refl refl;
     each-giving = λ before after n c e. at before (GivesWay n) after e .1 n c refl refl;
-    each-instant = λ before after n t c e. at before (Comes t) after e .3 n c refl;
+    each-instant = λ before after n t c e. at before (Comes t) after e .3 refl .1 n c;
     each-end = λ before after t e. at before (Ends t) after e .2 refl;
+    each-open = λ before after c e q. rest-at before after no-choice Never q (subst (Chosen no-choice Never) e x) .0 c;
+    each-copying = λ before after n t c e q. rest-at before after no-choice Never q (subst (Chosen no-choice Never) e x) .1 n t c;
+    each-begin = λ before after t r e. at before (Begins t r NoTask) after e .4 refl refl;
   }
     where
       at : (before : List Event) (e : Event) (es : List Event) → h ≡ before ++ (e ∷ es) → So (choice pr before) (after now-by Never before) e
@@ -73,9 +93,9 @@ module _ (pr columns : List ℕ) where
   not-so {ℓ} : {A : Type ℓ} (b : Bool) → b ≡ false → b ≡ true → A
   not-so b e f = absurd (true≢false (sym f ∙ e))
 
-  on : (e : Event) → finishes e ≡ false → gives-way e ≡ false → ends e ≡ false → comes e ≡ false → (x : Choice) (w : Due) (es : List Event) → Chosen (choice-by pr x e) (now-by w e) es → Chosen x w (e ∷ es)
+  on : (e : Event) → finishes e ≡ false → gives-way e ≡ false → ends e ≡ false → comes e ≡ false → begins e ≡ false → (x : Choice) (w : Due) (es : List Event) → Chosen (choice-by pr x e) (now-by w e) es → Chosen x w (e ∷ es)
   unfolding Chosen
-  on e a b c d x w es h = (((λ n y z. not-so (finishes e) a y), (λ n i y z. not-so (gives-way e) b y), (λ y. not-so (ends e) c y), (λ n i y. not-so (comes e) d y)), h)
+  on e a b c d f x w es h = (((λ n y z. not-so (finishes e) a y), (λ n i y z. not-so (gives-way e) b y), (λ y. not-so (ends e) c y), (λ y. not-so (comes e) d y), (λ y. not-so (begins e) f y)), h)
 
   -- ---- what agrees with the state
 
@@ -93,15 +113,34 @@ module _ (pr columns : List ℕ) where
 
   -- what the engine copies in
   abbrev Run : Choice → CopyOut → CopyIn → Type 0
-  Run x o Unchosen = (x .pick ≡ NoTask) × (x .seen ≡ NoTask)
+  Run x o Unchosen = (x .pick ≡ NoTask) × (x .seen ≡ NoTask) × (x .free ≡ Never)
   Run x o NoneChosen = (copying-out o ≡ false) × (x .pick ≡ NoTask) × (x .seen ≡ NoTask) × Freed x
-  Run x o (Copying n until) = (copying-out o ≡ false) × (x .pick ≡ Task n) × ((c : ℕ) × (x .free ≡ Tick c) × (until ≡ later c (copyin-length columns n)))
+  Run x o (Copying n until) = (copying-out o ≡ false) × (x .pick ≡ Task n) × ((c : ℕ) × (x .free ≡ Tick c) × (until ≡ later c (copyin-length columns n))) × (x .seen ≡ NoTask)
   Run x o (Loaded n) = (copying-out o ≡ false) × (x .pick ≡ Task n) × (x .seen ≡ Task n) × Freed x
   Run x o (Cancelled n fate) = (copying-out o ≡ false) × (x .pick ≡ Task n) × (x .seen ≡ Task n) × Freed x
 
   abbrev Runs : Choice → Phase → Type 0
-  Runs x (Between next outgoing) = x .seen ≡ x .pick
+  Runs x (Between next outgoing) = (x .seen ≡ x .pick) × (x .free ≡ Never)
   Runs x (Within i) = Run x (i .copyout) (i .copyin)
+
+  run-as : (x y : Choice) (o : CopyOut) (c : CopyIn) → y .free ≡ x .free → y .seen ≡ x .seen → y .pick ≡ x .pick → Run x o c → Run y o c
+  run-as x y o Unchosen f s p r = (p ∙ r .0, s ∙ r .1, f ∙ r .2)
+  run-as x y o NoneChosen f s p r = (r .0, p ∙ r .1, s ∙ r .2, (r .3 .0, f ∙ r .3 .1))
+  run-as x y o (Copying n until) f s p r = (r .0, p ∙ r .1, (r .2 .0, f ∙ r .2 .1, r .2 .2), s ∙ r .3)
+  run-as x y o (Loaded n) f s p r = (r .0, p ∙ r .1, s ∙ r .2, (r .3 .0, f ∙ r .3 .1))
+  run-as x y o (Cancelled n fate) f s p r = (r .0, p ∙ r .1, s ∙ r .2, (r .3 .0, f ∙ r .3 .1))
+
+  runs-as : (x y : Choice) (p : Phase) → y .free ≡ x .free → y .seen ≡ x .seen → y .pick ≡ x .pick → Runs x p → Runs y p
+  runs-as x y (Between next outgoing) f s p r = (s ∙ r .0 ∙ sym p, f ∙ r .1)
+  runs-as x y (Within i) f s p r = run-as x y (i .copyout) (i .copyin) f s p r
+
+  -- whether the processor is through with its job
+  abbrev rest-of : Phase → Bool
+  rest-of (Between next outgoing) = true
+  rest-of (Within i) = resting (i .processor)
+
+  abbrev Working : Choice → Phase → Type 0
+  Working x p = x .works ≡ not (rest-of p)
 
   -- the job that is highest by what was taken so far
   abbrev Picks : Choice → Type 0
@@ -111,9 +150,22 @@ module _ (pr columns : List ℕ) where
   record Like (x y : Choice) : Type 0 where
     ready : y .ready ≡ x .ready
     origins : (k : ℕ) → y .origins k ≡ x .origins k
+    works : y .works ≡ x .works
 
   like : (x : Choice) → Like x x
-  like x = record { ready = refl; origins = λ k. refl }
+  like x = record { ready = refl; origins = λ k. refl; works = refl }
+
+  -- but for whether the processor works, all is the same
+  record Still (x y : Choice) : Type 0 where
+    ready : y .ready ≡ x .ready
+    origins : (k : ℕ) → y .origins k ≡ x .origins k
+    choosing : y .choosing ≡ x .choosing
+    free : y .free ≡ x .free
+    seen : y .seen ≡ x .seen
+    pick : y .pick ≡ x .pick
+
+  still : (x : Choice) → Still x x
+  still x = record { ready = refl; origins = λ k. refl; choosing = refl; free = refl; seen = refl; pick = refl }
 
   exact : (c l : ℕ) → later c l ≤ 3000000000 → later c l ≡ c + l
   exact c l h = omega arith
@@ -123,6 +175,51 @@ module _ (pr columns : List ℕ) where
     readies : Readies x (d .jobs .pending) (d .phase)
     origins : (k : ℕ) → k < 32 → OriginIs k (x .origins k) (d .jobs .release) (d .waiting)
     runs : Runs x (d .phase)
+    working : Working x (d .phase)
+
+  -- what holds where an instant is over
+  module _ (x : Choice) (w : Due) (now : ℕ) (at : (t : ℕ) → w ≡ Tick t → t ≡ now) where
+    no-tick {ℓ} : {A : Type ℓ} (c : ℕ) → Never ≡ Tick c → A
+    no-tick c e = absurd (let z : _≡_ {A = ℕ} 0 1 = cc in omega arith)
+
+    no-job {ℓ} : {A : Type ℓ} (n : ℕ) → NoTask ≡ Task n → A
+    no-job n e = absurd (let z : _≡_ {A = ℕ} 0 1 = cc in omega arith)
+
+    over-so : (a b c : Bool) → a ≡ true → b ≡ false → c ≡ true → (a && (not b && c)) ≡ false → ⊥
+    over-so a b c e f g h = true≢false (rw (e, f, g) at h)
+
+    not-over : (p : Phase) → Runs x p → Working x p → OpenAt p → (c : ℕ) → x .free ≡ Tick c → x .works ≡ false → x .seen ≡ x .pick → ⊥
+    not-over (Between next outgoing) r v o c f z e = no-tick c (sym (r .1) ∙ f)
+    not-over (Within i) r v o c f z e = go (i .copyin) r o
+      where
+        rested : resting (i .processor) ≡ true
+        rested = not-false (resting (i .processor)) (sym v ∙ z)
+
+        go : (k : CopyIn) → Run x (i .copyout) k → (resting (i .processor) && (not (copying-out (i .copyout)) && settled k)) ≡ false → ⊥
+        go Unchosen r o = no-tick c (sym (r .2) ∙ f)
+        go NoneChosen r o = over-so (resting (i .processor)) (copying-out (i .copyout)) true rested (r .0) refl o
+        go (Copying n until) r o = no-job n (sym (r .3) ∙ e ∙ r .1)
+        go (Loaded n) r o = over-so (resting (i .processor)) (copying-out (i .copyout)) true rested (r .0) refl o
+        go (Cancelled n fate) r o = over-so (resting (i .processor)) (copying-out (i .copyout)) true rested (r .0) refl o
+
+    not-overdue : (p : Phase) → Times Plain p → Times (λ u. now < u) p → Runs x p → (n t c : ℕ) → x .pick ≡ Task n → x .seen ≡ NoTask → x .free ≡ Tick c → w ≡ Tick t → t < c + copyin-length columns n
+    not-overdue (Between next outgoing) a b r n t c p s f z = no-job n (sym s ∙ r .0 ∙ p)
+    not-overdue (Within i) a b r n t c p s f z = go (i .copyin) (a .2) (b .2) r
+      where
+        go : (k : CopyIn) → copyin-times Plain k → copyin-times (λ u. now < u) k → Run x (i .copyout) k → t < c + copyin-length columns n
+        go Unchosen a b r = no-job n (sym (r .0) ∙ p)
+        go NoneChosen a b r = no-job n (sym (r .1) ∙ p)
+        go (Copying m until) a b r =
+            let same : m ≡ n = let z : Task m ≡ Task n = sym (r .1) ∙ p in cc in
+            let from : r .2 .0 ≡ c = let z : Tick (r .2 .0) ≡ Tick c = sym (r .2 .1) ∙ f in cc in
+            let l : until ≡ r .2 .0 + copyin-length columns m = r .2 .2 ∙ exact (r .2 .0) (copyin-length columns m) (subst (λ (y : ℕ). y ≤ 3000000000) (r .2 .2) a) in
+            let k : until ≡ c + copyin-length columns n = l ∙ ap (λ (j : ℕ). j + copyin-length columns m) from ∙ ap (λ (j : ℕ). c + copyin-length columns j) same in
+            subst (λ (j : ℕ). j < c + copyin-length columns n) (sym (at t z)) (subst (λ (j : ℕ). now < j) k b)
+        go (Loaded m) a b r = no-job n (sym s ∙ r .2 ∙ sym (r .1) ∙ p)
+        go (Cancelled m fate) a b r = no-job n (sym s ∙ r .2 ∙ sym (r .1) ∙ p)
+
+    rested : (p : Phase) → Times Plain p → Times (λ u. now < u) p → Runs x p → Working x p → OpenAt p → Rest x w
+    rested p a b r v o = (not-over p r v o, not-overdue p a b r)
 
   module _ (t : ℕ) where
     abbrev T : Choice → List Event → Type 0
@@ -171,8 +268,8 @@ module _ (pr columns : List ℕ) where
             → T x (cond b (Finishes n ∷ []) [] ++ ys)
         go true e k =
             unfold Chosen in (
-              ((λ m y z. at-its-end e m z), (λ n i y. absurd (false≢true y)), (λ y. absurd (false≢true y)), (λ n i y. absurd (false≢true y))),
-              k (choice-by pr x (Finishes n)) (record { ready = refl; origins = λ j. refl }) refl (r .0, r .1, refl, (r .2 .0, r .2 .1)) tt tt,
+              ((λ m y z. at-its-end e m z), (λ n i y. absurd (false≢true y)), (λ y. absurd (false≢true y)), (λ y. absurd (false≢true y)), (λ y. absurd (false≢true y))),
+              k (choice-by pr x (Finishes n)) (record { ready = refl; origins = λ j. refl; works = refl }) refl (r .0, r .1, refl, (r .2 .0, r .2 .1)) tt tt,
             )
         go false e k = k x (like x) refl r tt (e, p)
 
@@ -194,13 +291,13 @@ module _ (pr columns : List ℕ) where
         go : (z : Bool) → i .copyout ≡ cond z (CopiedOut n) (CopyingOut n start until) → T x (completion-events (cond z (Job (job-entry j n start t)) NoJob) ++ ys)
         go true b =
             let z = unchosen x (CopyingOut n start until) c r refl in
-            on (Completes n t) refl refl refl refl x (Tick t) ys
-            (k (choice-by pr x (Completes n t)) (record { ready = refl; origins = λ j. refl }) (inl (refl, (a ∙ z .0, ap copying-out b, refl, refl, z .1))))
+            on (Completes n t) refl refl refl refl refl x (Tick t) ys
+            (k (choice-by pr x (Completes n t)) (record { ready = refl; origins = λ j. refl; works = refl }) (inl (refl, (a ∙ z .0, ap copying-out b, refl, refl, z .1))))
         go false b = k x (like x) (inr (e, rw (a, b) r, rw (a, b) u, rw a v))
 
     module _ (present : ℕ) (tasks : present < 4294967296) where
       likewise : (x y z : Choice) → Like x y → Like y z → Like x z
-      likewise x y z a b = record { ready = b .ready ∙ a .ready; origins = λ k. b .origins k ∙ a .origins k }
+      likewise x y z a b = record { ready = b .ready ∙ a .ready; origins = λ k. b .origins k ∙ a .origins k; works = b .works ∙ a .works }
 
       copyin-same : (k : ℕ) (c : CopyIn) → copyin-bit k (copyin-at t c) ≡ copyin-bit k c
       copyin-same k c = copyin-cases t (λ y. copyin-bit k y ≡ copyin-bit k c) c refl (λ n u e x. ap (copyin-bit k) (sym e))
@@ -224,12 +321,34 @@ module _ (pr columns : List ℕ) where
           (λ y a z r u v. completion-chosen y (d .jobs) (i .copyout) (copyin-at t (i .copyin)) (ended (d .table) t i) ys (unfold ended in refl) (unfold ended in refl) (z ∙ c) r u v
           (λ w b m. k w (likewise x y w a b) (λ j l. ap (λ (r : ℕ). bit (member j r) + spots j (Within (ended (d .table) t i))) (b .ready ∙ a .ready) ∙ a-left d i x e h readies j l) m))
 
-      a-chosen : (d : State) (p : Phase) (x : Choice) (ys : List Event) → d .phase ≡ p → Parted present tasks d p → Times Plain p → Readies x (d .jobs .pending) p → Runs x p → DecidedAt p → x .choosing ≡ false
-          → ((y : Choice) → Like x y → Readies y (step-a d t p .state .jobs .pending) (step-a d t p .state .phase) → Mode y (step-a d t p .state .phase) → T y ys)
+      processor-chosen : (table : Table) (x : Choice) (q : Processor) (ys : List Event) → x .works ≡ not (resting q)
+          → ((y : Choice) → Still x y → y .works ≡ not (resting (processor-at table t q)) → T y ys) → T x (processor-events t q ++ ys)
+      unfolding processor-events processor-at
+      processor-chosen table x Idle ys v k = k x (still x) v
+      processor-chosen table x (Finished n start) ys v k = k x (still x) v
+      processor-chosen table x (CopyingIn n until) ys v k = go (eqb until t) k
+        where
+          go : (b : Bool) → ((y : Choice) → Still x y → y .works ≡ not (resting (cond b (Executing n t (later t (execution-length (table .columns) n))) (CopyingIn n until))) → T y ys) → T x (cond b (Starts n t ∷ []) [] ++ ys)
+          go true k = on (Starts n t) refl refl refl refl refl x (Tick t) ys (k x (still x) v)
+          go false k = k x (still x) v
+      processor-chosen table x (Executing n start until) ys v k = go (eqb until t) k
+        where
+          go : (b : Bool) → ((y : Choice) → Still x y → y .works ≡ not (resting (cond b (Finished n start) (Executing n start until))) → T y ys) → T x (cond b (Stops n t ∷ []) [] ++ ys)
+          go true k =
+              on (Stops n t) refl refl refl refl refl x (Tick t) ys
+              (k (choice-by pr x (Stops n t)) (record { ready = refl; origins = λ j. refl; choosing = refl; free = refl; seen = refl; pick = refl }) refl)
+          go false k = k x (still x) v
+
+      a-chosen : (d : State) (p : Phase) (x : Choice) (ys : List Event) → d .phase ≡ p → Parted present tasks d p → Times Plain p → Readies x (d .jobs .pending) p → Runs x p → DecidedAt p → x .choosing ≡ false → Working x p
+          → ((y : Choice) → ((k : ℕ) → y .origins k ≡ x .origins k) → Readies y (step-a d t p .state .jobs .pending) (step-a d t p .state .phase) → Mode y (step-a d t p .state .phase) → Working y (step-a d t p .state .phase) → T y ys)
           → T x (processor-events-in t p ++ (finish-events-in t p ++ (completion-events (step-a d t p .done) ++ ys)))
-      a-chosen d p x ys e h times readies runs decided c k =
-          by-processor-at (T x) t (λ n es z. on (Starts n t) refl refl refl refl x (Tick t) es z) (λ n es z. on (Stops n t) refl refl refl refl x (Tick t) es z) p
-          (finish-events-in t p ++ (completion-events (step-a d t p .done) ++ ys)) (a-phase d p x ys e h times readies runs decided c k)
+      unfolding processor-events-in
+      a-chosen d (Between next outgoing) x ys e h times readies runs decided c v k =
+          a-phase d (Between next outgoing) x ys e h times readies runs decided c (λ y l r m. k y (l .origins) r m (l .works ∙ v ∙ unfold step-a in ap (λ (q : Phase). not (rest-of q)) (sym e)))
+      a-chosen d (Within i) x ys e h times readies runs decided c v k =
+          processor-chosen (d .table) x (i .processor) _ v
+          (λ y a w. a-phase d (Within i) y ys e h times (λ j l. ap (λ (r : ℕ). bit (member j r) + spots j (Within i)) (a .ready) ∙ readies j l) (runs-as x y (Within i) (a .free) (a .seen) (a .pick) runs) decided (a .choosing ∙ c)
+          (λ z l r m. k z (λ j. l .origins j ∙ a .origins j) r m (l .works ∙ w ∙ unfold step-a ended in refl)))
 
       -- ---- b
 
@@ -244,21 +363,24 @@ module _ (pr columns : List ℕ) where
       ended-seen x i o m =
           ⊎-elim (λ z. clash (settled (i .copyin)) (settles i o) (ap settled (z .1 .0))) (λ z. (run-seen x (i .copyout) (i .copyin) (settles i o) (z .1), z .0)) m
 
-      b-chosen : (x : Choice) (pending : ℕ) (s : Stage) (p : Phase) (ys : List Event) → s .state .phase ≡ p → Readies x pending p → Mode x p
-          → (Readies x pending (step-b s t p .state .phase) → Mode x (step-b s t p .state .phase) → T x ys) → T x (end-events t p (step-b s t p .state .phase) ++ ys)
+      b-chosen : (x : Choice) (pending : ℕ) (s : Stage) (p : Phase) (ys : List Event) → s .state .phase ≡ p → Readies x pending p → Mode x p → Working x p
+          → ((y : Choice) → ((k : ℕ) → y .origins k ≡ x .origins k) → Readies y pending (step-b s t p .state .phase) → Mode y (step-b s t p .state .phase) → Working y (step-b s t p .state .phase) → T y ys)
+          → T x (end-events t p (step-b s t p .state .phase) ++ ys)
       unfolding step-b close-stage close end-events
-      b-chosen x pending s (Between next outgoing) ys e h m k = k (subst (Readies x pending) (sym e) h) (subst (Mode x) (sym e) m)
-      b-chosen x pending s (Within i) ys e h m k = go (over i) refl k
+      b-chosen x pending s (Between next outgoing) ys e h m v k = k x (λ j. refl) (subst (Readies x pending) (sym e) h) (subst (Mode x) (sym e) m) (subst (Working x) (sym e) v)
+      b-chosen x pending s (Within i) ys e h m v k = go (over i) refl k
         where
-          stays : (q : Phase) → q ≡ Within i → (Readies x pending q → Mode x q → T x ys) → T x (end-events t (Within i) q ++ ys)
-          stays q z k = rw z (k (subst (Readies x pending) (sym z) h) (subst (Mode x) (sym z) m))
+          stays : (q : Phase) → q ≡ Within i → ((y : Choice) → ((k : ℕ) → y .origins k ≡ x .origins k) → Readies y pending q → Mode y q → Working y q → T y ys) → T x (end-events t (Within i) q ++ ys)
+          stays q z k = rw z (k x (λ j. refl) (subst (Readies x pending) (sym z) h) (subst (Mode x) (sym z) m) (subst (Working x) (sym z) v))
 
-          go : (b : Bool) → over i ≡ b → (Readies x pending (close-stage s t i b .state .phase) → Mode x (close-stage s t i b .state .phase) → T x ys)
+          go : (b : Bool) → over i ≡ b
+              → ((y : Choice) → ((k : ℕ) → y .origins k ≡ x .origins k) → Readies y pending (close-stage s t i b .state .phase) → Mode y (close-stage s t i b .state .phase) → Working y (close-stage s t i b .state .phase) → T y ys)
               → T x (end-events t (Within i) (close-stage s t i b .state .phase) ++ ys)
           go true o k =
               unfold Chosen in (
-                ((λ n y z. absurd (false≢true y)), (λ n j y. absurd (false≢true y)), (λ y. ended-seen x i o m .0), (λ n j y. absurd (false≢true y))),
-                k (λ j l. omega (arith, h j l, b-outgoing-bit present tasks j (i .processor) (rests i o), b-copyout-bit present tasks j (i .copyout) (no-copyout i o))) (inr (ended-seen x i o m .1, ended-seen x i o m .0 .2, tt, tt)),
+                ((λ n y z. absurd (false≢true y)), (λ n j y. absurd (false≢true y)), (λ y. ended-seen x i o m .0), (λ y. absurd (false≢true y)), (λ y. absurd (false≢true y))),
+                k (choice-by pr x (Ends t)) (λ j. refl) (λ j l. omega (arith, h j l, b-outgoing-bit present tasks j (i .processor) (rests i o), b-copyout-bit present tasks j (i .copyout) (no-copyout i o)))
+                    (inr (ended-seen x i o m .1, (ended-seen x i o m .0 .2, refl), tt, tt)) (v ∙ ap not (rests i o)),
               )
           go false o k = stays (s .state .phase) e k
 
@@ -285,6 +407,7 @@ module _ (pr columns : List ℕ) where
         free : y .free ≡ x .free
         seen : y .seen ≡ x .seen
         choosing : y .choosing ≡ x .choosing
+        works : y .works ≡ x .works
         picks : x .choosing ≡ true → Picks x → Picks y
         keeps : x .choosing ≡ false → y .pick ≡ x .pick
 
@@ -299,20 +422,23 @@ module _ (pr columns : List ℕ) where
           where
             go : (b : Bool) → T (after (choice-by pr) (after (choice-by pr) x (take-events k taken w t)) (cond b (Takes k t (member k w) ∷ []) [])) ys
                 → T (after (choice-by pr) x (take-events k taken w t)) (cond b (Takes k t (member k w) ∷ []) [] ++ ys)
-            go true h = on (Takes k t (member k w)) refl refl refl refl (after (choice-by pr) x (take-events k taken w t)) (Tick t) ys h
+            go true h = on (Takes k t (member k w)) refl refl refl refl refl (after (choice-by pr) x (take-events k taken w t)) (Tick t) ys h
             go false h = h
 
         abbrev Kept : List Event → Type 0
         Kept es = (x : Choice) → Keeps x (after (choice-by pr) x es)
 
         takes-keep : (x : Choice) → Keeps x (after (choice-by pr) x (take-events 32 taken w t))
-        takes-keep x = subst Kept (append-nil (take-events 32 taken w t)) (by-takes Kept 32 taken w t (λ n l m es h x. one n es x (h (choice-by pr x (Takes n t (member n w))))) [] (λ x. unfold after in record { free = refl; seen = refl; choosing = refl; picks = λ e p. p; keeps = λ e. refl })) x
+        takes-keep x =
+            subst Kept (append-nil (take-events 32 taken w t))
+            (by-takes Kept 32 taken w t (λ n l m es h x. one n es x (h (choice-by pr x (Takes n t (member n w))))) [] (λ x. unfold after in record { free = refl; seen = refl; choosing = refl; works = refl; picks = λ e p. p; keeps = λ e. refl })) x
           where
             one : (n : ℕ) (es : List Event) (x : Choice) → Keeps (choice-by pr x (Takes n t (member n w))) (after (choice-by pr) (choice-by pr x (Takes n t (member n w))) es) → Keeps x (after (choice-by pr) x (Takes n t (member n w) ∷ es))
             one n es x h = unfold after in record {
               free = h .free;
               seen = h .seen;
               choosing = h .choosing;
+              works = h .works;
               picks = λ e p. h .picks e (ap (λ (b : Bool). cond b (highest-ready pr x (Takes n t (member n w))) (x .pick)) e);
               keeps = λ e. h .keeps e ∙ ap (λ (b : Bool). cond b (highest-ready pr x (Takes n t (member n w))) (x .pick)) e;
             }
@@ -341,6 +467,7 @@ module _ (pr columns : List ℕ) where
         seen : y .seen ≡ x .seen
         choosing : y .choosing ≡ x .choosing
         pick : y .pick ≡ x .pick
+        works : y .works ≡ x .works
 
       module _ (deferred : ℕ) where
         defers-run : (k : ℕ) (x : Choice) (ys : List Event) → T (after (choice-by pr) x (defer-events k deferred t)) ys → T x (defer-events k deferred t ++ ys)
@@ -353,7 +480,7 @@ module _ (pr columns : List ℕ) where
           where
             go : (b : Bool) → T (after (choice-by pr) (after (choice-by pr) x (defer-events k deferred t)) (cond b (Defers k t ∷ []) [])) ys
                 → T (after (choice-by pr) x (defer-events k deferred t)) (cond b (Defers k t ∷ []) [] ++ ys)
-            go true h = on (Defers k t) refl refl refl refl (after (choice-by pr) x (defer-events k deferred t)) (Tick t) ys h
+            go true h = on (Defers k t) refl refl refl refl refl (after (choice-by pr) x (defer-events k deferred t)) (Tick t) ys h
             go false h = h
 
         abbrev Left : List Event → Type 0
@@ -362,16 +489,16 @@ module _ (pr columns : List ℕ) where
         defers-same : (x : Choice) → Same x (after (choice-by pr) x (defer-events 32 deferred t))
         defers-same x =
             subst Left (append-nil (defer-events 32 deferred t))
-            (by-defers Left 32 deferred t (λ n l m es h x. one n es x (h (choice-by pr x (Defers n t)))) [] (λ x. unfold after in record { ready = refl; free = refl; seen = refl; choosing = refl; pick = refl })) x
+            (by-defers Left 32 deferred t (λ n l m es h x. one n es x (h (choice-by pr x (Defers n t)))) [] (λ x. unfold after in record { ready = refl; free = refl; seen = refl; choosing = refl; pick = refl; works = refl })) x
           where
             one : (n : ℕ) (es : List Event) (x : Choice) → Same (choice-by pr x (Defers n t)) (after (choice-by pr) (choice-by pr x (Defers n t)) es) → Same x (after (choice-by pr) x (Defers n t ∷ es))
-            one n es x h = unfold after in record { ready = h .ready; free = h .free; seen = h .seen; choosing = h .choosing; pick = h .pick }
+            one n es x h = unfold after in record { ready = h .ready; free = h .free; seen = h .seen; choosing = h .choosing; pick = h .pick; works = h .works }
 
       -- ---- d, e
 
       -- from a state c behind its releases: the choice is the state's, or none is made
       abbrev Ready : Choice → State → Phase → Type 0
-      Ready x c (Between next outgoing) = x .seen ≡ x .pick
+      Ready x c (Between next outgoing) = (x .seen ≡ x .pick) × (x .free ≡ Never)
       Ready x c (Within i) =
           ((i .copyin ≡ Unchosen) × (copying-out (i .copyout) ≡ false) × (x .pick ≡ highest-of c (c .jobs .ready)) × (x .free ≡ Tick t) × (x .seen ≡ NoTask))
           ⊎ (Run x (i .copyout) (i .copyin) × Decided (i .copyin) (i .copyout) × Unended (i .copyin))
@@ -380,7 +507,7 @@ module _ (pr columns : List ℕ) where
           → Runs x (choose c t i q .phase)
       unfolding choose
       chosen-runs x c i NoTask e o p f s = (o, p, s, (t, f))
-      chosen-runs x c i (Task n) e o p f s = (o, p, (t, f, ap (λ (l : List ℕ). later t (copyin-length l n)) e))
+      chosen-runs x c i (Task n) e o p f s = (o, p, (t, f, ap (λ (l : List ℕ). later t (copyin-length l n)) e), s)
 
       -- step e
       e-free : (x : Choice) (c : State) (i : Interval) → c .table .columns ≡ columns → i .copyin ≡ Unchosen → copying-out (i .copyout) ≡ false → x .pick ≡ highest-of c (c .jobs .ready)
@@ -481,7 +608,7 @@ module _ (pr columns : List ℕ) where
           let z : Phase = step-e y t (y .phase) .phase in
           let same : giving-events-in (b .phase) z ≡ giving-events-in (c .phase) (y .phase) = sym (c-same [] b t taken deferred z) ∙ e-same [] y t (c .phase) in
           ⊎-elim
-          (λ g. subst (λ (es : List Event). T x (es ++ ys)) (sym (same ∙ g .1)) (gone (g .0) (g .2) (g .3) (k (choice-by pr x (GivesWay (g .0))) (record { ready = refl; origins = λ j. refl })
+          (λ g. subst (λ (es : List Event). T x (es ++ ys)) (sym (same ∙ g .1)) (gone (g .0) (g .2) (g .3) (k (choice-by pr x (GivesWay (g .0))) (record { ready = refl; origins = λ j. refl; works = refl })
           (e-runs (choice-by pr x (GivesWay (g .0))) y (ap (λ (f : Frame). f .table .columns) (d-frame c taken) ∙ e) (g .4)))))
           (λ g. subst (λ (es : List Event). T x (es ++ ys)) (sym (same ∙ ap (λ (s : State). giving-events-in (c .phase) (s .phase)) g ∙ gives-same [] (c .phase)))
           (k x (like x) (subst (λ (s : State). Runs x (step-e s t (s .phase) .phase)) (sym g) (e-runs x c e h))))
@@ -491,25 +618,28 @@ module _ (pr columns : List ℕ) where
           number a b e = cc
 
           gone : (n : ℕ) → x .pick ≡ Task n → Early x n → T (choice-by pr x (GivesWay n)) ys → T x (GivesWay n ∷ ys)
-          gone n p f h = unfold Chosen in (((λ n y z. absurd (false≢true y)), (λ m c y z. (p ∙ z, λ s e v. f c s e (v ∙ ap (λ (j : ℕ). Tick (c + copyin-length columns j)) (sym (number n m z))))), (λ y. absurd (false≢true y)), (λ n j y. absurd (false≢true y))), h)
+          gone n p f h = unfold Chosen in (((λ n y z. absurd (false≢true y)), (λ m c y z. (p ∙ z, λ s e v. f c s e (v ∙ ap (λ (j : ℕ). Tick (c + copyin-length columns j)) (sym (number n m z))))), (λ y. absurd (false≢true y)), (λ y. absurd (false≢true y)), (λ y. absurd (false≢true y))), h)
 
       -- ---- f
 
-      f-chosen : (x : Choice) (pending : ℕ) (s : Stage) (p : Phase) (ys : List Event) → s .state .phase ≡ p → Readies x pending p → Runs x p
-          → (Readies x pending (step-b s t p .state .phase) → Runs x (step-b s t p .state .phase) → T x ys) → T x (end-events t p (step-b s t p .state .phase) ++ ys)
+      f-chosen : (x : Choice) (pending : ℕ) (s : Stage) (p : Phase) (ys : List Event) → s .state .phase ≡ p → Readies x pending p → Runs x p → Working x p
+          → ((y : Choice) → ((k : ℕ) → y .origins k ≡ x .origins k) → Readies y pending (step-b s t p .state .phase) → Runs y (step-b s t p .state .phase) → Working y (step-b s t p .state .phase) → T y ys)
+          → T x (end-events t p (step-b s t p .state .phase) ++ ys)
       unfolding step-b close-stage close end-events
-      f-chosen x pending s (Between next outgoing) ys e h m k = k (subst (Readies x pending) (sym e) h) (subst (Runs x) (sym e) m)
-      f-chosen x pending s (Within i) ys e h m k = go (over i) refl k
+      f-chosen x pending s (Between next outgoing) ys e h m v k = k x (λ j. refl) (subst (Readies x pending) (sym e) h) (subst (Runs x) (sym e) m) (subst (Working x) (sym e) v)
+      f-chosen x pending s (Within i) ys e h m v k = go (over i) refl k
         where
-          stays : (q : Phase) → q ≡ Within i → (Readies x pending q → Runs x q → T x ys) → T x (end-events t (Within i) q ++ ys)
-          stays q z k = rw z (k (subst (Readies x pending) (sym z) h) (subst (Runs x) (sym z) m))
+          stays : (q : Phase) → q ≡ Within i → ((y : Choice) → ((k : ℕ) → y .origins k ≡ x .origins k) → Readies y pending q → Runs y q → Working y q → T y ys) → T x (end-events t (Within i) q ++ ys)
+          stays q z k = rw z (k x (λ j. refl) (subst (Readies x pending) (sym z) h) (subst (Runs x) (sym z) m) (subst (Working x) (sym z) v))
 
-          go : (b : Bool) → over i ≡ b → (Readies x pending (close-stage s t i b .state .phase) → Runs x (close-stage s t i b .state .phase) → T x ys)
+          go : (b : Bool) → over i ≡ b
+              → ((y : Choice) → ((k : ℕ) → y .origins k ≡ x .origins k) → Readies y pending (close-stage s t i b .state .phase) → Runs y (close-stage s t i b .state .phase) → Working y (close-stage s t i b .state .phase) → T y ys)
               → T x (end-events t (Within i) (close-stage s t i b .state .phase) ++ ys)
           go true o k =
               unfold Chosen in (
-                ((λ n y z. absurd (false≢true y)), (λ n j y. absurd (false≢true y)), (λ y. run-seen x (i .copyout) (i .copyin) (settles i o) m), (λ n j y. absurd (false≢true y))),
-                k (λ j l. omega (arith, h j l, b-outgoing-bit present tasks j (i .processor) (rests i o), b-copyout-bit present tasks j (i .copyout) (no-copyout i o))) (run-seen x (i .copyout) (i .copyin) (settles i o) m .2),
+                ((λ n y z. absurd (false≢true y)), (λ n j y. absurd (false≢true y)), (λ y. run-seen x (i .copyout) (i .copyin) (settles i o) m), (λ y. absurd (false≢true y)), (λ y. absurd (false≢true y))),
+                k (choice-by pr x (Ends t)) (λ j. refl) (λ j l. omega (arith, h j l, b-outgoing-bit present tasks j (i .processor) (rests i o), b-copyout-bit present tasks j (i .copyout) (no-copyout i o)))
+                    (run-seen x (i .copyout) (i .copyin) (settles i o) m .2, refl) (v ∙ ap not (rests i o)),
               )
           go false o k = stays (s .state .phase) e k
 
@@ -553,7 +683,7 @@ module _ (pr columns : List ℕ) where
         where
           go : (outgoing : Outgoing) → Parted present tasks f (Between next outgoing) → Readies x (f .jobs .pending) (Between next outgoing)
               → let b : State = begin f t taken next outgoing in Ready (begun x (f .table) next outgoing) b (b .phase)
-          go (AwaitsCopyOut m start) h readies = unfold begin in inr ((refl, refl), refl, tt)
+          go (AwaitsCopyOut m start) h readies = unfold begin in inr ((refl, refl, refl), refl, tt)
           go NoneOutgoing h readies =
               unfold begin in
               inl (
@@ -593,16 +723,74 @@ module _ (pr columns : List ℕ) where
           let c : State = step-c b t taken (deferred-at d t set) in
           e-spots k (step-d c taken (c .phase)) ∙ d-spots k c taken ∙ c-spots k b taken (b .phase)
 
+      -- and whether the processor is through with its job
+      choose-rest : (d : State) (i : Interval) (q : MaybeTask) → rest-of (choose d t i q .phase) ≡ resting (i .processor)
+      unfolding choose
+      choose-rest d i NoTask = refl
+      choose-rest d i (Task q) = refl
+
+      e-rest : (d : State) → rest-of (step-e d t (d .phase) .phase) ≡ rest-of (d .phase)
+      e-rest d = e-cases (λ x. rest-of (x .phase) ≡ rest-of (d .phase)) d t refl (λ i e s u. choose-rest d i (highest-of d (d .jobs .ready)) ∙ ap rest-of (sym e))
+
+      d-rest : (d : State) (taken : ℕ) → rest-of (step-d d taken (d .phase) .phase) ≡ rest-of (d .phase)
+      unfolding cancel
+      d-rest d taken = d-cases (λ x. rest-of (x .phase) ≡ rest-of (d .phase)) d taken refl (λ i n u e s b. rw e)
+
+      c-rest : (d : State) (taken : ℕ) (p : Phase) → rest-of (with-candidates d taken p) ≡ rest-of p
+      unfolding with-candidates
+      c-rest d taken (Between next outgoing) = refl
+      c-rest d taken (Within i) = refl
+
+      rest-e : (d : State) (set : ℕ) → rest-of (at-e d t set .phase) ≡ rest-of (at-b d t .state .phase)
+      unfolding at-e step-c
+      rest-e d set =
+          let b : State = at-b d t .state in
+          let taken : ℕ = taken-at d t set in
+          let c : State = step-c b t taken (deferred-at d t set) in
+          e-rest (step-d c taken (c .phase)) ∙ d-rest c taken ∙ c-rest b taken (b .phase)
+
       -- ---- an interval that begins
 
-      opens-chosen : (x : Choice) (table : Table) (next : Next) (outgoing : Outgoing) (q : Phase) (ys : List Event)
+      begins-on : (x : Choice) (r l : MaybeTask) (ys : List Event) → (l ≡ NoTask → x .ready ≡ 0 → ⊥) → T (choice-by pr x (Begins t r l)) ys → T x (Begins t r l ∷ ys)
+      unfolding Chosen
+      begins-on x r l ys f h = (((λ n y z. absurd (false≢true y)), (λ n i y z. absurd (false≢true y)), (λ y. absurd (false≢true y)), (λ y. absurd (false≢true y)), (λ y. f)), h)
+
+      -- not where there is nothing to do
+      something : (x : Choice) (f : State) (next : Next) (outgoing : Outgoing) → f .jobs .ready < 2 ^ 32 → Parted present tasks f (Between next outgoing) → Readies x (f .jobs .pending) (Between next outgoing)
+          → wanted next outgoing (f .jobs .ready) ≡ true → copyout-task (begin-copyout (f .table) t outgoing) ≡ NoTask → x .ready ≡ 0 → ⊥
+      something x f next (AwaitsCopyOut m start) few h r w l z = let y : Task m ≡ NoTask = l in let u : _≡_ {A = ℕ} 1 0 = cc in omega arith
+      something x f next NoneOutgoing few h r w l z = go next h r w
+        where
+          none-left : (k : ℕ) → bit (member k (x .ready)) ≡ 0
+          none-left k = ap bit (ap (member k) z ∙ none k)
+
+          loaded-one : (n : ℕ) (next : Next) → member n present ≡ true → next-bit n next ≡ 1 → Parted present tasks f (Between next NoneOutgoing) → Readies x (f .jobs .pending) (Between next NoneOutgoing) → ⊥
+          loaded-one n next m e h r = let l : n < 32 = member-task n present tasks m in omega (arith, r n l, h .parts n l, none-left n, e)
+
+          go : (next : Next) → Parted present tasks f (Between next NoneOutgoing) → Readies x (f .jobs .pending) (Between next NoneOutgoing) → wanted next NoneOutgoing (f .jobs .ready) ≡ true → ⊥
+          go NoneNext h r w =
+              let e : f .jobs .ready ≡ 0 = empty (f .jobs .ready) few (λ k l. bit-same (member k (f .jobs .ready)) false (omega (arith, r k l, h .parts k l, none-left k))) in
+              clash (eqb (f .jobs .ready) 0) (eq-eqb (f .jobs .ready) 0 e) (not-true (eqb (f .jobs .ready) 0) w)
+          go (LoadedNext n) h r w = loaded-one n (LoadedNext n) (h .known .0) (ap bit (same-task n)) h r
+          go (PromotedNext n) h r w = loaded-one n (PromotedNext n) (h .known .0) (ap bit (same-task n)) h r
+
+      begun-works : (table : Table) (next : Next) → has-task (processor-task (begin-processor table t next)) ≡ not (resting (begin-processor table t next))
+      begun-works table NoneNext = refl
+      begun-works table (LoadedNext n) = refl
+      begun-works table (PromotedNext n) = refl
+
+      begin-rest : (f : State) (taken : ℕ) (next : Next) (outgoing : Outgoing) → rest-of (begin f t taken next outgoing .phase) ≡ resting (begin-processor (f .table) t next)
+      unfolding begin
+      begin-rest f taken next outgoing = refl
+
+      opens-chosen : (x : Choice) (table : Table) (next : Next) (outgoing : Outgoing) (q : Phase) (ys : List Event) → (copyout-task (begin-copyout table t outgoing) ≡ NoTask → x .ready ≡ 0 → ⊥)
           → Both (table .columns) t (begin-processor table t next) (begin-copyout table t outgoing) q → T (begun x table next outgoing) ys → T x (begin-events t (Between next outgoing) q ++ ys)
       unfolding begin-events
-      opens-chosen x table next outgoing (Between y z) ys b h = absurd b
-      opens-chosen x table next outgoing (Within j) ys b h =
+      opens-chosen x table next outgoing (Between y z) ys f b h = absurd b
+      opens-chosen x table next outgoing (Within j) ys f b h =
           subst (λ (o : CopyOut). T x (Begins t (processor-task (j .processor)) (copyout-task o) ∷ ys)) (sym (b .1))
           (subst (λ (q : Processor). T x (Begins t (processor-task q) (copyout-task (begin-copyout table t outgoing)) ∷ ys)) (sym (b .0))
-          (on (Begins t (processor-task (begin-processor table t next)) (copyout-task (begin-copyout table t outgoing))) refl refl refl refl x (Tick t) ys h))
+          (begins-on x (processor-task (begin-processor table t next)) (copyout-task (begin-copyout table t outgoing)) ys f h))
 
       shut-chosen : (x : Choice) (next : Next) (outgoing : Outgoing) (q : Phase) (ys : List Event) → q ≡ Between next outgoing → T x ys → T x (begin-events t (Between next outgoing) q ++ ys)
       unfolding begin-events
@@ -613,38 +801,29 @@ module _ (pr columns : List ℕ) where
       SinceAs x f = (k : ℕ) → k < 32 → x .origins k .since ≡ getD (f .jobs .release) k 0
 
       g-chosen : (x : Choice) (f : State) (taken : ℕ) (p : Phase) (ys : List Event) → f .phase ≡ p → f .table .priority ≡ pr → f .table .columns ≡ columns → Parted present tasks f p
-          → Readies x (f .jobs .pending) p → Runs x p → SinceAs x f
-          → ((y : Choice) → ((k : ℕ) → y .origins k ≡ x .origins k) → Readies y (f .jobs .pending) (step-g f t taken p .phase) → Runs y (step-g f t taken p .phase) → T y ys)
+          → Readies x (f .jobs .pending) p → Runs x p → SinceAs x f → f .jobs .ready < 2 ^ 32 → Working x p
+          → ((y : Choice) → ((k : ℕ) → y .origins k ≡ x .origins k) → Readies y (f .jobs .pending) (step-g f t taken p .phase) → Runs y (step-g f t taken p .phase) → Working y (step-g f t taken p .phase) → T y ys)
           → T x (begin-events t p (step-g f t taken p .phase) ++ ys)
       unfolding step-g begin-events
-      g-chosen x f taken (Within i) ys e a c h readies runs since k = k x (λ j. refl) (subst (Readies x (f .jobs .pending)) (sym e) readies) (subst (Runs x) (sym e) runs)
-      g-chosen x f taken (Between next outgoing) ys e a c h readies runs since k = go (wanted next outgoing (f .jobs .ready)) k
+      g-chosen x f taken (Within i) ys e a c h readies runs since few v k = k x (λ j. refl) (subst (Readies x (f .jobs .pending)) (sym e) readies) (subst (Runs x) (sym e) runs) (subst (Working x) (sym e) v)
+      g-chosen x f taken (Between next outgoing) ys e a c h readies runs since few v k = go (wanted next outgoing (f .jobs .ready)) refl k
         where
           b : State
           b = begin f t taken next outgoing
 
-          go : (z : Bool) → ((y : Choice) → ((k : ℕ) → y .origins k ≡ x .origins k) → Readies y (f .jobs .pending) (cond z (step-e b t (b .phase)) f .phase) → Runs y (cond z (step-e b t (b .phase)) f .phase) → T y ys)
+          go : (z : Bool) → wanted next outgoing (f .jobs .ready) ≡ z
+              → ((y : Choice) → ((k : ℕ) → y .origins k ≡ x .origins k) → Readies y (f .jobs .pending) (cond z (step-e b t (b .phase)) f .phase) → Runs y (cond z (step-e b t (b .phase)) f .phase) → Working y (cond z (step-e b t (b .phase)) f .phase) → T y ys)
               → T x (begin-events t (Between next outgoing) (cond z (step-e b t (b .phase)) f .phase) ++ ys)
-          go true k =
-              opens-chosen x (f .table) next outgoing (step-e b t (b .phase) .phase) ys
+          go true w k =
+              opens-chosen x (f .table) next outgoing (step-e b t (b .phase) .phase) ys (something x f next outgoing few h readies w)
               (begun-both (f .table .columns) t b (begin-processor (f .table) t next) (begin-copyout (f .table) t outgoing) (unfold begin in (refl, refl)))
               (k (begun x (f .table) next outgoing) (λ j. refl)
               (λ j l. ap (λ (s : ℕ). bit (member j (begun x (f .table) next outgoing .ready)) + s) (e-spots j b) ∙ begun-readies x f taken next outgoing a c h readies since j l)
-              (begun-runs x f taken next outgoing a c h readies since))
-          go false k = shut-chosen x next outgoing (f .phase) ys e (k x (λ j. refl) (subst (Readies x (f .jobs .pending)) (sym e) readies) (subst (Runs x) (sym e) runs))
+              (begun-runs x f taken next outgoing a c h readies since)
+              (begun-works (f .table) next ∙ ap not (sym (e-rest b ∙ begin-rest f taken next outgoing))))
+          go false w k = shut-chosen x next outgoing (f .phase) ys e (k x (λ j. refl) (subst (Readies x (f .jobs .pending)) (sym e) readies) (subst (Runs x) (sym e) runs) (subst (Working x) (sym e) v))
 
       -- ---- the releases
-
-      run-as : (x y : Choice) (o : CopyOut) (c : CopyIn) → y .free ≡ x .free → y .seen ≡ x .seen → y .pick ≡ x .pick → Run x o c → Run y o c
-      run-as x y o Unchosen f s p r = (p ∙ r .0, s ∙ r .1)
-      run-as x y o NoneChosen f s p r = (r .0, p ∙ r .1, s ∙ r .2, (r .3 .0, f ∙ r .3 .1))
-      run-as x y o (Copying n until) f s p r = (r .0, p ∙ r .1, (r .2 .0, f ∙ r .2 .1, r .2 .2))
-      run-as x y o (Loaded n) f s p r = (r .0, p ∙ r .1, s ∙ r .2, (r .3 .0, f ∙ r .3 .1))
-      run-as x y o (Cancelled n fate) f s p r = (r .0, p ∙ r .1, s ∙ r .2, (r .3 .0, f ∙ r .3 .1))
-
-      runs-as : (x y : Choice) (p : Phase) → y .free ≡ x .free → y .seen ≡ x .seen → y .pick ≡ x .pick → Runs x p → Runs y p
-      runs-as x y (Between next outgoing) f s p r = s ∙ r ∙ sym p
-      runs-as x y (Within i) f s p r = run-as x y (i .copyout) (i .copyin) f s p r
 
       abbrev took : Choice → ℕ → ℕ → Choice
       took x taken w = after (choice-by pr) x (take-events 32 taken w t)
@@ -731,7 +910,8 @@ module _ (pr columns : List ℕ) where
 
       -- ---- an instant
 
-      module _ (d : State) (set : ℕ) (known : Sub set present) (priority : d .table .priority ≡ pr) (lengths : d .table .columns ≡ columns) (h : Parted present tasks d (d .phase)) where
+      module _ (d : State) (set : ℕ) (known : Sub set present) (priority : d .table .priority ≡ pr) (lengths : d .table .columns ≡ columns) (h : Parted present tasks d (d .phase))
+          (few : at-f d t set .state .jobs .ready < 2 ^ 32) where
         abbrev B : State
         B = at-b d t .state
 
@@ -761,10 +941,10 @@ module _ (pr columns : List ℕ) where
         pending-f : F .jobs .pending ≡ union (B .jobs .pending) (taken-at d t set)
         pending-f = ap (λ (y : Frame). y .pending) (frame-f ∙ sym (frame-g d t set)) ∙ pending-g d t set
 
-        tail-chosen : (x : Choice) (ys : List Event) → Readies x (B .jobs .pending) (B .phase) → ((k : ℕ) → k < 32 → OriginIs k (x .origins k) (B .jobs .release) (B .waiting)) → Mode x (B .phase)
+        tail-chosen : (x : Choice) (ys : List Event) → Readies x (B .jobs .pending) (B .phase) → ((k : ℕ) → k < 32 → OriginIs k (x .origins k) (B .jobs .release) (B .waiting)) → Mode x (B .phase) → Working x (B .phase)
             → ((y : Choice) → Agrees y G → T y ys) → T x (take-events 32 (taken-at d t set) (d .marked) t ++ (tail-of d t set ++ ys))
         unfolding at-e at-f at-g
-        tail-chosen x ys readies origins mode k =
+        tail-chosen x ys readies origins mode v k =
             let taken : ℕ = taken-at d t set in
             let deferred : ℕ = deferred-at d t set in
             let starts : List Event = start-events t (F .phase) (G .phase) ++ ys in
@@ -772,14 +952,15 @@ module _ (pr columns : List ℕ) where
             (rw (tail-parts d t set ys)
             (defers-run deferred 32 (took x taken (d .marked)) _
             (gives-chosen (held x taken (d .marked) deferred) B taken deferred _ (ap (λ (y : Table). y .columns) table-c ∙ lengths) (held-ready x B taken deferred (d .marked) priority-b parted-b readies origins new mode)
-            (λ y a runs. f-chosen y (union (B .jobs .pending) taken) (fresh-stage E) (E .phase) _ refl (readies-e y a) runs
-            (λ r m. g-chosen y F (held-at d t set) (F .phase) starts refl (ap (λ (z : Table). z .priority) table-f ∙ priority) (ap (λ (z : Table). z .columns) table-f ∙ lengths) parted-f
-            (subst (λ (p : ℕ). Readies y p (F .phase)) (sym pending-f) r) m (λ j l. ap (λ (o : Origin). o .since) (a .origins j) ∙ held-is j l .since-is ∙ ap (λ (z : Frame). getD (z .release) j 0) (sym frame-f))
-            (λ z o r m. by-starts (T z) t (λ n es q. on (Starts n t) refl refl refl refl z (Tick t) es q) (F .phase) (G .phase) ys
+            (λ y a runs. f-chosen y (union (B .jobs .pending) taken) (fresh-stage E) (E .phase) _ refl (readies-e y a) runs (a .works ∙ held-works ∙ v ∙ ap not (sym (rest-e d set)))
+            (λ u i r m v. g-chosen u F (held-at d t set) (F .phase) starts refl (ap (λ (z : Table). z .priority) table-f ∙ priority) (ap (λ (z : Table). z .columns) table-f ∙ lengths) parted-f
+            (subst (λ (p : ℕ). Readies u p (F .phase)) (sym pending-f) r) m (λ j l. ap (λ (o : Origin). o .since) (i j ∙ a .origins j) ∙ held-is j l .since-is ∙ ap (λ (z : Frame). getD (z .release) j 0) (sym frame-f)) few v
+            (λ z o r m v. by-starts (T z) t (λ n es q. on (Starts n t) refl refl refl refl refl z (Tick t) es q) (F .phase) (G .phase) ys
             (k z (record {
               readies = subst (λ (p : ℕ). Readies z p (G .phase)) (pending-f ∙ sym (pending-g d t set)) r;
-              origins = λ j l. rw (release-g d t set, waiting-g d t set) (subst (λ (u : Origin). OriginIs j u (at-c d t set .jobs .release) (at-c d t set .waiting)) (sym (o j ∙ a .origins j)) (held-is j l));
+              origins = λ j l. rw (release-g d t set, waiting-g d t set) (subst (λ (u : Origin). OriginIs j u (at-c d t set .jobs .release) (at-c d t set .waiting)) (sym (o j ∙ i j ∙ a .origins j)) (held-is j l));
               runs = m;
+              working = v;
             }))))))))
           where
             new : (j : ℕ) → j < 32 → member j (taken-at d t set) ≡ true → member j (at-b d t .state .jobs .pending) ≡ false
@@ -797,6 +978,9 @@ module _ (pr columns : List ℕ) where
             held-is : (j : ℕ) → j < 32 → OriginIs j (held x (taken-at d t set) (d .marked) (deferred-at d t set) .origins j) (at-c d t set .jobs .release) (at-c d t set .waiting)
             held-is = held-origins x (at-b d t .state) (taken-at d t set) (deferred-at d t set) (d .marked) priority-b parted-b readies origins new
 
+            held-works : held x (taken-at d t set) (d .marked) (deferred-at d t set) .works ≡ x .works
+            held-works = defers-same (deferred-at d t set) (took x (taken-at d t set) (d .marked)) .works ∙ takes-keep (taken-at d t set) (d .marked) x .works
+
             readies-e : (y : Choice) → Like (held x (taken-at d t set) (d .marked) (deferred-at d t set)) y → Readies y (union (at-b d t .state .jobs .pending) (taken-at d t set)) (at-e d t set .phase)
             readies-e y a j l =
                 ap (λ (r : ℕ). bit (member j r) + spots j (at-e d t set .phase)) (a .ready)
@@ -804,27 +988,24 @@ module _ (pr columns : List ℕ) where
                 ∙ held-readies x (at-b d t .state) (taken-at d t set) (deferred-at d t set) (d .marked) priority-b parted-b readies origins new j l
 
         front-chosen : (x : Choice) (later : List Event) → Times Plain (d .phase) → DecidedAt (d .phase) → x .choosing ≡ false → Agrees x d
-            → ((y : Choice) → Readies y (B .jobs .pending) (B .phase) → ((k : ℕ) → k < 32 → OriginIs k (y .origins k) (B .jobs .release) (B .waiting)) → Mode y (B .phase) → T y later)
+            → ((y : Choice) → Readies y (B .jobs .pending) (B .phase) → ((k : ℕ) → k < 32 → OriginIs k (y .origins k) (B .jobs .release) (B .waiting)) → Mode y (B .phase) → Working y (B .phase) → T y later)
             → T x (processor-events-in t (d .phase) ++ (finish-events-in t (d .phase) ++ (completion-events (at-a d t .done) ++ (end-events t (at-a d t .state .phase) (B .phase) ++ later))))
         unfolding at-b at-a
         front-chosen x later times decided c agrees k =
             let a : Stage = at-a d t in
             a-chosen (at-clock d t) (d .phase) x (end-events t (a .state .phase) (B .phase) ++ later) refl
-            (record { few = h .few; marks = h .marks; pending = h .pending; ready = h .ready; waits = h .waits; known = h .known; parts = h .parts }) times (agrees .readies) (agrees .runs) decided c
-            (λ y l r m. b-chosen y (a .state .jobs .pending) a (a .state .phase) later refl r m
-            (λ r m. k y (subst (λ (p : ℕ). Readies y p (B .phase)) (sym (ap (λ (z : Frame). z .pending) (b-frame a t))) r)
-            (λ j s. rw (release-b d t, waiting-b d t) (subst (λ (o : Origin). OriginIs j o (d .jobs .release) (d .waiting)) (sym (l .origins j)) (agrees .origins j s))) m))
+            (record { few = h .few; marks = h .marks; pending = h .pending; ready = h .ready; waits = h .waits; known = h .known; parts = h .parts }) times (agrees .readies) (agrees .runs) decided c (agrees .working)
+            (λ y l r m v. b-chosen y (a .state .jobs .pending) a (a .state .phase) later refl r m v
+            (λ z i r m v. k z (subst (λ (p : ℕ). Readies z p (B .phase)) (sym (ap (λ (z : Frame). z .pending) (b-frame a t))) r)
+            (λ j s. rw (release-b d t, waiting-b d t) (subst (λ (o : Origin). OriginIs j o (d .jobs .release) (d .waiting)) (sym (i j ∙ l j)) (agrees .origins j s))) m v))
+
+        comes-on : (x : Choice) (w : Due) (es : List Event) → Rest x w → InTime x t → T (choice-by pr x (Comes t)) es → Chosen x w (Comes t ∷ es)
+        unfolding Chosen
+        comes-on x w es r f h = (((λ n y z. absurd (false≢true y)), (λ n c y. absurd (false≢true y)), (λ y. absurd (false≢true y)), (λ y. (r, f)), (λ y. absurd (false≢true y))), h)
 
         -- no instant comes behind the end of a copy-in
-        abbrev InTime : Choice → Type 0
-        InTime x = (n c : ℕ) → x .pick ≡ Task n → x .seen ≡ NoTask → x .free ≡ Tick c → t ≤ c + copyin-length columns n
-
-        comes-on : (x : Choice) (w : Due) (es : List Event) → InTime x → T (choice-by pr x (Comes t)) es → Chosen x w (Comes t ∷ es)
-        unfolding Chosen
-        comes-on x w es f h = (((λ n y z. absurd (false≢true y)), (λ n c y. absurd (false≢true y)), (λ y. absurd (false≢true y)), (λ n c y. f n c)), h)
-
-        in-time : (x : Choice) (p : Phase) → Times Plain p → Times (λ u. t ≤ u) p → Runs x p → InTime x
-        in-time x (Between next outgoing) times due r n c p s f = absurd (let z : NoTask ≡ Task n = sym s ∙ r ∙ p in let y : _≡_ {A = ℕ} 0 1 = cc in omega arith)
+        in-time : (x : Choice) (p : Phase) → Times Plain p → Times (λ u. t ≤ u) p → Runs x p → InTime x t
+        in-time x (Between next outgoing) times due r n c p s f = absurd (let z : NoTask ≡ Task n = sym s ∙ r .0 ∙ p in let y : _≡_ {A = ℕ} 0 1 = cc in omega arith)
         in-time x (Within i) times due r n c p s f = go (i .copyin) (times .2) (due .2) r
           where
             no-task : NoTask ≡ Task n → t ≤ c + copyin-length columns n
@@ -841,31 +1022,46 @@ module _ (pr columns : List ℕ) where
             go (Loaded m) a b r = no-task (sym s ∙ r .2 ∙ sym (r .1) ∙ p)
             go (Cancelled m fate) a b r = no-task (sym s ∙ r .2 ∙ sym (r .1) ∙ p)
 
-        happens-chosen : (x : Choice) (w : Due) (ys : List Event) → Times Plain (d .phase) → Times (λ u. t ≤ u) (d .phase) → DecidedAt (d .phase) → Agrees x d → ((y : Choice) → Agrees y G → T y ys) → Chosen x w (happens d t set ++ ys)
-        happens-chosen x w ys times due decided agrees k =
+        happens-chosen : (x : Choice) (w : Due) (ys : List Event) → Times Plain (d .phase) → Times (λ u. t ≤ u) (d .phase) → DecidedAt (d .phase) → Rest x w → Agrees x d → ((y : Choice) → Agrees y G → T y ys) → Chosen x w (happens d t set ++ ys)
+        happens-chosen x w ys times due decided rest agrees k =
             let later : List Event = take-events 32 (taken-at d t set) (d .marked) t ++ (tail-of d t set ++ ys) in
             rw (happens-parts d t set ys, front-parts d t later)
-            (comes-on x w _ (in-time x (d .phase) times due (agrees .runs))
-            (front-chosen (choice-by pr x (Comes t)) later times decided refl (record { readies = agrees .readies; origins = agrees .origins; runs = runs-as x (choice-by pr x (Comes t)) (d .phase) refl refl refl (agrees .runs) })
-            (λ y r o m. tail-chosen y ys r o m k)))
+            (comes-on x w _ rest (in-time x (d .phase) times due (agrees .runs))
+            (front-chosen (choice-by pr x (Comes t)) later times decided refl (record { readies = agrees .readies; origins = agrees .origins; runs = runs-as x (choice-by pr x (Comes t)) (d .phase) refl refl refl (agrees .runs); working = agrees .working })
+            (λ y r o m v. tail-chosen y ys r o m v k)))
 
 -- ---- along the calls
 
 module _ (table : Table) (marks : ℕ) (fair : Fair table marks) where
-  chosen : (cs : List Call) (d : State) → Good table marks fair d → (x : Choice) (w : Due) → Agrees (table .priority) (table .columns) x d → Chosen (table .priority) (table .columns) x w (history d cs)
+  -- what an instant finds when it comes
+  finds : (d : State) (x : Choice) (w : Due) → Good table marks fair d → ((u : ℕ) → w ≡ Tick u → u ≡ last (d .clock)) → Agrees (table .priority) (table .columns) x d → Rest (table .priority) (table .columns) x w
+  finds d x w g at a =
+      rested (table .priority) (table .columns) x w (last (d .clock)) at (d .phase) (plain table marks fair d g) (sooner (d .phase) (g .times)) (a .runs) (a .working) (g .settled .open-yet)
+    where
+      sooner : (p : Phase) → Times (Until (last (d .clock)) (mass d) (debt d)) p → Times (λ u. last (d .clock) < u) p
+      sooner p h = times-map (Until (last (d .clock)) (mass d) (debt d)) (λ u. last (d .clock) < u) (λ u z. z .after) p h
+
+  chosen : (cs : List Call) (d : State) → Good table marks fair d → (x : Choice) (w : Due) → ((u : ℕ) → w ≡ Tick u → u ≡ last (d .clock)) → Agrees (table .priority) (table .columns) x d
+      → Chosen (table .priority) (table .columns) x w (history d cs)
   chosen =
-      walk (λ d h. Good table marks fair d → (x : Choice) (w : Due) → Agrees (table .priority) (table .columns) x d → Chosen (table .priority) (table .columns) x w h)
-      (λ d g x w a. unfold Chosen in tt)
-      (λ d t set cs e k g x w a.
+      walk (λ d h. Good table marks fair d → (x : Choice) (w : Due) → ((u : ℕ) → w ≡ Tick u → u ≡ last (d .clock)) → Agrees (table .priority) (table .columns) x d → Chosen (table .priority) (table .columns) x w h)
+      (λ d g x w at a. unfold Chosen in finds d x w g at a)
+      (λ d t set cs e k g x w at a.
       let s : Served-at d t set = served-at d t set e in
       happens-chosen (table .priority) (table .columns) t (table .present) (fair .present) d set (subst (λ (y : Table). Sub set (y .present)) (g .table-is) (s .known))
-      (ap (λ (y : Table). y .priority) (g .table-is)) (ap (λ (y : Table). y .columns) (g .table-is)) (g .parted) x w (history (at-g d t set) cs) (plain table marks fair d g) (s .due) (g .settled .decided) a
-      (λ y b. k (good-next table marks fair d t set g s) y (Tick t) b))
-      (λ d m e h k g x w a. k (good-quiet table marks fair d m e g) x w (record { readies = a .readies; origins = a .origins; runs = a .runs }))
+      (ap (λ (y : Table). y .priority) (g .table-is)) (ap (λ (y : Table). y .columns) (g .table-is)) (g .parted) (few-f d t set (g .sound)) x w (history (at-g d t set) cs) (plain table marks fair d g) (s .due) (g .settled .decided)
+      (finds d x w g at a) a
+      (λ y b. k (good-next table marks fair d t set g s) y (Tick t) (λ u e. let z : u ≡ t = cc in z ∙ sym (ap last (clock-g d t set))) b))
+      (λ d m e h k g x w at a. k (good-quiet table marks fair d m e g) x w at (record { readies = a .readies; origins = a .origins; runs = a .runs; working = a .working }))
 
   -- every list of calls from the state that opening returned
   pub all-copies : (cs : List Call) → Copies (table .priority) (table .columns) (history (opened table marks) cs)
-  all-copies cs = copies (table .priority) (table .columns) (history (opened table marks) cs) (chosen cs (opened table marks) (good-opened table marks fair) no-choice Never first)
+  all-copies cs =
+      copies (table .priority) (table .columns) (history (opened table marks) cs)
+      (chosen cs (opened table marks) (good-opened table marks fair) no-choice Never (λ u e. absurd (never u e)) first)
     where
+      never : (t : ℕ) → Never ≡ Tick t → ⊥
+      never t e = let z : _≡_ {A = ℕ} 0 1 = cc in omega arith
+
       first : Agrees (table .priority) (table .columns) no-choice (opened table marks)
-      first = record { readies = unfold opened in λ k l. rw (none k) refl; origins = λ k l. opened-origin table marks k l; runs = unfold opened in refl }
+      first = record { readies = unfold opened in λ k l. rw (none k) refl; origins = λ k l. opened-origin table marks k l; runs = unfold opened in (refl, refl); working = unfold opened in refl }

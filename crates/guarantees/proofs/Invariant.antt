@@ -168,7 +168,7 @@ none-taken d t set h behind z =
     taken-none (at-b d t .state) (passed d t set) (passing-none (at-b d t .state) t set h)
     (λ k l m. ap (member k) (still-pending d t z) ∙ behind k l (ap (λ (w : WaitingReleases). member k (w .tasks)) (sym (waiting-b d t)) ∙ m))
 
-few-f : (d : State) (t set : ℕ) → Sound d (d .phase) → at-f d t set .state .jobs .ready < 2 ^ 32
+pub few-f : (d : State) (t set : ℕ) → Sound d (d .phase) → at-f d t set .state .jobs .ready < 2 ^ 32
 unfolding at-f
 few-f d t set h =
     let e : State = at-e d t set in

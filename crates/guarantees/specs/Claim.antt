@@ -8,7 +8,7 @@ use Rattle.table.specs.Table.{copyin-length, execution-length, copyout-length}
 use Rattle.rules.specs.Instant.{previous-release}
 use Rattle.rules.specs.Calls.{opening, refusal}
 use Rattle.guarantees.specs.History.{Event, Starts, Stops, Completes, Ends, Takes, Defers, GivesWay, Begins, history, after-calls, EmptySets}
-use Rattle.guarantees.specs.Pending.{place, OneAtATime, InTime}
+use Rattle.guarantees.specs.Pending.{place, OneAtATime, InTime, step-by, step}
 use Rattle.guarantees.specs.Releases.{Spaced}
 use Rattle.guarantees.specs.Intervals.{Proceeds, came, Cause, reason}
 use Rattle.guarantees.specs.Copying.{Copies}
@@ -17,7 +17,7 @@ use Rattle.guarantees.specs.Figure.{PlainFigure, Figure}
 use Rattle.guarantees.specs.Counting.{CountsRise}
 use Rattle.guarantees.specs.Choosing.{FirstCome}
 use Rattle.guarantees.specs.States.{PlainState}
-use Rattle.guarantees.specs.Queries.{is-task, Situation, NoneOpen, situation, Latest, none-yet, latest, loaded, Execution, not-yet, execution, intervals, met, end-tick, begin-tick, copied-out, taking, start, stop, completion, since, last-released, last-instant, is-take, is-begin, is-completion, total}
+use Rattle.guarantees.specs.Queries.{is-task, comes, Situation, NoneOpen, situation, Latest, none-yet, latest, loaded, Execution, not-yet, execution, intervals, met, end-tick, begin-tick, copied-out, taking, start, stop, completion, since, last-released, last-instant, is-take, is-begin, is-completion, total}
 
 -- ---- The order
 
@@ -124,6 +124,9 @@ pub record Holds (table : Table) (history : List Event) : Type 0 where
   pub each-spacing : (n : ℕ) → n < 32 → member n (table .spaced) ≡ true → Spaced n table history
   -- what occurs at an instant says its tick
   pub in-time : InTime history
+  -- and "what happens at one instant" happens "in this order": nothing belongs to a step before one that was reached
+  pub each-step : (before after : List Event) (e : Event) → history ≡ before ++ (e ∷ after) → comes e ≡ false →
+      step before ≤ step-by (step before) e
   -- "Where N jobs were taken, at most 3 × N intervals have begun"; "N is the number of releases taken in
   -- the list", at once or after waiting
   pub at-most-three : total is-begin history ≤ 3 * total is-take history

@@ -1,16 +1,17 @@
 -- What the engine copies in, by a history: whom it chooses where it becomes free, and how long the copy-in lasts. What stands between
 -- quotation marks is document 01.
-use Rattle.guarantees.specs.Types.{_≡_, Bool, true, false, cond, _&&_, _||_, List, _∷_, _++_, ℕ, _+_, _≤_, MaybeTask, NoTask, Task, Due, Never, Tick}
+use Rattle.guarantees.specs.Types.{_≡_, Bool, true, false, cond, _&&_, _||_, List, _∷_, _++_, ℕ, _+_, _≤_, _<_, MaybeTask, NoTask, Task, Due, Never, Tick}
 use Rattle.sets.specs.Sets.{remove}
 use Rattle.table.specs.Table.{copyin-length}
 use Rattle.rules.specs.Order.{highest}
-use Rattle.guarantees.specs.History.{Event, Comes, Finishes, Ends, GivesWay}
-use Rattle.guarantees.specs.Queries.{details, comes, finishes, completes, takes, begins, gives-way, after, Origin, no-origin, origin-by}
+use Rattle.guarantees.specs.History.{Event, Comes, Finishes, Ends, GivesWay, Begins}
+use Rattle.guarantees.specs.Queries.{details, comes, finishes, completes, ends, takes, begins, stops, gives-way, after, at-rest, Origin, no-origin, origin-by}
 use Rattle.guarantees.specs.Pending.{now}
 use Rattle.guarantees.specs.Intervals.{with-task}
 
 -- the jobs that were taken and that no interval has executed; whether the engine has become free at the instant that came last; since when
--- it has been, in the last interval to begin; the job that it chose then, and the one whose copy-in has finished or given way
+-- it has been, in the open interval; the job that it chose then, in the last interval to begin, and the one whose copy-in has finished or
+-- given way; and whether the processor has a job there that it has not executed yet
 pub record Choice : Type 0 where
   pub ready : ℕ
   pub origins : ℕ → Origin
@@ -18,9 +19,10 @@ pub record Choice : Type 0 where
   pub free : Due
   pub pick : MaybeTask
   pub seen : MaybeTask
+  pub works : Bool
 
 abbrev pub no-choice : Choice
-no-choice = record { ready = 0; origins = λ n. no-origin; choosing = false; free = Never; pick = NoTask; seen = NoTask }
+no-choice = record { ready = 0; origins = λ n. no-origin; choosing = false; free = Never; pick = NoTask; seen = NoTask; works = false }
 
 abbrev pub without-task : MaybeTask → ℕ → ℕ
 without-task NoTask s = s
@@ -38,6 +40,10 @@ abbrev pub chosen-from : MaybeTask → MaybeTask → MaybeTask
 chosen-from NoTask q = q
 chosen-from (Task n) q = NoTask
 
+abbrev pub has-task : MaybeTask → Bool
+has-task NoTask = false
+has-task (Task n) = true
+
 module _ (priority : List ℕ) where
   -- "the highest-priority ready job begins copy-in, or none does (R2)": of those taken by the end of that instant's releases
   abbrev pub highest-ready : Choice → Event → MaybeTask
@@ -48,10 +54,12 @@ module _ (priority : List ℕ) where
     ready = ready-by (x .ready) e;
     origins = λ n. origin-by n (x .origins n) e;
     choosing = cond (comes e || begins e) false (completes e || x .choosing);
-    free = cond (begins e) (free-from (details e .out) (details e .tick)) (cond (completes e) (Tick (details e .tick)) (x .free));
+    free = cond (begins e) (free-from (details e .out) (details e .tick))
+        (cond (completes e) (Tick (details e .tick)) (cond (ends e) Never (x .free)));
     pick = cond (begins e) (chosen-from (details e .out) (highest-ready x e))
         (cond (completes e || (takes e && x .choosing)) (highest-ready x e) (x .pick));
     seen = cond (begins e) NoTask (cond (finishes e || gives-way e) (details e .task) (x .seen));
+    works = cond (begins e) (has-task (details e .task)) (cond (stops e) false (x .works));
   }
 
   abbrev pub choice : List Event → Choice
@@ -72,3 +80,12 @@ module _ (priority : List ℕ) where
     -- copy-in has finished or given way, or nobody was ready
     pub each-end : (before after : List Event) (t : ℕ) → h ≡ before ++ (Ends t ∷ after)
         → (c : ℕ) × (choice before .free ≡ Tick c) × (choice before .seen ≡ choice before .pick)
+    -- where an instant is over, no interval is open of which both units are through: it would have ended;
+    pub each-open : (before after : List Event) (c : ℕ) → h ≡ before ++ after → at-rest after ≡ true → choice before .free ≡ Tick c
+        → choice before .works ≡ false → choice before .seen ≡ choice before .pick → ⊥
+    -- nor is a copy-in under way that should have ended
+    pub each-copying : (before after : List Event) (n t c : ℕ) → h ≡ before ++ after → at-rest after ≡ true → choice before .pick ≡ Task n
+        → choice before .seen ≡ NoTask → choice before .free ≡ Tick c → now before ≡ Tick t → t < c + copyin-length columns n
+    -- "If .. some job is loaded, promoted, ready or waiting for copy-out, an interval begins": and not where there is none
+    pub each-begin : (before after : List Event) (t : ℕ) (r : MaybeTask) → h ≡ before ++ (Begins t r NoTask ∷ after)
+        → choice before .ready ≡ 0 → ⊥

@@ -2,8 +2,9 @@
 -- release that waits is taken. And what occurs, occurs at the instant that came last. What stands between quotation marks is
 -- document 01, or 4/13.
 use Rattle.guarantees.specs.Types.{_≡_, Bool, true, cond, not, _&&_, _||_, List, _∷_, _++_, ℕ, _<_, MaybeTask, Task, Due, Never, Tick}
+use lib.Dec.{eqb, leb}
 use Rattle.guarantees.specs.History.{Event, Comes, Completes, Takes, Defers, Begins}
-use Rattle.guarantees.specs.Queries.{details, is-task, comes, finishes, completes, takes, begins, gives-way, after, waiting, taking}
+use Rattle.guarantees.specs.Queries.{details, is-task, comes, finishes, completes, ends, takes, begins, starts, gives-way, defers, after, waiting, taking}
 
 -- ---- One job at a time
 
@@ -52,3 +53,19 @@ pub record InTime (h : List Event) : Type 0 where
   pub rising : (before after : List Event) (t u : ℕ) → h ≡ before ++ (Comes t ∷ after) → now before ≡ Tick u → u < t
   pub on-time : (before after : List Event) (e : Event) → h ≡ before ++ (e ∷ after)
       → says-tick e ≡ true → now before ≡ Tick (details e .tick)
+
+-- ---- The steps of an instant
+
+-- the step that an event belongs to, from a, which is 0, to g, which is 6, where s was the last: an interval ends in b, or in f if there
+-- were releases before, and an execution starts in a, or in g with its interval
+abbrev pub step-by : ℕ → Event → ℕ
+step-by s e =
+    cond (begins e) 6
+    (cond (ends e) (cond (leb s 1) 1 5)
+    (cond (gives-way e) 3
+    (cond (takes e || defers e) 2
+    (cond (starts e && eqb s 6) 6 0))))
+
+-- the last one
+abbrev pub step : List Event → ℕ
+step = after step-by 0

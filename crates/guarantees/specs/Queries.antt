@@ -86,6 +86,11 @@ unfoldable pub total : (Event → ℕ) → List Event → ℕ
 total f [] = 0
 total f (e ∷ es) = f e + total f es
 
+-- whether an instant is over, where these events follow
+abbrev pub at-rest : List Event → Bool
+at-rest [] = true
+at-rest (e ∷ es) = comes e
+
 -- ---- What is open
 
 -- at some point of a history no interval is open; or one is, with the task that it executes

@@ -616,6 +616,44 @@ gives-way-unchosen =
     Comes 0 ∷ Takes 3 0 false ∷ Begins 0 NoTask NoTask ∷
     Comes 1 ∷ Takes 1 1 true ∷ Takes 2 1 false ∷ GivesWay 2 ∷ Ends 1 ∷ Begins 1 (Task 1) NoTask ∷ []
 
+-- R6: the first interval is over at 2 and stays open; at 3 a marked job throws out the copy that was finished, and it ends
+unfoldable pub over-and-open : List Event
+over-and-open =
+    Comes 0 ∷ Takes 2 0 false ∷ Begins 0 NoTask NoTask ∷
+    Comes 2 ∷ Finishes 2 ∷
+    Comes 3 ∷ Takes 1 3 true ∷ GivesWay 2 ∷ Ends 3 ∷ Begins 3 (Task 1) NoTask ∷ []
+
+-- or the list goes no further
+unfoldable pub left-open : List Event
+left-open =
+    Comes 0 ∷ Takes 2 0 false ∷ Begins 0 NoTask NoTask ∷
+    Comes 2 ∷ Finishes 2 ∷ []
+
+-- a copy-in of two ticks that is under way at its end
+unfoldable pub left-copying : List Event
+left-copying =
+    Comes 0 ∷ Takes 2 0 false ∷ Begins 0 NoTask NoTask ∷
+    Comes 2 ∷ []
+
+-- an interval begins though there is nothing to do: it is the fifth, and two jobs were taken
+unfoldable pub begins-for-nobody : List Event
+begins-for-nobody =
+    Comes 0 ∷ Takes 1 0 true ∷ Takes 2 0 false ∷ Begins 0 NoTask NoTask ∷
+    Comes 2 ∷ Finishes 1 ∷ Ends 2 ∷ Begins 2 (Task 1) NoTask ∷ Starts 1 2 ∷
+    Comes 4 ∷ Finishes 2 ∷
+    Comes 5 ∷ Stops 1 5 ∷ Ends 5 ∷ Begins 5 (Task 2) (Task 1) ∷ Starts 2 5 ∷
+    Comes 6 ∷ Completes 1 6 ∷
+    Comes 9 ∷ Stops 2 9 ∷ Ends 9 ∷ Begins 9 NoTask (Task 2) ∷
+    Comes 10 ∷ Completes 2 10 ∷ Ends 10 ∷
+    Comes 20 ∷ Begins 20 NoTask NoTask ∷ []
+
+-- the steps of an instant: 2 is taken behind the begin of the interval, whose engine therefore copies in 3
+unfoldable pub taken-behind-the-begin : List Event
+taken-behind-the-begin =
+    Comes 0 ∷ Takes 3 0 false ∷ Begins 0 NoTask NoTask ∷ Takes 2 0 false ∷
+    Comes 2 ∷ Finishes 3 ∷ Ends 2 ∷ Begins 2 (Task 3) NoTask ∷ Starts 3 2 ∷
+    Comes 4 ∷ Finishes 2 ∷ []
+
 abbrev pub Refuses : List Event → Type 0
 Refuses h = Holds plans-table h → ⊥
 
@@ -673,6 +711,11 @@ WrongRefused =
     × Refuses copyin-overdue
     × Refuses cancelled-at-its-end
     × Refuses gives-way-unchosen
+    × Refuses over-and-open
+    × Refuses left-open
+    × Refuses left-copying
+    × Refuses begins-for-nobody
+    × Refuses taken-behind-the-begin
     × (AllCompleted third-idle → ⊥)
     × (AllCompleted never-taken → ⊥)
     × (AllCompleted taken-late → ⊥)
