@@ -3,16 +3,16 @@
 use Rattle.guarantees.specs.Types.{_≡_, refl, sym, ap, _∙_, subst, Bool, true, false, cond, not, _&&_, _||_, true≢false, false≢true, List, [], _∷_, _++_, append-assoc, _⊎_, inl, inr, ⊎-elim, ℕ, zero, suc, _+_, _≤_, _<_, _^_, Table, Clock, Jobs, MaybeTask, NoTask, Task, Processor, Idle, CopyingIn, Executing, Finished, CopyOut, NoCopyOut, CopyingOut, CopiedOut, CopyIn, Unchosen, NoneChosen, Copying, Loaded, Cancelled, Interval, Next, NoneNext, LoadedNext, PromotedNext, Outgoing, NoneOutgoing, AwaitsCopyOut, Phase, Between, Within, State, Stage, NoJob, Job, Due, Never, Tick, Call}
 use mathlib.Core.List.{append-nil}
 use native.Mathlib.Omega.{arith}
-use borrow.Author.Tests.{eqb-true, eqb-false, eq-eqb, not-true, not-false}
+use borrow.Author.Tests.{eqb-true, eqb-false, ltb-false, eq-eqb, not-true, not-false}
 use lib.Dec.{eqb}
 use lib.ListN.{getD}
 use Rattle.table.specs.Table.{copyin-length, execution-length}
-use Rattle.sets.specs.Sets.{member, union, insert, bit}
-use Rattle.sets.proofs.Laws.{by-test, clash, none, same-task, member-task, empty, united, inserted, removed}
+use Rattle.sets.specs.Sets.{member, union, intersection, insert, bit}
+use Rattle.sets.proofs.Laws.{by-test, clash, none, same-task, member-task, empty, united, intersection-member, inserted, removed}
 use Rattle.rules.specs.With.{at-clock, later}
-use Rattle.rules.specs.Order.{highest, highest-of}
+use Rattle.rules.specs.Order.{highest, highest-of, outranks}
 use Rattle.rules.specs.Calls.{opened}
-use Rattle.rules.specs.Instant.{resting, processor-at, step-a, without-done, step-b, step-c, step-d, step-e, step-g, cancel, choose, choose-if, close, close-stage, over, settled, copying-out, copyin-at, copyout-at, ended, completed, job-entry, begin, begin-processor, begin-copyout, wanted, processor-task, copyout-task, with-candidates, steps-c-d, steps-c-to-e, at-a, at-b, at-e, at-f, at-g, taken, taken-at, deferred-at, fresh-stage}
+use Rattle.rules.specs.Instant.{resting, processor-at, step-a, without-done, step-b, step-c, step-d, step-e, step-g, cancel, cancel-by, choose, choose-if, close, close-stage, over, settled, copying-out, copyin-at, copyout-at, ended, completed, job-entry, begin, begin-processor, begin-copyout, wanted, processor-task, copyout-task, with-candidates, steps-c-d, steps-c-to-e, at-a, at-b, at-e, at-f, at-g, taken, taken-at, deferred-at, fresh-stage}
 use Rattle.guarantees.specs.History.{Event, Comes, Starts, Stops, Finishes, Completes, Ends, Takes, Defers, GivesWay, Begins, history, happens, processor-events, processor-events-in, finish-events, finish-events-in, completion-events, end-events, take-events, defer-events, given-way, giving-events, giving-events-in, begin-events, start-events}
 use Rattle.guarantees.specs.Queries.{details, comes, finishes, ends, begins, gives-way, after, at-rest, Origin, origin-by}
 use Rattle.guarantees.specs.Pending.{now-by}
@@ -21,8 +21,8 @@ use Rattle.guarantees.proofs.Proper.{Fair}
 use Rattle.guarantees.proofs.Walk.{walk}
 use Rattle.guarantees.proofs.Cases.{HeldFor, held-at, copyin-cases, d-fates, d-cases, e-cases}
 use Rattle.guarantees.proofs.Steps.{Sub, settles}
-use Rattle.guarantees.proofs.Frames.{Frame, frame, at-c, b-frame, d-frame, frame-e, frame-g, pending-g, release-b, waiting-b, release-g, waiting-g, table-b, c-table, clock-g}
-use Rattle.guarantees.proofs.Highest.{highest-same}
+use Rattle.guarantees.proofs.Frames.{Frame, frame, at-c, b-frame, d-frame, frame-e, frame-g, pending-g, release-b, waiting-b, release-g, waiting-g, table-b, marked-b, c-table, clock-g}
+use Rattle.guarantees.proofs.Highest.{Best, best, highest-same}
 use Rattle.guarantees.proofs.Releases.{taken-not-pending, passed}
 use Rattle.guarantees.proofs.Settled.{Decided, DecidedAt, OpenAt}
 use Rattle.guarantees.proofs.Events.{by-takes, by-defers, by-starts, tail-of, happens-parts, front-parts, tail-parts}
@@ -43,11 +43,12 @@ module _ (pr columns : List ℕ) where
   abbrev Made : Choice → Type 0
   Made x = (c : ℕ) × (x .free ≡ Tick c) × (x .seen ≡ x .pick)
 
-  -- where an instant is over no interval is open that is over, and no copy-in is under way that should have ended
+  -- where an instant is over no interval is open that is over, no copy-in is under way that should have ended, and none has a rival to give way to
   abbrev Rest : Choice → Due → Type 0
   Rest x w =
       ((c : ℕ) → x .free ≡ Tick c → x .works ≡ false → x .seen ≡ x .pick → ⊥)
       × ((n t c : ℕ) → x .pick ≡ Task n → x .seen ≡ NoTask → x .free ≡ Tick c → w ≡ Tick t → t < c + copyin-length columns n)
+      × ((n k c : ℕ) → x .pick ≡ Task n → x .free ≡ Tick c → k < 32 → member k (x .rivals) ≡ true → getD pr n 0 ≤ getD pr k 0)
 
   -- and none comes behind its end
   abbrev InTime : Choice → ℕ → Type 0
@@ -84,6 +85,7 @@ module _ (pr columns : List ℕ) where
     each-end = λ before after t e. at before (Ends t) after e .2 refl;
     each-open = λ before after c e q. rest-at before after no-choice Never q (subst (Chosen no-choice Never) e x) .0 c;
     each-copying = λ before after n t c e q. rest-at before after no-choice Never q (subst (Chosen no-choice Never) e x) .1 n t c;
+    each-rival = λ before after n k c e q. rest-at before after no-choice Never q (subst (Chosen no-choice Never) e x) .2 n k c;
     each-begin = λ before after t r e. at before (Begins t r NoTask) after e .4 refl refl;
   }
     where
@@ -117,11 +119,22 @@ module _ (pr columns : List ℕ) where
   Run x o NoneChosen = (copying-out o ≡ false) × (x .pick ≡ NoTask) × (x .seen ≡ NoTask) × Freed x
   Run x o (Copying n until) = (copying-out o ≡ false) × (x .pick ≡ Task n) × ((c : ℕ) × (x .free ≡ Tick c) × (until ≡ later c (copyin-length columns n))) × (x .seen ≡ NoTask)
   Run x o (Loaded n) = (copying-out o ≡ false) × (x .pick ≡ Task n) × (x .seen ≡ Task n) × Freed x
-  Run x o (Cancelled n fate) = (copying-out o ≡ false) × (x .pick ≡ Task n) × (x .seen ≡ Task n) × Freed x
+  Run x o (Cancelled n fate) = (copying-out o ≡ false) × (x .pick ≡ NoTask) × (x .seen ≡ NoTask) × Freed x
+
+  -- none of the marked jobs taken since the choice has a higher priority than the one that the engine copies in, but for those of a set
+  abbrev Leads : Choice → ℕ → ℕ → Type 0
+  Leads x s n = (k : ℕ) → k < 32 → member k (x .rivals) ≡ true → (member k s ≡ true) ⊎ (getD pr n 0 ≤ getD pr k 0)
+
+  abbrev Ahead : Choice → ℕ → CopyIn → Type 0
+  Ahead x s Unchosen = Unit {0}
+  Ahead x s NoneChosen = Unit {0}
+  Ahead x s (Copying n until) = Leads x s n
+  Ahead x s (Loaded n) = Leads x s n
+  Ahead x s (Cancelled n fate) = Unit {0}
 
   abbrev Runs : Choice → Phase → Type 0
   Runs x (Between next outgoing) = (x .seen ≡ x .pick) × (x .free ≡ Never)
-  Runs x (Within i) = Run x (i .copyout) (i .copyin)
+  Runs x (Within i) = Run x (i .copyout) (i .copyin) × Ahead x 0 (i .copyin)
 
   run-as : (x y : Choice) (o : CopyOut) (c : CopyIn) → y .free ≡ x .free → y .seen ≡ x .seen → y .pick ≡ x .pick → Run x o c → Run y o c
   run-as x y o Unchosen f s p r = (p ∙ r .0, s ∙ r .1, f ∙ r .2)
@@ -130,9 +143,16 @@ module _ (pr columns : List ℕ) where
   run-as x y o (Loaded n) f s p r = (r .0, p ∙ r .1, s ∙ r .2, (r .3 .0, f ∙ r .3 .1))
   run-as x y o (Cancelled n fate) f s p r = (r .0, p ∙ r .1, s ∙ r .2, (r .3 .0, f ∙ r .3 .1))
 
-  runs-as : (x y : Choice) (p : Phase) → y .free ≡ x .free → y .seen ≡ x .seen → y .pick ≡ x .pick → Runs x p → Runs y p
-  runs-as x y (Between next outgoing) f s p r = (s ∙ r .0 ∙ sym p, f ∙ r .1)
-  runs-as x y (Within i) f s p r = run-as x y (i .copyout) (i .copyin) f s p r
+  ahead-as : (x y : Choice) (s : ℕ) (c : CopyIn) → y .rivals ≡ x .rivals → Ahead x s c → Ahead y s c
+  ahead-as x y s Unchosen e a = a
+  ahead-as x y s NoneChosen e a = a
+  ahead-as x y s (Copying n until) e a = λ k l m. a k l (subst (λ (r : ℕ). member k r ≡ true) e m)
+  ahead-as x y s (Loaded n) e a = λ k l m. a k l (subst (λ (r : ℕ). member k r ≡ true) e m)
+  ahead-as x y s (Cancelled n fate) e a = a
+
+  runs-as : (x y : Choice) (p : Phase) → y .free ≡ x .free → y .seen ≡ x .seen → y .pick ≡ x .pick → y .rivals ≡ x .rivals → Runs x p → Runs y p
+  runs-as x y (Between next outgoing) f s p e r = (s ∙ r .0 ∙ sym p, f ∙ r .1)
+  runs-as x y (Within i) f s p e r = (run-as x y (i .copyout) (i .copyin) f s p (r .0), ahead-as x y 0 (i .copyin) e (r .1))
 
   -- whether the processor is through with its job
   abbrev rest-of : Phase → Bool
@@ -163,9 +183,10 @@ module _ (pr columns : List ℕ) where
     free : y .free ≡ x .free
     seen : y .seen ≡ x .seen
     pick : y .pick ≡ x .pick
+    rivals : y .rivals ≡ x .rivals
 
   still : (x : Choice) → Still x x
-  still x = record { ready = refl; origins = λ k. refl; choosing = refl; free = refl; seen = refl; pick = refl }
+  still x = record { ready = refl; origins = λ k. refl; choosing = refl; free = refl; seen = refl; pick = refl; rivals = refl }
 
   exact : (c l : ℕ) → later c l ≤ 3000000000 → later c l ≡ c + l
   exact c l h = omega arith
@@ -190,7 +211,7 @@ module _ (pr columns : List ℕ) where
 
     not-over : (p : Phase) → Runs x p → Working x p → OpenAt p → (c : ℕ) → x .free ≡ Tick c → x .works ≡ false → x .seen ≡ x .pick → ⊥
     not-over (Between next outgoing) r v o c f z e = no-tick c (sym (r .1) ∙ f)
-    not-over (Within i) r v o c f z e = go (i .copyin) r o
+    not-over (Within i) r v o c f z e = go (i .copyin) (r .0) o
       where
         rested : resting (i .processor) ≡ true
         rested = not-false (resting (i .processor)) (sym v ∙ z)
@@ -204,7 +225,7 @@ module _ (pr columns : List ℕ) where
 
     not-overdue : (p : Phase) → Times Plain p → Times (λ u. now < u) p → Runs x p → (n t c : ℕ) → x .pick ≡ Task n → x .seen ≡ NoTask → x .free ≡ Tick c → w ≡ Tick t → t < c + copyin-length columns n
     not-overdue (Between next outgoing) a b r n t c p s f z = no-job n (sym s ∙ r .0 ∙ p)
-    not-overdue (Within i) a b r n t c p s f z = go (i .copyin) (a .2) (b .2) r
+    not-overdue (Within i) a b r n t c p s f z = go (i .copyin) (a .2) (b .2) (r .0)
       where
         go : (k : CopyIn) → copyin-times Plain k → copyin-times (λ u. now < u) k → Run x (i .copyout) k → t < c + copyin-length columns n
         go Unchosen a b r = no-job n (sym (r .0) ∙ p)
@@ -218,8 +239,24 @@ module _ (pr columns : List ℕ) where
         go (Loaded m) a b r = no-job n (sym s ∙ r .2 ∙ sym (r .1) ∙ p)
         go (Cancelled m fate) a b r = no-job n (sym s ∙ r .2 ∙ sym (r .1) ∙ p)
 
+    no-rival : (p : Phase) → Runs x p → (n k c : ℕ) → x .pick ≡ Task n → x .free ≡ Tick c → k < 32 → member k (x .rivals) ≡ true → getD pr n 0 ≤ getD pr k 0
+    no-rival (Between next outgoing) r n k c p f l m = no-tick c (sym (r .1) ∙ f)
+    no-rival (Within i) r n k c p f l m = go (i .copyin) (r .0) (r .1)
+      where
+        leads : (j : ℕ) → x .pick ≡ Task j → Leads x 0 j → getD pr n 0 ≤ getD pr k 0
+        leads j q a =
+            let same : j ≡ n = let z : Task j ≡ Task n = sym q ∙ p in cc in
+            subst (λ (i : ℕ). getD pr i 0 ≤ getD pr k 0) same (⊎-elim (λ z. clash (member k 0) z (none k)) (λ z. z) (a k l m))
+
+        go : (c : CopyIn) → Run x (i .copyout) c → Ahead x 0 c → getD pr n 0 ≤ getD pr k 0
+        go Unchosen r a = no-job n (sym (r .0) ∙ p)
+        go NoneChosen r a = no-job n (sym (r .1) ∙ p)
+        go (Copying j until) r a = leads j (r .1) a
+        go (Loaded j) r a = leads j (r .1) a
+        go (Cancelled j fate) r a = no-job n (sym (r .1) ∙ p)
+
     rested : (p : Phase) → Times Plain p → Times (λ u. now < u) p → Runs x p → Working x p → OpenAt p → Rest x w
-    rested p a b r v o = (not-over p r v o, not-overdue p a b r)
+    rested p a b r v o = (not-over p r v o, not-overdue p a b r, no-rival p r)
 
   module _ (t : ℕ) where
     abbrev T : Choice → List Event → Type 0
@@ -228,7 +265,7 @@ module _ (pr columns : List ℕ) where
     -- the engine is free since this instant and the choice is still to come, or it has not become free at it
     abbrev FreeNow : Choice → Phase → Type 0
     FreeNow x (Between next outgoing) = ⊥
-    FreeNow x (Within i) = (i .copyin ≡ Unchosen) × (copying-out (i .copyout) ≡ false) × Picks x × (x .free ≡ Tick t) × (x .seen ≡ NoTask)
+    FreeNow x (Within i) = (i .copyin ≡ Unchosen) × (copying-out (i .copyout) ≡ false) × Picks x × (x .free ≡ Tick t) × (x .seen ≡ NoTask) × (x .rivals ≡ 0)
 
     -- a copy-in under way does not end now
     abbrev Unended : CopyIn → Type 0
@@ -247,14 +284,14 @@ module _ (pr columns : List ℕ) where
 
     -- ---- a
 
-    finish-chosen : (x : Choice) (o : CopyOut) (c : CopyIn) (ys : List Event) → Run x o c → Decided c o → copyin-times Plain c
-        → ((y : Choice) → Like x y → y .choosing ≡ x .choosing → Run y o (copyin-at t c) → Decided (copyin-at t c) o → Unended (copyin-at t c) → T y ys) → T x (finish-events t c ++ ys)
+    finish-chosen : (x : Choice) (o : CopyOut) (c : CopyIn) (ys : List Event) → Run x o c → Ahead x 0 c → Decided c o → copyin-times Plain c
+        → ((y : Choice) → Like x y → y .choosing ≡ x .choosing → Run y o (copyin-at t c) → Ahead y 0 (copyin-at t c) → Decided (copyin-at t c) o → Unended (copyin-at t c) → T y ys) → T x (finish-events t c ++ ys)
     unfolding finish-events
-    finish-chosen x o Unchosen ys r u p k = k x (like x) refl r u tt
-    finish-chosen x o NoneChosen ys r u p k = k x (like x) refl r u tt
-    finish-chosen x o (Loaded n) ys r u p k = k x (like x) refl r u tt
-    finish-chosen x o (Cancelled n fate) ys r u p k = k x (like x) refl r u tt
-    finish-chosen x o (Copying n until) ys r u p k = go (eqb until t) refl k
+    finish-chosen x o Unchosen ys r a u p k = k x (like x) refl r a u tt
+    finish-chosen x o NoneChosen ys r a u p k = k x (like x) refl r a u tt
+    finish-chosen x o (Loaded n) ys r a u p k = k x (like x) refl r a u tt
+    finish-chosen x o (Cancelled n fate) ys r a u p k = k x (like x) refl r a u tt
+    finish-chosen x o (Copying n until) ys r a u p k = go (eqb until t) refl k
       where
         at-its-end : eqb until t ≡ true → (m : ℕ) → Task n ≡ Task m → (c : ℕ) × (x .pick ≡ Task m) × (x .free ≡ Tick c) × (Tick t ≡ Tick (c + copyin-length columns m))
         at-its-end e m z =
@@ -264,14 +301,14 @@ module _ (pr columns : List ℕ) where
             (c, r .1 ∙ z, r .2 .1, ap Tick (sym (eqb-true until t e) ∙ r .2 .2 ∙ l ∙ ap (λ (j : ℕ). c + copyin-length columns j) same))
 
         go : (b : Bool) → eqb until t ≡ b
-            → ((y : Choice) → Like x y → y .choosing ≡ x .choosing → Run y o (cond b (Loaded n) (Copying n until)) → Decided (cond b (Loaded n) (Copying n until)) o → Unended (cond b (Loaded n) (Copying n until)) → T y ys)
+            → ((y : Choice) → Like x y → y .choosing ≡ x .choosing → Run y o (cond b (Loaded n) (Copying n until)) → Ahead y 0 (cond b (Loaded n) (Copying n until)) → Decided (cond b (Loaded n) (Copying n until)) o → Unended (cond b (Loaded n) (Copying n until)) → T y ys)
             → T x (cond b (Finishes n ∷ []) [] ++ ys)
         go true e k =
             unfold Chosen in (
               ((λ m y z. at-its-end e m z), (λ n i y. absurd (false≢true y)), (λ y. absurd (false≢true y)), (λ y. absurd (false≢true y)), (λ y. absurd (false≢true y))),
-              k (choice-by pr x (Finishes n)) (record { ready = refl; origins = λ j. refl; works = refl }) refl (r .0, r .1, refl, (r .2 .0, r .2 .1)) tt tt,
+              k (choice-by pr x (Finishes n)) (record { ready = refl; origins = λ j. refl; works = refl }) refl (r .0, r .1, refl, (r .2 .0, r .2 .1)) a tt tt,
             )
-        go false e k = k x (like x) refl r tt (e, p)
+        go false e k = k x (like x) refl r a tt (e, p)
 
     -- while the engine copies out nobody is chosen
     unchosen : (x : Choice) (o : CopyOut) (c : CopyIn) → Run x o c → copying-out o ≡ true → (c ≡ Unchosen) × (x .seen ≡ NoTask)
@@ -281,19 +318,19 @@ module _ (pr columns : List ℕ) where
     unchosen x o (Loaded n) r e = clash (copying-out o) e (r .0)
     unchosen x o (Cancelled n fate) r e = clash (copying-out o) e (r .0)
 
-    completion-chosen : (x : Choice) (j : Jobs) (o : CopyOut) (c : CopyIn) (i : Interval) (ys : List Event) → i .copyin ≡ c → i .copyout ≡ copyout-at t o → x .choosing ≡ false → Run x o c → Decided c o → Unended c
+    completion-chosen : (x : Choice) (j : Jobs) (o : CopyOut) (c : CopyIn) (i : Interval) (ys : List Event) → i .copyin ≡ c → i .copyout ≡ copyout-at t o → x .choosing ≡ false → Run x o c → Ahead x 0 c → Decided c o → Unended c
         → ((y : Choice) → Like x y → Mode y (Within i) → T y ys) → T x (completion-events (completed j t o) ++ ys)
     unfolding completion-events completed copyout-at
-    completion-chosen x j NoCopyOut c i ys a b e r u v k = k x (like x) (inr (e, rw (a, b) r, rw (a, b) u, rw a v))
-    completion-chosen x j (CopiedOut n) c i ys a b e r u v k = k x (like x) (inr (e, rw (a, b) r, rw (a, b) u, rw a v))
-    completion-chosen x j (CopyingOut n start until) c i ys a b e r u v k = go (eqb until t) b
+    completion-chosen x j NoCopyOut c i ys a b e r w u v k = k x (like x) (inr (e, (rw (a, b) r, rw a w), rw (a, b) u, rw a v))
+    completion-chosen x j (CopiedOut n) c i ys a b e r w u v k = k x (like x) (inr (e, (rw (a, b) r, rw a w), rw (a, b) u, rw a v))
+    completion-chosen x j (CopyingOut n start until) c i ys a b e r w u v k = go (eqb until t) b
       where
         go : (z : Bool) → i .copyout ≡ cond z (CopiedOut n) (CopyingOut n start until) → T x (completion-events (cond z (Job (job-entry j n start t)) NoJob) ++ ys)
         go true b =
             let z = unchosen x (CopyingOut n start until) c r refl in
             on (Completes n t) refl refl refl refl refl x (Tick t) ys
-            (k (choice-by pr x (Completes n t)) (record { ready = refl; origins = λ j. refl; works = refl }) (inl (refl, (a ∙ z .0, ap copying-out b, refl, refl, z .1))))
-        go false b = k x (like x) (inr (e, rw (a, b) r, rw (a, b) u, rw a v))
+            (k (choice-by pr x (Completes n t)) (record { ready = refl; origins = λ j. refl; works = refl }) (inl (refl, (a ∙ z .0, ap copying-out b, refl, refl, z .1, refl))))
+        go false b = k x (like x) (inr (e, (rw (a, b) r, rw a w), rw (a, b) u, rw a v))
 
     module _ (present : ℕ) (tasks : present < 4294967296) where
       likewise : (x y z : Choice) → Like x y → Like y z → Like x z
@@ -317,8 +354,8 @@ module _ (pr columns : List ℕ) where
       a-phase d (Between next outgoing) x ys e h times readies runs decided c k =
           k x (like x) (subst (Readies x (d .jobs .pending)) (sym e) readies) (inr (c, subst (Runs x) (sym e) runs, subst DecidedAt (sym e) tt, subst UnendedAt (sym e) tt))
       a-phase d (Within i) x ys e h times readies runs decided c k =
-          finish-chosen x (i .copyout) (i .copyin) (completion-events (completed (d .jobs) t (i .copyout)) ++ ys) runs decided (times .2)
-          (λ y a z r u v. completion-chosen y (d .jobs) (i .copyout) (copyin-at t (i .copyin)) (ended (d .table) t i) ys (unfold ended in refl) (unfold ended in refl) (z ∙ c) r u v
+          finish-chosen x (i .copyout) (i .copyin) (completion-events (completed (d .jobs) t (i .copyout)) ++ ys) (runs .0) (runs .1) decided (times .2)
+          (λ y a z r q u v. completion-chosen y (d .jobs) (i .copyout) (copyin-at t (i .copyin)) (ended (d .table) t i) ys (unfold ended in refl) (unfold ended in refl) (z ∙ c) r q u v
           (λ w b m. k w (likewise x y w a b) (λ j l. ap (λ (r : ℕ). bit (member j r) + spots j (Within (ended (d .table) t i))) (b .ready ∙ a .ready) ∙ a-left d i x e h readies j l) m))
 
       processor-chosen : (table : Table) (x : Choice) (q : Processor) (ys : List Event) → x .works ≡ not (resting q)
@@ -336,7 +373,7 @@ module _ (pr columns : List ℕ) where
           go : (b : Bool) → ((y : Choice) → Still x y → y .works ≡ not (resting (cond b (Finished n start) (Executing n start until))) → T y ys) → T x (cond b (Stops n t ∷ []) [] ++ ys)
           go true k =
               on (Stops n t) refl refl refl refl refl x (Tick t) ys
-              (k (choice-by pr x (Stops n t)) (record { ready = refl; origins = λ j. refl; choosing = refl; free = refl; seen = refl; pick = refl }) refl)
+              (k (choice-by pr x (Stops n t)) (record { ready = refl; origins = λ j. refl; choosing = refl; free = refl; seen = refl; pick = refl; rivals = refl }) refl)
           go false k = k x (still x) v
 
       a-chosen : (d : State) (p : Phase) (x : Choice) (ys : List Event) → d .phase ≡ p → Parted present tasks d p → Times Plain p → Readies x (d .jobs .pending) p → Runs x p → DecidedAt p → x .choosing ≡ false → Working x p
@@ -347,7 +384,7 @@ module _ (pr columns : List ℕ) where
           a-phase d (Between next outgoing) x ys e h times readies runs decided c (λ y l r m. k y (l .origins) r m (l .works ∙ v ∙ unfold step-a in ap (λ (q : Phase). not (rest-of q)) (sym e)))
       a-chosen d (Within i) x ys e h times readies runs decided c v k =
           processor-chosen (d .table) x (i .processor) _ v
-          (λ y a w. a-phase d (Within i) y ys e h times (λ j l. ap (λ (r : ℕ). bit (member j r) + spots j (Within i)) (a .ready) ∙ readies j l) (runs-as x y (Within i) (a .free) (a .seen) (a .pick) runs) decided (a .choosing ∙ c)
+          (λ y a w. a-phase d (Within i) y ys e h times (λ j l. ap (λ (r : ℕ). bit (member j r) + spots j (Within i)) (a .ready) ∙ readies j l) (runs-as x y (Within i) (a .free) (a .seen) (a .pick) (a .rivals) runs) decided (a .choosing ∙ c)
           (λ z l r m. k z (λ j. l .origins j ∙ a .origins j) r m (l .works ∙ w ∙ unfold step-a ended in refl)))
 
       -- ---- b
@@ -361,7 +398,7 @@ module _ (pr columns : List ℕ) where
 
       ended-seen : (x : Choice) (i : Interval) → over i ≡ true → Mode x (Within i) → Made x × (x .choosing ≡ false)
       ended-seen x i o m =
-          ⊎-elim (λ z. clash (settled (i .copyin)) (settles i o) (ap settled (z .1 .0))) (λ z. (run-seen x (i .copyout) (i .copyin) (settles i o) (z .1), z .0)) m
+          ⊎-elim (λ z. clash (settled (i .copyin)) (settles i o) (ap settled (z .1 .0))) (λ z. (run-seen x (i .copyout) (i .copyin) (settles i o) (z .1 .0), z .0)) m
 
       b-chosen : (x : Choice) (pending : ℕ) (s : Stage) (p : Phase) (ys : List Event) → s .state .phase ≡ p → Readies x pending p → Mode x p → Working x p
           → ((y : Choice) → ((k : ℕ) → y .origins k ≡ x .origins k) → Readies y pending (step-b s t p .state .phase) → Mode y (step-b s t p .state .phase) → Working y (step-b s t p .state .phase) → T y ys)
@@ -411,6 +448,11 @@ module _ (pr columns : List ℕ) where
         picks : x .choosing ≡ true → Picks x → Picks y
         keeps : x .choosing ≡ false → y .pick ≡ x .pick
 
+      -- and which rivals they add
+      record Grows (taken w : ℕ) (x y : Choice) : Type 0 where
+        new : (k : ℕ) → k < 32 → member k (y .rivals) ≡ true → (member k (x .rivals) ≡ true) ⊎ ((member k taken ≡ true) × (member k w ≡ true))
+        none-new : x .choosing ≡ true → y .rivals ≡ x .rivals
+
       module _ (taken w : ℕ) where
         takes-run : (k : ℕ) (x : Choice) (ys : List Event) → T (after (choice-by pr) x (take-events k taken w t)) ys → T x (take-events k taken w t ++ ys)
         unfolding take-events after
@@ -443,6 +485,30 @@ module _ (pr columns : List ℕ) where
               keeps = λ e. h .keeps e ∙ ap (λ (b : Bool). cond b (highest-ready pr x (Takes n t (member n w))) (x .pick)) e;
             }
 
+        abbrev Grown : List Event → Type 0
+        Grown es = (x : Choice) → Grows taken w x (after (choice-by pr) x es)
+
+        takes-grow : (x : Choice) → Grows taken w x (after (choice-by pr) x (take-events 32 taken w t))
+        takes-grow x =
+            subst Grown (append-nil (take-events 32 taken w t))
+            (by-takes Grown 32 taken w t (λ n l m es h x. one n m es x (h (choice-by pr x (Takes n t (member n w))))) [] (λ x. unfold after in record { new = λ k l m. inl m; none-new = λ e. refl })) x
+          where
+            one : (n : ℕ) → member n taken ≡ true → (es : List Event) (x : Choice) → Grows taken w (choice-by pr x (Takes n t (member n w))) (after (choice-by pr) (choice-by pr x (Takes n t (member n w))) es)
+                → Grows taken w x (after (choice-by pr) x (Takes n t (member n w) ∷ es))
+            one n m es x h = unfold after in record {
+              new = λ k l z. ⊎-elim (λ r. add k l (x .choosing) (member n w) refl r) inr (h .new k l z);
+              none-new = λ e. h .none-new e ∙ ap (λ (b : Bool). cond (not b && member n w) (insert n (x .rivals)) (x .rivals)) e;
+            }
+              where
+                add : (k : ℕ) → k < 32 → (c b : Bool) → member n w ≡ b → member k (cond (not c && b) (insert n (x .rivals)) (x .rivals)) ≡ true → (member k (x .rivals) ≡ true) ⊎ ((member k taken ≡ true) × (member k w ≡ true))
+                add k l true b e r = inl r
+                add k l false false e r = inl r
+                add k l false true e r = which (eqb k n) refl (sym (inserted n (x .rivals) k l) ∙ r)
+                  where
+                    which : (b : Bool) → eqb k n ≡ b → (b || member k (x .rivals)) ≡ true → (member k (x .rivals) ≡ true) ⊎ ((member k taken ≡ true) × (member k w ≡ true))
+                    which true q r = let same : n ≡ k = sym (eqb-true k n q) in inr (subst (λ (j : ℕ). member j taken ≡ true) same m, subst (λ (j : ℕ). member j w ≡ true) same e)
+                    which false q r = inl r
+
         takes-ready : (j s : ℕ) → j < 32 → member j (after ready-by s (take-events 32 taken w t)) ≡ (member j s || member j taken)
         takes-ready j s l =
             ap (λ (es : List Event). member j (after ready-by s es)) (sym (append-nil (take-events 32 taken w t)))
@@ -467,6 +533,7 @@ module _ (pr columns : List ℕ) where
         seen : y .seen ≡ x .seen
         choosing : y .choosing ≡ x .choosing
         pick : y .pick ≡ x .pick
+        rivals : y .rivals ≡ x .rivals
         works : y .works ≡ x .works
 
       module _ (deferred : ℕ) where
@@ -489,47 +556,50 @@ module _ (pr columns : List ℕ) where
         defers-same : (x : Choice) → Same x (after (choice-by pr) x (defer-events 32 deferred t))
         defers-same x =
             subst Left (append-nil (defer-events 32 deferred t))
-            (by-defers Left 32 deferred t (λ n l m es h x. one n es x (h (choice-by pr x (Defers n t)))) [] (λ x. unfold after in record { ready = refl; free = refl; seen = refl; choosing = refl; pick = refl; works = refl })) x
+            (by-defers Left 32 deferred t (λ n l m es h x. one n es x (h (choice-by pr x (Defers n t)))) [] (λ x. unfold after in record { ready = refl; free = refl; seen = refl; choosing = refl; pick = refl; rivals = refl; works = refl })) x
           where
             one : (n : ℕ) (es : List Event) (x : Choice) → Same (choice-by pr x (Defers n t)) (after (choice-by pr) (choice-by pr x (Defers n t)) es) → Same x (after (choice-by pr) x (Defers n t ∷ es))
-            one n es x h = unfold after in record { ready = h .ready; free = h .free; seen = h .seen; choosing = h .choosing; pick = h .pick; works = h .works }
+            one n es x h = unfold after in record { ready = h .ready; free = h .free; seen = h .seen; choosing = h .choosing; pick = h .pick; rivals = h .rivals; works = h .works }
 
       -- ---- d, e
 
       -- from a state c behind its releases: the choice is the state's, or none is made
-      abbrev Ready : Choice → State → Phase → Type 0
-      Ready x c (Between next outgoing) = (x .seen ≡ x .pick) × (x .free ≡ Never)
-      Ready x c (Within i) =
-          ((i .copyin ≡ Unchosen) × (copying-out (i .copyout) ≡ false) × (x .pick ≡ highest-of c (c .jobs .ready)) × (x .free ≡ Tick t) × (x .seen ≡ NoTask))
-          ⊎ (Run x (i .copyout) (i .copyin) × Decided (i .copyin) (i .copyout) × Unended (i .copyin))
+      abbrev Ready : Choice → State → ℕ → Phase → Type 0
+      Ready x c s (Between next outgoing) = (x .seen ≡ x .pick) × (x .free ≡ Never)
+      Ready x c s (Within i) =
+          ((i .copyin ≡ Unchosen) × (copying-out (i .copyout) ≡ false) × (x .pick ≡ highest-of c (c .jobs .ready)) × (x .free ≡ Tick t) × (x .seen ≡ NoTask) × (x .rivals ≡ 0))
+          ⊎ (Run x (i .copyout) (i .copyin) × Decided (i .copyin) (i .copyout) × Unended (i .copyin) × Ahead x s (i .copyin))
 
-      chosen-runs : (x : Choice) (c : State) (i : Interval) (q : MaybeTask) → c .table .columns ≡ columns → copying-out (i .copyout) ≡ false → x .pick ≡ q → x .free ≡ Tick t → x .seen ≡ NoTask
+      chosen-runs : (x : Choice) (c : State) (i : Interval) (q : MaybeTask) → c .table .columns ≡ columns → copying-out (i .copyout) ≡ false → x .pick ≡ q → x .free ≡ Tick t → x .seen ≡ NoTask → x .rivals ≡ 0
           → Runs x (choose c t i q .phase)
       unfolding choose
-      chosen-runs x c i NoTask e o p f s = (o, p, s, (t, f))
-      chosen-runs x c i (Task n) e o p f s = (o, p, (t, f, ap (λ (l : List ℕ). later t (copyin-length l n)) e), s)
+      chosen-runs x c i NoTask e o p f s z = ((o, p, s, (t, f)), tt)
+      chosen-runs x c i (Task n) e o p f s z = (
+        (o, p, (t, f, ap (λ (l : List ℕ). later t (copyin-length l n)) e), s),
+        λ k l m. clash (member k 0) (subst (λ (r : ℕ). member k r ≡ true) z m) (none k),
+      )
 
       -- step e
       e-free : (x : Choice) (c : State) (i : Interval) → c .table .columns ≡ columns → i .copyin ≡ Unchosen → copying-out (i .copyout) ≡ false → x .pick ≡ highest-of c (c .jobs .ready)
-          → x .free ≡ Tick t → x .seen ≡ NoTask → Runs x (step-e c t (Within i) .phase)
+          → x .free ≡ Tick t → x .seen ≡ NoTask → x .rivals ≡ 0 → Runs x (step-e c t (Within i) .phase)
       unfolding step-e choose-if
-      e-free x c i e u v p f s =
+      e-free x c i e u v p f s z =
           subst (λ (k : CopyIn). Runs x (choose-if c t i k .phase)) (sym u)
-          (subst (λ (b : Bool). Runs x (cond b c (choose c t i (highest-of c (c .jobs .ready))) .phase)) (sym v) (chosen-runs x c i (highest-of c (c .jobs .ready)) e v p f s))
+          (subst (λ (b : Bool). Runs x (cond b c (choose c t i (highest-of c (c .jobs .ready))) .phase)) (sym v) (chosen-runs x c i (highest-of c (c .jobs .ready)) e v p f s z))
 
       e-keeps : (x : Choice) (c : State) → DecidedAt (c .phase) → Runs x (c .phase) → Runs x (step-e c t (c .phase) .phase)
       e-keeps x c d r =
           e-cases (λ z. Runs x (z .phase)) c t r
           (λ i p u v. clash (copying-out (i .copyout)) (subst (λ (k : CopyIn). Decided k (i .copyout)) u (subst DecidedAt p d)) v)
 
-      e-runs : (x : Choice) (c : State) → c .table .columns ≡ columns → Ready x c (c .phase) → Runs x (step-e c t (c .phase) .phase)
+      e-runs : (x : Choice) (c : State) → c .table .columns ≡ columns → Ready x c 0 (c .phase) → Runs x (step-e c t (c .phase) .phase)
       e-runs x c e h = go (c .phase) refl h
         where
-          go : (p : Phase) → c .phase ≡ p → Ready x c p → Runs x (step-e c t (c .phase) .phase)
+          go : (p : Phase) → c .phase ≡ p → Ready x c 0 p → Runs x (step-e c t (c .phase) .phase)
           go (Between next outgoing) p h = e-keeps x c (subst DecidedAt (sym p) tt) (subst (Runs x) (sym p) h)
           go (Within i) p h =
-              ⊎-elim (λ r. subst (λ (q : Phase). Runs x (step-e c t q .phase)) (sym p) (e-free x c i e (r .0) (r .1) (r .2) (r .3) (r .4)))
-              (λ r. e-keeps x c (subst DecidedAt (sym p) (r .1)) (subst (Runs x) (sym p) (r .0))) h
+              ⊎-elim (λ r. subst (λ (q : Phase). Runs x (step-e c t q .phase)) (sym p) (e-free x c i e (r .0) (r .1) (r .2) (r .3) (r .4) (r .5)))
+              (λ r. e-keeps x c (subst DecidedAt (sym p) (r .1)) (subst (Runs x) (sym p) (r .0, r .3))) h
 
       -- one that gives way under way does so before its end
       abbrev Early : Choice → ℕ → Type 0
@@ -540,22 +610,22 @@ module _ (pr columns : List ℕ) where
       Held x i n = (copying-out (i .copyout) ≡ false) × (x .pick ≡ Task n) × Early x n × Freed x
 
       abbrev Gave : Choice → State → State → Type 0
-      Gave x c z = ((n : ℕ) × (giving-events-in (c .phase) (z .phase) ≡ GivesWay n ∷ []) × (x .pick ≡ Task n) × Early x n × Ready (choice-by pr x (GivesWay n)) z (z .phase)) ⊎ (z ≡ c)
+      Gave x c z = ((n : ℕ) × (giving-events-in (c .phase) (z .phase) ≡ GivesWay n ∷ []) × (x .pick ≡ Task n) × Early x n × Ready (choice-by pr x (GivesWay n)) z 0 (z .phase)) ⊎ (z ≡ c)
 
-      cancelled : (x : Choice) (c : State) (i : Interval) (n fate : ℕ) → copying-out (i .copyout) ≡ false → x .pick ≡ Task n → Freed x
-          → let z : State = cancel c i n fate true in Ready (choice-by pr x (GivesWay n)) z (z .phase)
+      cancelled : (x : Choice) (c : State) (i : Interval) (n fate : ℕ) → copying-out (i .copyout) ≡ false → Freed x
+          → let z : State = cancel c i n fate true in Ready (choice-by pr x (GivesWay n)) z 0 (z .phase)
       unfolding cancel
-      cancelled x c i n fate o p f = inr ((o, p, refl, f), tt, tt)
+      cancelled x c i n fate o f = inr ((o, refl, refl, f), tt, tt, tt)
 
-      d-gave : (x : Choice) (c : State) (taken : ℕ) → Ready x c (c .phase) → Gave x c (step-d c taken (c .phase))
-      d-gave x c taken h = d-fates (Gave x c) c taken (inr refl) (λ i n fate p held b. inl (gives i n fate p held (subst (Ready x c) p h)))
+      d-gave : (x : Choice) (c : State) (taken s : ℕ) → Ready x c s (c .phase) → Gave x c (step-d c taken (c .phase))
+      d-gave x c taken s h = d-fates (Gave x c) c taken (inr refl) (λ i n fate p held b. inl (gives i n fate p held (subst (Ready x c s) p h)))
         where
           gives-it : (i : Interval) (n fate : ℕ) → HeldFor (i .copyin) n fate → giving-events-in (Within i) (cancel c i n fate true .phase) ≡ GivesWay n ∷ []
           gives-it i n fate h =
               unfold cancel giving-events-in giving-events in
               ⊎-elim (λ z. ap (λ (c : CopyIn). giving-events (given-way c) (Task n)) (z .1)) (λ z. ap (λ (c : CopyIn). giving-events (given-way c) (Task n)) (z .0)) h
 
-          held-run : (i : Interval) (n fate : ℕ) → HeldFor (i .copyin) n fate → Ready x c (Within i) → Held x i n
+          held-run : (i : Interval) (n fate : ℕ) → HeldFor (i .copyin) n fate → Ready x c s (Within i) → Held x i n
           held-run i n fate held r =
               ⊎-elim (λ a. ⊎-elim (λ z. absurd (true≢false (ap is-unchosen (sym (a .0) ∙ z .1)))) (λ z. absurd (true≢false (ap is-unchosen (sym (a .0) ∙ z .0)))) held)
               (λ a. ⊎-elim (λ z. copying (z .0) (z .1) (a .0) (a .2)) (λ z. loaded (z .0) (a .0)) held) r
@@ -585,24 +655,79 @@ module _ (pr columns : List ℕ) where
               loaded : i .copyin ≡ Loaded n → Run x (i .copyout) (i .copyin) → Held x i n
               loaded e r = let y : Run x (i .copyout) (Loaded n) = subst (Run x (i .copyout)) e r in (y .0, y .1, (λ c s f z. absurd (no-task n (sym s ∙ y .2))), y .3)
 
-          gives : (i : Interval) (n fate : ℕ) → c .phase ≡ Within i → HeldFor (i .copyin) n fate → Ready x c (Within i)
-              → let z : State = cancel c i n fate true in (m : ℕ) × (giving-events-in (c .phase) (z .phase) ≡ GivesWay m ∷ []) × (x .pick ≡ Task m) × Early x m × Ready (choice-by pr x (GivesWay m)) z (z .phase)
+          gives : (i : Interval) (n fate : ℕ) → c .phase ≡ Within i → HeldFor (i .copyin) n fate → Ready x c s (Within i)
+              → let z : State = cancel c i n fate true in (m : ℕ) × (giving-events-in (c .phase) (z .phase) ≡ GivesWay m ∷ []) × (x .pick ≡ Task m) × Early x m × Ready (choice-by pr x (GivesWay m)) z 0 (z .phase)
           gives i n fate p held r =
               let h : Held x i n = held-run i n fate held r in
-              (n, subst (λ (q : Phase). giving-events-in q (cancel c i n fate true .phase) ≡ GivesWay n ∷ []) (sym p) (gives-it i n fate held), h .1, h .2, cancelled x c i n fate (h .0) (h .1) (h .3))
+              (n, subst (λ (q : Phase). giving-events-in q (cancel c i n fate true .phase) ≡ GivesWay n ∷ []) (sym p) (gives-it i n fate held), h .1, h .2, cancelled x c i n fate (h .0) (h .3))
 
       -- step c
-      c-ready : (x : Choice) (b c : State) (taken : ℕ) (p : Phase) → Ready x c p → Ready x c (with-candidates b taken p)
+      c-ready : (x : Choice) (b c : State) (taken s : ℕ) (p : Phase) → Ready x c s p → Ready x c s (with-candidates b taken p)
       unfolding with-candidates
-      c-ready x b c taken (Between next outgoing) h = h
-      c-ready x b c taken (Within i) h = h
+      c-ready x b c taken s (Between next outgoing) h = h
+      c-ready x b c taken s (Within i) h = h
 
-      gives-chosen : (x : Choice) (b : State) (taken deferred : ℕ) (ys : List Event) → step-c b t taken deferred .table .columns ≡ columns
-          → (let c : State = step-c b t taken deferred in Ready x c (c .phase))
+      -- behind step d none of those taken and marked has a higher priority than the one that the engine copies in
+      abbrev Beats : ℕ → CopyIn → Type 0
+      Beats s Unchosen = Unit {0}
+      Beats s NoneChosen = Unit {0}
+      Beats s (Copying n until) = (k : ℕ) → k < 32 → member k s ≡ true → getD pr n 0 ≤ getD pr k 0
+      Beats s (Loaded n) = (k : ℕ) → k < 32 → member k s ≡ true → getD pr n 0 ≤ getD pr k 0
+      Beats s (Cancelled n fate) = Unit {0}
+
+      abbrev BeatsAt : ℕ → Phase → Type 0
+      BeatsAt s (Between next outgoing) = Unit {0}
+      BeatsAt s (Within i) = Beats s (i .copyin)
+
+      d-beats : (c : State) (taken : ℕ) → c .table .priority ≡ pr → BeatsAt (intersection taken (c .marked)) (step-d c taken (c .phase) .phase)
+      unfolding step-d cancel-by cancel
+      d-beats c taken e = go (c .phase) refl
+        where
+          stays : (n : ℕ) (q : MaybeTask) → Best (c .table .priority) (intersection taken (c .marked)) q → outranks c n q ≡ false → (k : ℕ) → k < 32 → member k (intersection taken (c .marked)) ≡ true → getD pr n 0 ≤ getD pr k 0
+          stays n NoTask b o k l m = clash (member k (intersection taken (c .marked))) m (b k l)
+          stays n (Task h) b o k l m =
+              subst (λ (p : List ℕ). getD p n 0 ≤ getD p k 0) e (omega (arith, ltb-false (getD (c .table .priority) h 0) (getD (c .table .priority) n 0) o, b .2 k l m))
+
+          highest-is : Best (c .table .priority) (intersection taken (c .marked)) (highest-of c (intersection taken (c .marked)))
+          highest-is = best (c .table .priority) (λ k. getD (c .jobs .release) k 0) (intersection taken (c .marked))
+
+          go-outranks : (i : Interval) (n fate : ℕ) (b : Bool) → c .phase ≡ Within i → (b ≡ false → BeatsAt (intersection taken (c .marked)) (Within i)) → BeatsAt (intersection taken (c .marked)) (cancel c i n fate b .phase)
+          go-outranks i n fate true p f = tt
+          go-outranks i n fate false p f = subst (BeatsAt (intersection taken (c .marked))) (sym p) (f refl)
+
+          go-copyin : (i : Interval) (k : CopyIn) → c .phase ≡ Within i → i .copyin ≡ k → BeatsAt (intersection taken (c .marked)) (cancel-by c taken i k .phase)
+          go-copyin i Unchosen p u = subst (BeatsAt (intersection taken (c .marked))) (sym p) (subst (Beats (intersection taken (c .marked))) (sym u) tt)
+          go-copyin i NoneChosen p u = subst (BeatsAt (intersection taken (c .marked))) (sym p) (subst (Beats (intersection taken (c .marked))) (sym u) tt)
+          go-copyin i (Copying n until) p u =
+              go-outranks i n 2 (outranks c n (highest-of c (intersection taken (c .marked)))) p (λ o. subst (Beats (intersection taken (c .marked))) (sym u) (stays n (highest-of c (intersection taken (c .marked))) highest-is o))
+          go-copyin i (Loaded n) p u =
+              go-outranks i n 3 (outranks c n (highest-of c (intersection taken (c .marked)))) p (λ o. subst (Beats (intersection taken (c .marked))) (sym u) (stays n (highest-of c (intersection taken (c .marked))) highest-is o))
+          go-copyin i (Cancelled n fate) p u = subst (BeatsAt (intersection taken (c .marked))) (sym p) (subst (Beats (intersection taken (c .marked))) (sym u) tt)
+
+          go : (p : Phase) → c .phase ≡ p → BeatsAt (intersection taken (c .marked)) (step-d c taken p .phase)
+          go (Between next outgoing) p = subst (BeatsAt (intersection taken (c .marked))) (sym p) tt
+          go (Within i) p = go-copyin i (i .copyin) p refl
+
+      d-stays : (x : Choice) (c : State) (s : ℕ) (p : Phase) → BeatsAt s p → Ready x c s p → Ready x c 0 p
+      d-stays x c s (Between next outgoing) b h = h
+      d-stays x c s (Within i) b h = ⊎-elim inl (λ r. inr (r .0, r .1, r .2, go (i .copyin) b (r .3))) h
+        where
+          leads : (n : ℕ) → ((k : ℕ) → k < 32 → member k s ≡ true → getD pr n 0 ≤ getD pr k 0) → Leads x s n → Leads x 0 n
+          leads n b a k l m = inr (⊎-elim (λ z. b k l z) (λ z. z) (a k l m))
+
+          go : (k : CopyIn) → Beats s k → Ahead x s k → Ahead x 0 k
+          go Unchosen b a = tt
+          go NoneChosen b a = tt
+          go (Copying n until) b a = leads n b a
+          go (Loaded n) b a = leads n b a
+          go (Cancelled n fate) b a = tt
+
+      gives-chosen : (x : Choice) (b : State) (taken deferred : ℕ) (ys : List Event) → step-c b t taken deferred .table .columns ≡ columns → step-c b t taken deferred .table .priority ≡ pr
+          → (let c : State = step-c b t taken deferred in Ready x c (intersection taken (c .marked)) (c .phase))
           → ((y : Choice) → Like x y → Runs y (steps-c-to-e b t taken deferred .phase) → T y ys)
           → T x (giving-events-in (b .phase) (steps-c-to-e b t taken deferred .phase) ++ ys)
       unfolding steps-c-to-e steps-c-d
-      gives-chosen x b taken deferred ys e h k =
+      gives-chosen x b taken deferred ys e f h k =
           let c : State = step-c b t taken deferred in
           let y : State = step-d c taken (c .phase) in
           let z : Phase = step-e y t (y .phase) .phase in
@@ -611,8 +736,9 @@ module _ (pr columns : List ℕ) where
           (λ g. subst (λ (es : List Event). T x (es ++ ys)) (sym (same ∙ g .1)) (gone (g .0) (g .2) (g .3) (k (choice-by pr x (GivesWay (g .0))) (record { ready = refl; origins = λ j. refl; works = refl })
           (e-runs (choice-by pr x (GivesWay (g .0))) y (ap (λ (f : Frame). f .table .columns) (d-frame c taken) ∙ e) (g .4)))))
           (λ g. subst (λ (es : List Event). T x (es ++ ys)) (sym (same ∙ ap (λ (s : State). giving-events-in (c .phase) (s .phase)) g ∙ gives-same [] (c .phase)))
-          (k x (like x) (subst (λ (s : State). Runs x (step-e s t (s .phase) .phase)) (sym g) (e-runs x c e h))))
-          (d-gave x c taken h)
+          (k x (like x) (subst (λ (s : State). Runs x (step-e s t (s .phase) .phase)) (sym g)
+          (e-runs x c e (d-stays x c (intersection taken (c .marked)) (c .phase) (subst (λ (s : State). BeatsAt (intersection taken (c .marked)) (s .phase)) g (d-beats c taken f)) h)))))
+          (d-gave x c taken (intersection taken (c .marked)) h)
         where
           number : (a b : ℕ) → Task a ≡ Task b → a ≡ b
           number a b e = cc
@@ -637,9 +763,9 @@ module _ (pr columns : List ℕ) where
               → T x (end-events t (Within i) (close-stage s t i b .state .phase) ++ ys)
           go true o k =
               unfold Chosen in (
-                ((λ n y z. absurd (false≢true y)), (λ n j y. absurd (false≢true y)), (λ y. run-seen x (i .copyout) (i .copyin) (settles i o) m), (λ y. absurd (false≢true y)), (λ y. absurd (false≢true y))),
+                ((λ n y z. absurd (false≢true y)), (λ n j y. absurd (false≢true y)), (λ y. run-seen x (i .copyout) (i .copyin) (settles i o) (m .0)), (λ y. absurd (false≢true y)), (λ y. absurd (false≢true y))),
                 k (choice-by pr x (Ends t)) (λ j. refl) (λ j l. omega (arith, h j l, b-outgoing-bit present tasks j (i .processor) (rests i o), b-copyout-bit present tasks j (i .copyout) (no-copyout i o)))
-                    (run-seen x (i .copyout) (i .copyin) (settles i o) m .2, refl) (v ∙ ap not (rests i o)),
+                    (run-seen x (i .copyout) (i .copyin) (settles i o) (m .0) .2, refl) (v ∙ ap not (rests i o)),
               )
           go false o k = stays (s .state .phase) e k
 
@@ -682,8 +808,8 @@ module _ (pr columns : List ℕ) where
       begun-runs x f taken next outgoing e c h readies since = e-runs (begun x (f .table) next outgoing) (begin f t taken next outgoing) (unfold begin in c) (go outgoing h readies)
         where
           go : (outgoing : Outgoing) → Parted present tasks f (Between next outgoing) → Readies x (f .jobs .pending) (Between next outgoing)
-              → let b : State = begin f t taken next outgoing in Ready (begun x (f .table) next outgoing) b (b .phase)
-          go (AwaitsCopyOut m start) h readies = unfold begin in inr ((refl, refl, refl), refl, tt)
+              → let b : State = begin f t taken next outgoing in Ready (begun x (f .table) next outgoing) b 0 (b .phase)
+          go (AwaitsCopyOut m start) h readies = unfold begin in inr ((refl, refl, refl), refl, tt, tt)
           go NoneOutgoing h readies =
               unfold begin in
               inl (
@@ -692,6 +818,7 @@ module _ (pr columns : List ℕ) where
                 highest-same pr (λ k. x .origins k .since) (λ k. getD (f .jobs .release) k 0) (begun x (f .table) next NoneOutgoing .ready) (f .jobs .ready)
                     (λ k l. bit-same _ _ (omega (arith, left-over x f taken next NoneOutgoing e c h readies since k l, readies k l, h .parts k l))) since
                     ∙ ap (λ (p : List ℕ). highest p (λ k. getD (f .jobs .release) k 0) (f .jobs .ready)) (sym e),
+                refl,
                 refl,
                 refl,
               )
@@ -882,9 +1009,9 @@ module _ (pr columns : List ℕ) where
                 → bit (member k (x .ready)) ≡ bit (member k (b .jobs .ready))
             go q z = rw z (λ m n. omega (arith, ap (copyin-bit k) u))
 
-        held-ready : Mode x (b .phase) → Ready (held x taken w deferred) c (c .phase)
+        held-ready : b .marked ≡ w → Mode x (b .phase) → Ready (held x taken w deferred) c (intersection taken (c .marked)) (c .phase)
         unfolding step-c
-        held-ready m = c-ready (held x taken w deferred) b c taken (b .phase) (go (b .phase) refl m)
+        held-ready v m = c-ready (held x taken w deferred) b c taken (intersection taken (b .marked)) (b .phase) (go (b .phase) refl m)
           where
             same : Same (took x taken w) (held x taken w deferred)
             same = defers-same deferred (took x taken w)
@@ -892,9 +1019,28 @@ module _ (pr columns : List ℕ) where
             keep : Keeps x (took x taken w)
             keep = takes-keep taken w x
 
-            go : (p : Phase) → b .phase ≡ p → Mode x p → Ready (held x taken w deferred) c p
+            grow : Grows taken w x (took x taken w)
+            grow = takes-grow taken w x
+
+            two : (a b : Bool) → a ≡ true → b ≡ true → (a && b) ≡ true
+            two a b e f = rw (e, f) refl
+
+            leads : (n : ℕ) → Leads x 0 n → Leads (held x taken w deferred) (intersection taken (b .marked)) n
+            leads n a k l m =
+                ⊎-elim (λ z. ⊎-elim (λ q. clash (member k 0) q (none k)) inr (a k l z))
+                (λ z. inl (intersection-member taken (b .marked) k l ∙ two (member k taken) (member k (b .marked)) (z .0) (subst (λ (y : ℕ). member k y ≡ true) (sym v) (z .1))))
+                (grow .new k l (subst (λ (r : ℕ). member k r ≡ true) (same .rivals) m))
+
+            ahead : (k : CopyIn) → Ahead x 0 k → Ahead (held x taken w deferred) (intersection taken (b .marked)) k
+            ahead Unchosen a = tt
+            ahead NoneChosen a = tt
+            ahead (Copying n until) a = leads n a
+            ahead (Loaded n) a = leads n a
+            ahead (Cancelled n fate) a = tt
+
+            go : (p : Phase) → b .phase ≡ p → Mode x p → Ready (held x taken w deferred) c (intersection taken (b .marked)) p
             go (Between next outgoing) z m =
-                ⊎-elim (λ n. absurd (n .1)) (λ n. runs-as x (held x taken w deferred) (Between next outgoing) (same .free ∙ keep .free) (same .seen ∙ keep .seen) (same .pick ∙ keep .keeps (n .0)) (n .1)) m
+                ⊎-elim (λ n. absurd (n .1)) (λ n. (same .seen ∙ keep .seen ∙ n .1 .0 ∙ sym (same .pick ∙ keep .keeps (n .0)), same .free ∙ keep .free ∙ n .1 .1)) m
             go (Within i) z m =
                 ⊎-elim
                 (λ n. inl (
@@ -905,8 +1051,9 @@ module _ (pr columns : List ℕ) where
                       ∙ ap (λ (q : List ℕ). highest q (λ k. getD (c .jobs .release) k 0) (union (b .jobs .ready) taken)) (sym e),
                   same .free ∙ keep .free ∙ n .1 .3,
                   same .seen ∙ keep .seen ∙ n .1 .4,
+                  same .rivals ∙ grow .none-new (n .0) ∙ n .1 .5,
                 ))
-                (λ n. inr (run-as x (held x taken w deferred) (i .copyout) (i .copyin) (same .free ∙ keep .free) (same .seen ∙ keep .seen) (same .pick ∙ keep .keeps (n .0)) (n .1), n .2, n .3)) m
+                (λ n. inr (run-as x (held x taken w deferred) (i .copyout) (i .copyin) (same .free ∙ keep .free) (same .seen ∙ keep .seen) (same .pick ∙ keep .keeps (n .0)) (n .1 .0), n .2, n .3, ahead (i .copyin) (n .1 .1))) m
 
       -- ---- an instant
 
@@ -951,7 +1098,8 @@ module _ (pr columns : List ℕ) where
             takes-run taken (d .marked) 32 x (tail-of d t set ++ ys)
             (rw (tail-parts d t set ys)
             (defers-run deferred 32 (took x taken (d .marked)) _
-            (gives-chosen (held x taken (d .marked) deferred) B taken deferred _ (ap (λ (y : Table). y .columns) table-c ∙ lengths) (held-ready x B taken deferred (d .marked) priority-b parted-b readies origins new mode)
+            (gives-chosen (held x taken (d .marked) deferred) B taken deferred _ (ap (λ (y : Table). y .columns) table-c ∙ lengths) (ap (λ (y : Table). y .priority) table-c ∙ priority)
+            (held-ready x B taken deferred (d .marked) priority-b parted-b readies origins new (marked-b d t) mode)
             (λ y a runs. f-chosen y (union (B .jobs .pending) taken) (fresh-stage E) (E .phase) _ refl (readies-e y a) runs (a .works ∙ held-works ∙ v ∙ ap not (sym (rest-e d set)))
             (λ u i r m v. g-chosen u F (held-at d t set) (F .phase) starts refl (ap (λ (z : Table). z .priority) table-f ∙ priority) (ap (λ (z : Table). z .columns) table-f ∙ lengths) parted-f
             (subst (λ (p : ℕ). Readies u p (F .phase)) (sym pending-f) r) m (λ j l. ap (λ (o : Origin). o .since) (i j ∙ a .origins j) ∙ held-is j l .since-is ∙ ap (λ (z : Frame). getD (z .release) j 0) (sym frame-f)) few v
@@ -1006,7 +1154,7 @@ module _ (pr columns : List ℕ) where
         -- no instant comes behind the end of a copy-in
         in-time : (x : Choice) (p : Phase) → Times Plain p → Times (λ u. t ≤ u) p → Runs x p → InTime x t
         in-time x (Between next outgoing) times due r n c p s f = absurd (let z : NoTask ≡ Task n = sym s ∙ r .0 ∙ p in let y : _≡_ {A = ℕ} 0 1 = cc in omega arith)
-        in-time x (Within i) times due r n c p s f = go (i .copyin) (times .2) (due .2) r
+        in-time x (Within i) times due r n c p s f = go (i .copyin) (times .2) (due .2) (r .0)
           where
             no-task : NoTask ≡ Task n → t ≤ c + copyin-length columns n
             no-task e = absurd (let y : _≡_ {A = ℕ} 0 1 = cc in omega arith)
@@ -1027,7 +1175,7 @@ module _ (pr columns : List ℕ) where
             let later : List Event = take-events 32 (taken-at d t set) (d .marked) t ++ (tail-of d t set ++ ys) in
             rw (happens-parts d t set ys, front-parts d t later)
             (comes-on x w _ rest (in-time x (d .phase) times due (agrees .runs))
-            (front-chosen (choice-by pr x (Comes t)) later times decided refl (record { readies = agrees .readies; origins = agrees .origins; runs = runs-as x (choice-by pr x (Comes t)) (d .phase) refl refl refl (agrees .runs); working = agrees .working })
+            (front-chosen (choice-by pr x (Comes t)) later times decided refl (record { readies = agrees .readies; origins = agrees .origins; runs = runs-as x (choice-by pr x (Comes t)) (d .phase) refl refl refl refl (agrees .runs); working = agrees .working })
             (λ y r o m v. tail-chosen y ys r o m v k)))
 
 -- ---- along the calls

@@ -1,7 +1,8 @@
 -- What the engine copies in, by a history: whom it chooses where it becomes free, and how long the copy-in lasts. What stands between
 -- quotation marks is document 01.
-use Rattle.guarantees.specs.Types.{_≡_, Bool, true, false, cond, _&&_, _||_, List, _∷_, _++_, ℕ, _+_, _≤_, _<_, MaybeTask, NoTask, Task, Due, Never, Tick}
-use Rattle.sets.specs.Sets.{remove}
+use Rattle.guarantees.specs.Types.{_≡_, Bool, true, false, cond, not, _&&_, _||_, List, _∷_, _++_, ℕ, _+_, _≤_, _<_, MaybeTask, NoTask, Task, Due, Never, Tick}
+use lib.ListN.{getD}
+use Rattle.sets.specs.Sets.{member, remove}
 use Rattle.table.specs.Table.{copyin-length}
 use Rattle.rules.specs.Order.{highest}
 use Rattle.guarantees.specs.History.{Event, Comes, Finishes, Ends, GivesWay, Begins}
@@ -10,8 +11,8 @@ use Rattle.guarantees.specs.Pending.{now}
 use Rattle.guarantees.specs.Intervals.{with-task}
 
 -- the jobs that were taken and that no interval has executed; whether the engine has become free at the instant that came last; since when
--- it has been, in the open interval; the job that it chose then, in the last interval to begin, and the one whose copy-in has finished or
--- given way; and whether the processor has a job there that it has not executed yet
+-- it has been, in the open interval; the job that it chose then, in the last interval to begin, and that has not given way, and the one
+-- whose copy-in has finished; the marked jobs taken since that choice; and whether the processor has a job there that it has not executed
 pub record Choice : Type 0 where
   pub ready : ℕ
   pub origins : ℕ → Origin
@@ -19,10 +20,21 @@ pub record Choice : Type 0 where
   pub free : Due
   pub pick : MaybeTask
   pub seen : MaybeTask
+  pub rivals : ℕ
   pub works : Bool
 
 abbrev pub no-choice : Choice
-no-choice = record { ready = 0; origins = λ n. no-origin; choosing = false; free = Never; pick = NoTask; seen = NoTask; works = false }
+no-choice =
+    record {
+      ready = 0;
+      origins = λ n. no-origin;
+      choosing = false;
+      free = Never;
+      pick = NoTask;
+      seen = NoTask;
+      rivals = 0;
+      works = false;
+    }
 
 abbrev pub without-task : MaybeTask → ℕ → ℕ
 without-task NoTask s = s
@@ -57,8 +69,10 @@ module _ (priority : List ℕ) where
     free = cond (begins e) (free-from (details e .out) (details e .tick))
         (cond (completes e) (Tick (details e .tick)) (cond (ends e) Never (x .free)));
     pick = cond (begins e) (chosen-from (details e .out) (highest-ready x e))
-        (cond (completes e || (takes e && x .choosing)) (highest-ready x e) (x .pick));
-    seen = cond (begins e) NoTask (cond (finishes e || gives-way e) (details e .task) (x .seen));
+        (cond (completes e || (takes e && x .choosing)) (highest-ready x e) (cond (gives-way e) NoTask (x .pick)));
+    seen = cond (begins e || gives-way e) NoTask (cond (finishes e) (details e .task) (x .seen));
+    rivals = cond (begins e || completes e) 0
+        (cond (takes e && (not (x .choosing) && details e .mark)) (with-task (details e .task) (x .rivals)) (x .rivals));
     works = cond (begins e) (has-task (details e .task)) (cond (stops e) false (x .works));
   }
 
@@ -86,6 +100,11 @@ module _ (priority : List ℕ) where
     -- nor is a copy-in under way that should have ended
     pub each-copying : (before after : List Event) (n t c : ℕ) → h ≡ before ++ after → at-rest after ≡ true → choice before .pick ≡ Task n
         → choice before .seen ≡ NoTask → choice before .free ≡ Tick c → now before ≡ Tick t → t < c + copyin-length columns n
+    -- "If a marked release was taken whose priority is higher than that of a copy-in under way on the engine, this copy-in is cancelled";
+    -- 2/13: it "also throws out a lower-priority copy-in that the engine has already finished in the open interval": where an instant is
+    -- over, none that has not given way has such a rival
+    pub each-rival : (before after : List Event) (n k c : ℕ) → h ≡ before ++ after → at-rest after ≡ true → choice before .pick ≡ Task n
+        → choice before .free ≡ Tick c → k < 32 → member k (choice before .rivals) ≡ true → getD priority n 0 ≤ getD priority k 0
     -- "If .. some job is loaded, promoted, ready or waiting for copy-out, an interval begins": and not where there is none
     pub each-begin : (before after : List Event) (t : ℕ) (r : MaybeTask) → h ≡ before ++ (Begins t r NoTask ∷ after)
         → choice before .ready ≡ 0 → ⊥

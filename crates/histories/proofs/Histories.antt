@@ -28,7 +28,7 @@ use Rattle.guarantees.specs.Queries.{details, is-task, takes, completes, after,
 use Rattle.guarantees.specs.Figure.{greatest, longest-interval, not-lower-in, before-start}
 use Rattle.guarantees.specs.Claim.{Holds, Completed, TakenLater, AllCompleted, Claim, Demand3}
 use Rattle.sets.proofs.Laws.{by-test, same-task}
-use Rattle.histories.specs.Histories.{task, tasks, three, plans-table, spaced-tasks, spaced-table, AcceptsOf, Accepts, Refuses, PlansAccepted, WrongRefused, calls-a, history-a, calls-b, history-b, calls-c, history-c, calls-d, history-d, calls-e, history-e, calls-f, history-f, calls-f′, history-f′, calls-waiting, history-waiting, second-lower, second-finished, thrown-out-runs, third-idle, third-lower, copyout-late, four-intervals, copyout-not-at-once, completion-late, completion-missing, completion-unexecuted, begins-late, no-ticks, not-executed, loaded-late, promoted-early, execution-long, promoted-unmarked, starts-unasked, starts-twice, stops-unstarted, cut-short, one-waits, never-taken, two-wait, waited-unexecuted, before-13, before-17, job-1, Tells, OneEntry, WaitedEntry, taken-late, waits-for-nothing, taken-twice, completed-twice, runs-unreleased, executed-again, another-tick, instants-fall, nobody-promoted, promoted-late, promoted-beside-the-loaded, begins-twice, ends-twice, finishes-twice, gives-way-twice, FigureRefuses, FigureTells, unmarked-in-four, marked-in-three, marked-behind-idle, marked-idles, lasts-long, open-long, completes-behind-two, unmarked-late, marked-late, between-unstarted, between-unstopped, Marks, calls-one, taken-another, up-to-5, ReleasesRefused, calls-skipped, history-skipped, calls-third, history-third, RefusesSpaced, taken-at-0, SpacingsAccepted, SpacingsRefused, LastReleases, PlanEntries, waits-between, ends-late, stays-open, ends-a-tick-late, taken-unchosen, ends-behind-a-taking, begins-a-tick-late, lower-chosen, nobody-chosen, copyin-short, copyin-overdue, cancelled-at-its-end, gives-way-unchosen, over-and-open, left-open, left-copying, begins-for-nobody, taken-behind-the-begin, slow-tasks, slow-table, calls-slow, history-slow, ends-copying-out, LaterEnd, calls-unmarked, history-unmarked, BoundsMet}
+use Rattle.histories.specs.Histories.{task, tasks, three, plans-table, spaced-tasks, spaced-table, AcceptsOf, Accepts, Refuses, PlansAccepted, WrongRefused, calls-a, history-a, calls-b, history-b, calls-c, history-c, calls-d, history-d, calls-e, history-e, calls-f, history-f, calls-f′, history-f′, calls-waiting, history-waiting, second-lower, second-finished, thrown-out-runs, third-idle, third-lower, copyout-late, four-intervals, copyout-not-at-once, completion-late, completion-missing, completion-unexecuted, begins-late, no-ticks, not-executed, loaded-late, promoted-early, execution-long, promoted-unmarked, starts-unasked, starts-twice, stops-unstarted, cut-short, one-waits, never-taken, two-wait, waited-unexecuted, before-13, before-17, job-1, Tells, OneEntry, WaitedEntry, taken-late, waits-for-nothing, taken-twice, completed-twice, runs-unreleased, executed-again, another-tick, instants-fall, nobody-promoted, promoted-late, promoted-beside-the-loaded, begins-twice, ends-twice, finishes-twice, gives-way-twice, FigureRefuses, FigureTells, unmarked-in-four, marked-in-three, marked-behind-idle, marked-idles, lasts-long, open-long, completes-behind-two, unmarked-late, marked-late, between-unstarted, between-unstopped, Marks, calls-one, taken-another, up-to-5, ReleasesRefused, calls-skipped, history-skipped, calls-third, history-third, RefusesSpaced, taken-at-0, SpacingsAccepted, SpacingsRefused, LastReleases, PlanEntries, waits-between, ends-late, stays-open, ends-a-tick-late, taken-unchosen, ends-behind-a-taking, begins-a-tick-late, lower-chosen, nobody-chosen, copyin-short, copyin-overdue, cancelled-at-its-end, gives-way-unchosen, over-and-open, left-open, left-copying, begins-for-nobody, taken-behind-the-begin, late-table, cancelled-late, not-thrown-out, slow-tasks, slow-table, calls-slow, history-slow, ends-copying-out, LaterEnd, calls-unmarked, history-unmarked, BoundsMet}
 use Rattle.guarantees.specs.Intervals.{ended}
 use Rattle.guarantees.specs.Entries.{lower-in, handed-in, marked-by}
 use Rattle.guarantees.specs.Queries.{until}
@@ -444,6 +444,14 @@ unfolding taken-behind-the-begin after
 refuses-taken-behind-the-begin h =
     let x : 6 ≤ 2 = h .each-step (take 3 taken-behind-the-begin) (drop 4 taken-behind-the-begin) (Takes 2 0 false) refl refl in omega arith
 
+refuses-cancelled-late : Holds late-table cancelled-late → ⊥
+unfolding cancelled-late after late-table three Sets.member Sets.below Sets.collect Sets.insert Sets.remove Order.better Order.highest-below Order.highest
+refuses-cancelled-late h = let x : 3 ≤ 1 = h .each-copyin .each-rival (take 5 cancelled-late) (drop 5 cancelled-late) 3 1 0 refl refl refl refl (omega arith) refl in omega arith
+
+refuses-not-thrown-out : Refuses not-thrown-out
+unfolding not-thrown-out after plans-table three Sets.member Sets.below Sets.collect Sets.insert Sets.remove Order.better Order.highest-below Order.highest
+refuses-not-thrown-out h = let x : 2 ≤ 1 = h .each-copyin .each-rival not-thrown-out [] 2 1 2 refl refl refl refl (omega arith) refl in omega arith
+
 pub wrong-refused : WrongRefused
 unfolding WrongRefused
 wrong-refused = (
@@ -504,6 +512,8 @@ wrong-refused = (
   refuses-left-copying,
   refuses-begins-for-nobody,
   refuses-taken-behind-the-begin,
+  refuses-cancelled-late,
+  refuses-not-thrown-out,
   refuses-incomplete,
   refuses-never-taken,
   refuses-late-taking,

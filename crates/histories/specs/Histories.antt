@@ -654,6 +654,25 @@ taken-behind-the-begin =
     Comes 2 ∷ Finishes 3 ∷ Ends 2 ∷ Begins 2 (Task 3) NoTask ∷ Starts 3 2 ∷
     Comes 4 ∷ Finishes 2 ∷ []
 
+-- R3: tasks of which 3 is copied in for 3 ticks
+unfoldable pub late-table : Table
+late-table =
+    record { present = 14; spaced = 0; priority = three 1 2 3; columns = three 2 2 3 ++ (three 3 4 5 ++ (three 1 1 2 ++ three 0 0 0)) }
+
+-- the marked job of 1 is taken at 1, and the copy-in of 3 is cancelled only at 2, for the one of 2
+unfoldable pub cancelled-late : List Event
+cancelled-late =
+    Comes 0 ∷ Takes 3 0 false ∷ Begins 0 NoTask NoTask ∷
+    Comes 1 ∷ Takes 1 1 true ∷
+    Comes 2 ∷ Takes 2 2 true ∷ GivesWay 3 ∷ Ends 2 ∷ Begins 2 (Task 1) NoTask ∷ []
+
+-- 2/13: plan B up to 4, where the copy of 2 that has finished is not thrown out
+unfoldable pub not-thrown-out : List Event
+not-thrown-out =
+    Comes 0 ∷ Takes 3 0 false ∷ Begins 0 NoTask NoTask ∷
+    Comes 2 ∷ Finishes 3 ∷ Ends 2 ∷ Takes 2 2 false ∷ Begins 2 (Task 3) NoTask ∷ Starts 3 2 ∷
+    Comes 4 ∷ Finishes 2 ∷ Takes 1 4 true ∷ []
+
 abbrev pub Refuses : List Event → Type 0
 Refuses h = Holds plans-table h → ⊥
 
@@ -716,6 +735,8 @@ WrongRefused =
     × Refuses left-copying
     × Refuses begins-for-nobody
     × Refuses taken-behind-the-begin
+    × (Holds late-table cancelled-late → ⊥)
+    × Refuses not-thrown-out
     × (AllCompleted third-idle → ⊥)
     × (AllCompleted never-taken → ⊥)
     × (AllCompleted taken-late → ⊥)
