@@ -56,6 +56,11 @@ GIVEN = {
     "copyout-length": (2, lambda c, n: at(c, 2 * TASKS + n)), "spacing": (2, lambda c, n: at(c, 3 * TASKS + n))}
 
 
+# Values that are what they look like, and how many of what they give are kept.
+PLAIN = (int, tuple)
+MOST_KNOWN = 20_000
+
+
 class Partial:
     """A function that has some of its arguments."""
 
@@ -72,6 +77,7 @@ class Claims:
             self.found.update(read_definitions(text))
         self.given = {**GIVEN, "highest": (3, self.highest), **given}
         self.tasks = range(TASKS)
+        self.known = {}
 
     def highest(self, priority, since, tasks):
         """The highest task of a set: by priority, then by the original time, which a function gives of each, then by number (6/13)."""
@@ -111,7 +117,23 @@ class Claims:
             branch = parts[1] if self.value(parts[0], env) else parts[2]
             value = self.value(branch, env)
             return self.apply(value, [self.value(part, env) for part in parts[3:]])
-        return self.apply(self.value(head, env), [self.value(part, env) for part in parts])
+        arguments = [self.value(part, env) for part in parts]
+        if head[0] == "var" and head[1] in self.found and head[1] not in env and all(isinstance(each, PLAIN) for each in arguments):
+            return self.remembered(head, env, arguments)
+        return self.apply(self.value(head, env), arguments)
+
+    def remembered(self, head, env, arguments):
+        """What a definition gives for plain values: a walk along a history is asked again and again at one point of it."""
+        key = (head[1], self.own(self.found[head[1]], env), *arguments)
+        try:
+            if key in self.known:
+                return self.known[key]
+        except TypeError:  # a module's parameter that is no plain value
+            return self.apply(self.value(head, env), arguments)
+        if len(self.known) > MOST_KNOWN:
+            self.known.clear()
+        self.known[key] = self.apply(self.value(head, env), arguments)
+        return self.known[key]
 
     def named(self, name, env):
         if name in env:
