@@ -198,6 +198,9 @@ class Claims:
         elif unknown is not None and not names_in(pattern) & unknown - set(bound):
             if self.value(pattern, bound) == value:
                 yield bound
+        elif kind == "op" and pattern[1] == "+" and pattern[3][0] == "num":
+            if value >= pattern[3][1]:
+                yield from self.matches(pattern[2], value - pattern[3][1], unknown, bound)
         elif kind == "op" and pattern[1] == "∷":
             if value != EMPTY:
                 for more in self.matches(pattern[2], value[1], unknown, bound):

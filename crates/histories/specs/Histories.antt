@@ -434,8 +434,7 @@ waits-for-nothing =
 -- task 1 is taken at 0 and again at 1, while its job is pending: the third and the fourth interval of its second job run lower ones
 unfoldable pub taken-twice : List Event
 taken-twice =
-    Comes 0 ∷ Takes 1 0 true ∷ Takes 2 0 false ∷ Takes 3 0 false ∷ Begins 0 NoTask NoTask ∷
-    Comes 1 ∷ Takes 1 1 true ∷
+    Comes 0 ∷ Takes 1 0 true ∷ Takes 2 0 false ∷ Takes 3 0 false ∷ Begins 0 NoTask NoTask ∷ Comes 1 ∷ Takes 1 1 true ∷
     Comes 2 ∷ Finishes 1 ∷ Ends 2 ∷ Begins 2 (Task 1) NoTask ∷ Starts 1 2 ∷
     Comes 4 ∷ Finishes 2 ∷
     Comes 5 ∷ Stops 1 5 ∷ Ends 5 ∷ Begins 5 (Task 2) (Task 1) ∷ Starts 2 5 ∷
