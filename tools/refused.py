@@ -40,8 +40,14 @@ def verdict(status, said):
         return "taken"
     if status != 1 or "\nlogic=not-proved" not in f"\n{said}":
         return "unread"
-    found = [line for line in said.splitlines() if ERROR.match(line) and not FOLLOWS.search(line)]
-    return "shape" if found and all(SHAPE.search(line) for line in found) else "fact"
+    found = [text for text in messages(said) if not FOLLOWS.search(text)]
+    return "shape" if found and all(SHAPE.search(text) for text in found) else "fact"
+
+
+def messages(said):
+    """Each error, with the line behind it where that goes on with it."""
+    lines = said.splitlines()
+    return [f"{line} {more.strip()}" if more.startswith(" ") else line for line, more in zip(lines, lines[1:] + [""]) if ERROR.match(line)]
 
 
 def first_place(said, folder):

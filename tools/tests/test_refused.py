@@ -13,6 +13,7 @@ NOT_PROVED = "logic=not-proved\n"
 DIFFERS = "/copy/proofs/f/Proof.antt:13:13: error: `returns`: the two types first differ where one has `2`\n"
 FOLLOWS = "/copy/proofs/g/Proof.antt:19:48: error: `g-spec`: `returns` was not admitted (it has holes), so this cannot be checked\n"
 NO_NAME = "/copy/proofs/f/Proof.antt:8:23: error: `tie.Need-x`: module `Tie` has no `Need-x` that can be named from here\n"
+NO_FIELD = "/copy/proofs/f/Proof.antt:9:31: error: `returns`: record `f.Lts.After-x`\n  has no field `y`\n"
 NO_PROOF = "note: /copy/src/lib.rt:57:1: it is not proved that what the function ensures holds when it returns (`returns`)\n"
 
 
@@ -32,6 +33,10 @@ class Verdicts(unittest.TestCase):
 
     def test_a_proof_that_does_not_fit(self):
         self.assertEqual(verdict(1, NO_NAME + FOLLOWS + NOT_PROVED), "shape")
+
+    def test_an_error_that_goes_on_in_the_next_line(self):
+        self.assertEqual(verdict(1, NO_FIELD + FOLLOWS + NOT_PROVED), "shape")
+        self.assertEqual(verdict(1, NO_FIELD + DIFFERS + NOT_PROVED), "fact")
 
     def test_a_fact_beside_a_proof_that_does_not_fit(self):
         self.assertEqual(verdict(1, NO_NAME + DIFFERS + NOT_PROVED), "fact")
