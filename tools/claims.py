@@ -53,7 +53,9 @@ GIVEN = {
     "getD": (3, at), "replicate": (2, lambda n, value: listed([value] * n)), "take": (2, lambda n, l: listed(unlisted(l)[:n])),
     "drop": (2, lambda n, l: listed(unlisted(l)[n:])),
     "copyin-length": (2, at), "execution-length": (2, lambda c, n: at(c, TASKS + n)),
-    "copyout-length": (2, lambda c, n: at(c, 2 * TASKS + n)), "spacing": (2, lambda c, n: at(c, 3 * TASKS + n))}
+    "copyout-length": (2, lambda c, n: at(c, 2 * TASKS + n)), "spacing": (2, lambda c, n: at(c, 3 * TASKS + n)),
+    "settled": (1, lambda copyin: copyin[0] in ("NoneChosen", "Loaded", "Cancelled")),
+    "copyin-task": (1, lambda copyin: ("Task", copyin[1]) if len(copyin) > 1 else ("NoTask",))}
 
 
 # Values that are what they look like, and how many of what they give are kept.

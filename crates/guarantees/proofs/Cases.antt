@@ -8,6 +8,13 @@ use Rattle.rules.specs.Instant.{processor-at, copyout-at, copyin-at, over, clos
 use Rattle.rules.specs.With.{later, with-phase, with-jobs}
 use Rattle.rules.specs.Order.{outranks, highest-of}
 
+abbrev pub is-unchosen : CopyIn → Bool
+is-unchosen Unchosen = true
+is-unchosen NoneChosen = false
+is-unchosen (Copying n until) = false
+is-unchosen (Loaded n) = false
+is-unchosen (Cancelled n fate) = false
+
 -- the engine holds task n's job: its copy-in is under way, or finished
 abbrev pub Held : CopyIn → ℕ → Type 0
 Held k n = ((until : ℕ) × (k ≡ Copying n until)) ⊎ (k ≡ Loaded n)

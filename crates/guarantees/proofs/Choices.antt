@@ -1,25 +1,25 @@
 -- What the engine copies in, by the history: the job that is highest when the engine becomes free, for as long as its copy-in lasts; step by step and along the
 -- calls.
-use Rattle.guarantees.specs.Types.{_≡_, refl, sym, ap, _∙_, subst, Bool, true, false, cond, not, _&&_, _||_, true≢false, false≢true, List, [], _∷_, _++_, append-assoc, _⊎_, inl, inr, ⊎-elim, ℕ, zero, suc, _+_, _≤_, _<_, _^_, Table, Clock, Jobs, MaybeTask, NoTask, Task, Processor, Idle, CopyingIn, Executing, Finished, CopyOut, NoCopyOut, CopyingOut, CopiedOut, CopyIn, Unchosen, NoneChosen, Copying, Loaded, Cancelled, Interval, Next, NoneNext, LoadedNext, PromotedNext, Outgoing, NoneOutgoing, AwaitsCopyOut, Phase, Between, Within, State, Stage, NoJob, Job, Due, Never, Tick, Call}
+use Rattle.guarantees.specs.Types.{_≡_, refl, sym, ap, _∙_, subst, Bool, true, false, cond, not, _&&_, _||_, true≢false, false≢true, List, [], _∷_, _++_, append-assoc, _⊎_, inl, inr, ⊎-elim, ℕ, zero, suc, _+_, _≤_, _<_, Table, Jobs, MaybeTask, NoTask, Task, Processor, Idle, CopyingIn, Executing, Finished, CopyOut, NoCopyOut, CopyingOut, CopiedOut, CopyIn, Unchosen, NoneChosen, Copying, Loaded, Cancelled, Interval, Next, NoneNext, LoadedNext, PromotedNext, Outgoing, NoneOutgoing, AwaitsCopyOut, Phase, Between, Within, State, Stage, NoJob, Job, Due, Never, Tick, Call}
 use mathlib.Core.List.{append-nil}
 use native.Mathlib.Omega.{arith}
-use borrow.Author.Tests.{eqb-true, eqb-false, ltb-false, eq-eqb, not-true, not-false}
+use borrow.Author.Tests.{eqb-true, eqb-false, ltb-false}
 use lib.Dec.{eqb}
 use lib.ListN.{getD}
 use Rattle.table.specs.Table.{copyin-length, execution-length}
-use Rattle.sets.specs.Sets.{member, union, intersection, insert, bit}
-use Rattle.sets.proofs.Laws.{by-test, clash, none, same-task, member-task, empty, united, intersection-member, inserted, removed}
+use Rattle.sets.specs.Sets.{member, union, intersection, insert, remove, bit}
+use Rattle.sets.proofs.Laws.{by-test, clash, none, same-task, united, intersection-member, inserted, removed}
 use Rattle.rules.specs.With.{at-clock, later}
 use Rattle.rules.specs.Order.{highest, highest-of, outranks}
 use Rattle.rules.specs.Calls.{opened}
-use Rattle.rules.specs.Instant.{resting, processor-at, step-a, without-done, step-b, step-c, step-d, step-e, step-g, cancel, cancel-by, choose, choose-if, close, close-stage, over, settled, copying-out, copyin-at, copyout-at, ended, completed, job-entry, begin, begin-processor, begin-copyout, wanted, processor-task, copyout-task, with-candidates, steps-c-d, steps-c-to-e, at-a, at-b, at-e, at-f, at-g, taken, taken-at, deferred-at, fresh-stage}
+use Rattle.rules.specs.Instant.{resting, processor-at, step-a, without-done, step-b, step-c, step-d, step-e, step-g, cancel, cancel-by, choose, choose-if, close, close-stage, over, settled, copying-out, copyin-at, copyout-at, ended, completed, job-entry, begin, begin-processor, begin-copyout, wanted, processor-task, copyout-task, copyin-task, with-candidates, steps-c-d, steps-c-to-e, at-a, at-b, at-e, at-f, at-g, taken, taken-at, deferred-at, fresh-stage}
 use Rattle.guarantees.specs.History.{Event, Comes, Starts, Stops, Finishes, Completes, Ends, Takes, Defers, GivesWay, Begins, history, happens, processor-events, processor-events-in, finish-events, finish-events-in, completion-events, end-events, take-events, defer-events, given-way, giving-events, giving-events-in, begin-events, start-events}
 use Rattle.guarantees.specs.Queries.{details, comes, finishes, ends, begins, gives-way, after, at-rest, Origin, origin-by}
 use Rattle.guarantees.specs.Pending.{now-by}
-use Rattle.guarantees.specs.Copying.{Choice, no-choice, choice, without-task, ready-by, highest-ready, choice-by, has-task, Copies}
+use Rattle.guarantees.specs.Copying.{Choice, no-choice, choice, without-task, ready-by, engine-of, chosen-by, choice-by, has-task, Copies}
 use Rattle.guarantees.proofs.Proper.{Fair}
 use Rattle.guarantees.proofs.Walk.{walk}
-use Rattle.guarantees.proofs.Cases.{HeldFor, held-at, copyin-cases, d-fates, d-cases, e-cases}
+use Rattle.guarantees.proofs.Cases.{is-unchosen, HeldFor, held-at, copyin-cases, d-fates, d-cases, e-cases}
 use Rattle.guarantees.proofs.Steps.{Sub, settles}
 use Rattle.guarantees.proofs.Frames.{Frame, frame, at-c, b-frame, d-frame, frame-e, frame-g, pending-g, release-b, waiting-b, release-g, waiting-g, table-b, marked-b, c-table, clock-g}
 use Rattle.guarantees.proofs.Highest.{Best, best, highest-same}
@@ -30,74 +30,75 @@ use Rattle.guarantees.proofs.Places.{Parted, copyin-bit, processor-bit,
 use Rattle.guarantees.proofs.Origins.{OriginIs, taken-origin, deferred-origin, takes-origin, defers-origin, c-origin, opened-origin}
 use Rattle.guarantees.proofs.Deferred.{at-task}
 use Rattle.guarantees.proofs.Served.{last, Served-at, served-at}
-use Rattle.guarantees.proofs.Invariant.{Until, mass, debt, few-f, Good, good-opened, good-next, good-quiet}
+use Rattle.guarantees.proofs.Invariant.{Until, mass, debt, Good, good-opened, good-next, good-quiet}
 use Rattle.guarantees.proofs.Times.{Times, copyin-times, times-map}
 use Rattle.guarantees.proofs.CopyOuts.{Both, begun-both, Plain, plain}
 use Rattle.guarantees.proofs.Courses.{gives-same}
 use Rattle.guarantees.proofs.Causes.{c-same, e-same}
 
+abbrev is-copying : CopyIn → Bool
+is-copying Unchosen = false
+is-copying NoneChosen = false
+is-copying (Copying n until) = true
+is-copying (Loaded n) = false
+is-copying (Cancelled n fate) = false
+
 module _ (pr columns : List ℕ) where
   -- ---- along a history
-
-  -- the engine has become free, and what it chose has finished or given way
-  abbrev Made : Choice → Type 0
-  Made x = (c : ℕ) × (x .free ≡ Tick c) × (x .seen ≡ x .pick)
 
   -- where an instant is over no interval is open that is over, no copy-in is under way that should have ended, and none has a rival to give way to
   abbrev Rest : Choice → Due → Type 0
   Rest x w =
-      ((c : ℕ) → x .free ≡ Tick c → x .works ≡ false → x .seen ≡ x .pick → ⊥)
-      × ((n t c : ℕ) → x .pick ≡ Task n → x .seen ≡ NoTask → x .free ≡ Tick c → w ≡ Tick t → t < c + copyin-length columns n)
-      × ((n k c : ℕ) → x .pick ≡ Task n → x .free ≡ Tick c → k < 32 → member k (x .rivals) ≡ true → getD pr n 0 ≤ getD pr k 0)
+      (settled (x .engine) ≡ true → x .works ≡ true)
+      × ((n t u : ℕ) → x .engine ≡ Copying n u → w ≡ Tick t → t < u)
+      × ((n k : ℕ) → copyin-task (x .engine) ≡ Task n → k < 32 → member k (x .rivals) ≡ true → getD pr n 0 ≤ getD pr k 0)
 
   -- and none comes behind its end
   abbrev InTime : Choice → ℕ → Type 0
-  InTime x t = (n c : ℕ) → x .pick ≡ Task n → x .seen ≡ NoTask → x .free ≡ Tick c → t ≤ c + copyin-length columns n
+  InTime x t = (n u : ℕ) → x .engine ≡ Copying n u → t ≤ u
 
   abbrev So : Choice → Due → Event → Type 0
   So x w e =
-      ((n : ℕ) → finishes e ≡ true → details e .task ≡ Task n → (c : ℕ) × (x .pick ≡ Task n) × (x .free ≡ Tick c) × (w ≡ Tick (c + copyin-length columns n)))
-      × ((n c : ℕ) → gives-way e ≡ true → details e .task ≡ Task n → (x .pick ≡ Task n) × (x .seen ≡ NoTask → x .free ≡ Tick c → w ≡ Tick (c + copyin-length columns n) → ⊥))
-      × (ends e ≡ true → Made x)
+      ((n : ℕ) → finishes e ≡ true → details e .task ≡ Task n → (u : ℕ) × (x .engine ≡ Copying n u) × (w ≡ Tick u))
+      × ((n : ℕ) → gives-way e ≡ true → details e .task ≡ Task n → (copyin-task (x .engine) ≡ Task n) × ((u : ℕ) → x .engine ≡ Copying n u → w ≡ Tick u → ⊥))
+      × (ends e ≡ true → settled (x .engine) ≡ true)
       × (comes e ≡ true → Rest x w × InTime x (details e .tick))
-      × (begins e ≡ true → details e .out ≡ NoTask → x .ready ≡ 0 → ⊥)
 
   unfoldable pub Chosen : Choice → Due → List Event → Type 0
   Chosen x w [] = Rest x w
-  Chosen x w (e ∷ es) = So x w e × Chosen (choice-by pr x e) (now-by w e) es
+  Chosen x w (e ∷ es) = So x w e × Chosen (choice-by pr columns x e) (now-by w e) es
 
-  so-at : (before rest : List Event) (e : Event) (x : Choice) (w : Due) → Chosen x w (before ++ (e ∷ rest)) → So (after (choice-by pr) x before) (after now-by w before) e
+  so-at : (before rest : List Event) (e : Event) (x : Choice) (w : Due) → Chosen x w (before ++ (e ∷ rest)) → So (after (choice-by pr columns) x before) (after now-by w before) e
   unfolding Chosen after
   so-at [] rest e x w h = h .0
-  so-at (y ∷ before) rest e x w h = so-at before rest e (choice-by pr x y) (now-by w y) (h .1)
+  so-at (y ∷ before) rest e x w h = so-at before rest e (choice-by pr columns x y) (now-by w y) (h .1)
 
-  rest-at : (before rest : List Event) (x : Choice) (w : Due) → at-rest rest ≡ true → Chosen x w (before ++ rest) → Rest (after (choice-by pr) x before) (after now-by w before)
+  rest-at : (before rest : List Event) (x : Choice) (w : Due) → at-rest rest ≡ true → Chosen x w (before ++ rest) → Rest (after (choice-by pr columns) x before) (after now-by w before)
   unfolding Chosen after
   rest-at [] [] x w q h = h
   rest-at [] (e ∷ es) x w q h = h .0 .3 q .0
-  rest-at (y ∷ before) rest x w q h = rest-at before rest (choice-by pr x y) (now-by w y) q (h .1)
+  rest-at (y ∷ before) rest x w q h = rest-at before rest (choice-by pr columns x y) (now-by w y) q (h .1)
 
   pub copies : (h : List Event) → Chosen no-choice Never h → Copies pr columns h
   copies h x = record {
     each-finish = λ before after n e. at before (Finishes n) after e .0 n refl refl;
-    each-giving = λ before after n c e. at before (GivesWay n) after e .1 n c refl refl;
-    each-instant = λ before after n t c e. at before (Comes t) after e .3 refl .1 n c;
+    each-giving = λ before after n e. at before (GivesWay n) after e .1 n refl refl;
+    each-rival = λ before after n k e q. rest-at before after no-choice Never q (subst (Chosen no-choice Never) e x) .2 n k;
+    each-instant = λ before after n t u e. at before (Comes t) after e .3 refl .1 n u;
+    each-copying = λ before after n t u e q. rest-at before after no-choice Never q (subst (Chosen no-choice Never) e x) .1 n t u;
     each-end = λ before after t e. at before (Ends t) after e .2 refl;
-    each-open = λ before after c e q. rest-at before after no-choice Never q (subst (Chosen no-choice Never) e x) .0 c;
-    each-copying = λ before after n t c e q. rest-at before after no-choice Never q (subst (Chosen no-choice Never) e x) .1 n t c;
-    each-rival = λ before after n k c e q. rest-at before after no-choice Never q (subst (Chosen no-choice Never) e x) .2 n k c;
-    each-begin = λ before after t r e. at before (Begins t r NoTask) after e .4 refl refl;
+    each-open = λ before after e q. rest-at before after no-choice Never q (subst (Chosen no-choice Never) e x) .0;
   }
     where
-      at : (before : List Event) (e : Event) (es : List Event) → h ≡ before ++ (e ∷ es) → So (choice pr before) (after now-by Never before) e
+      at : (before : List Event) (e : Event) (es : List Event) → h ≡ before ++ (e ∷ es) → So (choice pr columns before) (after now-by Never before) e
       at before e es z = so-at before es e no-choice Never (subst (Chosen no-choice Never) z x)
 
   not-so {ℓ} : {A : Type ℓ} (b : Bool) → b ≡ false → b ≡ true → A
   not-so b e f = absurd (true≢false (sym f ∙ e))
 
-  on : (e : Event) → finishes e ≡ false → gives-way e ≡ false → ends e ≡ false → comes e ≡ false → begins e ≡ false → (x : Choice) (w : Due) (es : List Event) → Chosen (choice-by pr x e) (now-by w e) es → Chosen x w (e ∷ es)
+  on : (e : Event) → finishes e ≡ false → gives-way e ≡ false → ends e ≡ false → comes e ≡ false → (x : Choice) (w : Due) (es : List Event) → Chosen (choice-by pr columns x e) (now-by w e) es → Chosen x w (e ∷ es)
   unfolding Chosen
-  on e a b c d f x w es h = (((λ n y z. not-so (finishes e) a y), (λ n i y z. not-so (gives-way e) b y), (λ y. not-so (ends e) c y), (λ y. not-so (comes e) d y), (λ y. not-so (begins e) f y)), h)
+  on e a b c d x w es h = (((λ n y z. not-so (finishes e) a y), (λ n y z. not-so (gives-way e) b y), (λ y. not-so (ends e) c y), (λ y. not-so (comes e) d y)), h)
 
   -- ---- what agrees with the state
 
@@ -109,17 +110,13 @@ module _ (pr columns : List ℕ) where
   abbrev Readies : Choice → ℕ → Phase → Type 0
   Readies x pending p = (k : ℕ) → k < 32 → bit (member k (x .ready)) + spots k p ≡ bit (member k pending)
 
-  -- the engine has become free
-  abbrev Freed : Choice → Type 0
-  Freed x = (c : ℕ) × (x .free ≡ Tick c)
-
   -- what the engine copies in
   abbrev Run : Choice → CopyOut → CopyIn → Type 0
-  Run x o Unchosen = (x .pick ≡ NoTask) × (x .seen ≡ NoTask) × (x .free ≡ Never)
-  Run x o NoneChosen = (copying-out o ≡ false) × (x .pick ≡ NoTask) × (x .seen ≡ NoTask) × Freed x
-  Run x o (Copying n until) = (copying-out o ≡ false) × (x .pick ≡ Task n) × ((c : ℕ) × (x .free ≡ Tick c) × (until ≡ later c (copyin-length columns n))) × (x .seen ≡ NoTask)
-  Run x o (Loaded n) = (copying-out o ≡ false) × (x .pick ≡ Task n) × (x .seen ≡ Task n) × Freed x
-  Run x o (Cancelled n fate) = (copying-out o ≡ false) × (x .pick ≡ NoTask) × (x .seen ≡ NoTask) × Freed x
+  Run x o Unchosen = x .engine ≡ Unchosen
+  Run x o NoneChosen = (copying-out o ≡ false) × (x .engine ≡ NoneChosen)
+  Run x o (Copying n until) = (copying-out o ≡ false) × ((c : ℕ) × (x .engine ≡ Copying n (c + copyin-length columns n)) × (until ≡ later c (copyin-length columns n)))
+  Run x o (Loaded n) = (copying-out o ≡ false) × (x .engine ≡ Loaded n)
+  Run x o (Cancelled n fate) = (copying-out o ≡ false) × (x .engine ≡ NoneChosen)
 
   -- none of the marked jobs taken since the choice has a higher priority than the one that the engine copies in, but for those of a set
   abbrev Leads : Choice → ℕ → ℕ → Type 0
@@ -133,15 +130,15 @@ module _ (pr columns : List ℕ) where
   Ahead x s (Cancelled n fate) = Unit {0}
 
   abbrev Runs : Choice → Phase → Type 0
-  Runs x (Between next outgoing) = (x .seen ≡ x .pick) × (x .free ≡ Never)
+  Runs x (Between next outgoing) = x .engine ≡ Unchosen
   Runs x (Within i) = Run x (i .copyout) (i .copyin) × Ahead x 0 (i .copyin)
 
-  run-as : (x y : Choice) (o : CopyOut) (c : CopyIn) → y .free ≡ x .free → y .seen ≡ x .seen → y .pick ≡ x .pick → Run x o c → Run y o c
-  run-as x y o Unchosen f s p r = (p ∙ r .0, s ∙ r .1, f ∙ r .2)
-  run-as x y o NoneChosen f s p r = (r .0, p ∙ r .1, s ∙ r .2, (r .3 .0, f ∙ r .3 .1))
-  run-as x y o (Copying n until) f s p r = (r .0, p ∙ r .1, (r .2 .0, f ∙ r .2 .1, r .2 .2), s ∙ r .3)
-  run-as x y o (Loaded n) f s p r = (r .0, p ∙ r .1, s ∙ r .2, (r .3 .0, f ∙ r .3 .1))
-  run-as x y o (Cancelled n fate) f s p r = (r .0, p ∙ r .1, s ∙ r .2, (r .3 .0, f ∙ r .3 .1))
+  run-as : (x y : Choice) (o : CopyOut) (c : CopyIn) → y .engine ≡ x .engine → Run x o c → Run y o c
+  run-as x y o Unchosen e r = e ∙ r
+  run-as x y o NoneChosen e r = (r .0, e ∙ r .1)
+  run-as x y o (Copying n until) e r = (r .0, (r .1 .0, e ∙ r .1 .1, r .1 .2))
+  run-as x y o (Loaded n) e r = (r .0, e ∙ r .1)
+  run-as x y o (Cancelled n fate) e r = (r .0, e ∙ r .1)
 
   ahead-as : (x y : Choice) (s : ℕ) (c : CopyIn) → y .rivals ≡ x .rivals → Ahead x s c → Ahead y s c
   ahead-as x y s Unchosen e a = a
@@ -150,9 +147,9 @@ module _ (pr columns : List ℕ) where
   ahead-as x y s (Loaded n) e a = λ k l m. a k l (subst (λ (r : ℕ). member k r ≡ true) e m)
   ahead-as x y s (Cancelled n fate) e a = a
 
-  runs-as : (x y : Choice) (p : Phase) → y .free ≡ x .free → y .seen ≡ x .seen → y .pick ≡ x .pick → y .rivals ≡ x .rivals → Runs x p → Runs y p
-  runs-as x y (Between next outgoing) f s p e r = (s ∙ r .0 ∙ sym p, f ∙ r .1)
-  runs-as x y (Within i) f s p e r = (run-as x y (i .copyout) (i .copyin) f s p (r .0), ahead-as x y 0 (i .copyin) e (r .1))
+  runs-as : (x y : Choice) (p : Phase) → y .engine ≡ x .engine → y .rivals ≡ x .rivals → Runs x p → Runs y p
+  runs-as x y (Between next outgoing) e f r = e ∙ r
+  runs-as x y (Within i) e f r = (run-as x y (i .copyout) (i .copyin) e (r .0), ahead-as x y 0 (i .copyin) f (r .1))
 
   -- whether the processor is through with its job
   abbrev rest-of : Phase → Bool
@@ -161,10 +158,6 @@ module _ (pr columns : List ℕ) where
 
   abbrev Working : Choice → Phase → Type 0
   Working x p = x .works ≡ not (rest-of p)
-
-  -- the job that is highest by what was taken so far
-  abbrev Picks : Choice → Type 0
-  Picks x = x .pick ≡ highest pr (λ n. x .origins n .since) (x .ready)
 
   -- the same jobs
   record Like (x y : Choice) : Type 0 where
@@ -180,13 +173,11 @@ module _ (pr columns : List ℕ) where
     ready : y .ready ≡ x .ready
     origins : (k : ℕ) → y .origins k ≡ x .origins k
     choosing : y .choosing ≡ x .choosing
-    free : y .free ≡ x .free
-    seen : y .seen ≡ x .seen
-    pick : y .pick ≡ x .pick
+    engine : y .engine ≡ x .engine
     rivals : y .rivals ≡ x .rivals
 
   still : (x : Choice) → Still x x
-  still x = record { ready = refl; origins = λ k. refl; choosing = refl; free = refl; seen = refl; pick = refl; rivals = refl }
+  still x = record { ready = refl; origins = λ k. refl; choosing = refl; engine = refl; rivals = refl }
 
   exact : (c l : ℕ) → later c l ≤ 3000000000 → later c l ≡ c + l
   exact c l h = omega arith
@@ -198,74 +189,78 @@ module _ (pr columns : List ℕ) where
     runs : Runs x (d .phase)
     working : Working x (d .phase)
 
+  no-job {ℓ} : {A : Type ℓ} (n : ℕ) → NoTask ≡ Task n → A
+  no-job n e = absurd (let z : _≡_ {A = ℕ} 0 1 = cc in omega arith)
+
+  -- the end of a copy-in under way is one of the state's times
+  under-way : (Q : ℕ → Type 0) (x : Choice) (p : Phase) → Times Plain p → Times Q p → Runs x p → (n u : ℕ) → x .engine ≡ Copying n u → Q u
+  under-way Q x (Between next outgoing) a b r n u e = absurd (let y : Unchosen ≡ Copying n u = sym r ∙ e in let z : _≡_ {A = ℕ} 0 1 = cc in omega arith)
+  under-way Q x (Within i) a b r n u e = go (i .copyin) (a .2) (b .2) (r .0)
+    where
+      other : (k : CopyIn) → is-copying k ≡ false → x .engine ≡ k → Q u
+      other k f g = absurd (false≢true (sym f ∙ ap is-copying (sym g ∙ e)))
+
+      go : (k : CopyIn) → copyin-times Plain k → copyin-times Q k → Run x (i .copyout) k → Q u
+      go Unchosen a b r = other Unchosen refl r
+      go NoneChosen a b r = other NoneChosen refl (r .1)
+      go (Copying m until) a b r =
+          let z : Copying m (r .1 .0 + copyin-length columns m) ≡ Copying n u = sym (r .1 .1) ∙ e in
+          let l : r .1 .0 + copyin-length columns m ≡ u = cc in
+          subst Q (r .1 .2 ∙ exact (r .1 .0) (copyin-length columns m) (subst (λ (y : ℕ). y ≤ 3000000000) (r .1 .2) a) ∙ l) b
+      go (Loaded m) a b r = other (Loaded m) refl (r .1)
+      go (Cancelled m fate) a b r = other NoneChosen refl (r .1)
+
   -- what holds where an instant is over
   module _ (x : Choice) (w : Due) (now : ℕ) (at : (t : ℕ) → w ≡ Tick t → t ≡ now) where
-    no-tick {ℓ} : {A : Type ℓ} (c : ℕ) → Never ≡ Tick c → A
-    no-tick c e = absurd (let z : _≡_ {A = ℕ} 0 1 = cc in omega arith)
+    open-so : (a b c : Bool) → b ≡ false → c ≡ true → (a && (not b && c)) ≡ false → a ≡ false
+    open-so true b c f g h = rw (f, g) at h
+    open-so false b c f g h = refl
 
-    no-job {ℓ} : {A : Type ℓ} (n : ℕ) → NoTask ≡ Task n → A
-    no-job n e = absurd (let z : _≡_ {A = ℕ} 0 1 = cc in omega arith)
-
-    over-so : (a b c : Bool) → a ≡ true → b ≡ false → c ≡ true → (a && (not b && c)) ≡ false → ⊥
-    over-so a b c e f g h = true≢false (rw (e, f, g) at h)
-
-    not-over : (p : Phase) → Runs x p → Working x p → OpenAt p → (c : ℕ) → x .free ≡ Tick c → x .works ≡ false → x .seen ≡ x .pick → ⊥
-    not-over (Between next outgoing) r v o c f z e = no-tick c (sym (r .1) ∙ f)
-    not-over (Within i) r v o c f z e = go (i .copyin) (r .0) o
+    not-over : (p : Phase) → Runs x p → Working x p → OpenAt p → settled (x .engine) ≡ true → x .works ≡ true
+    not-over (Between next outgoing) r v o s = clash (settled (x .engine)) s (ap settled r)
+    not-over (Within i) r v o s = v ∙ ap not (unrested (i .copyin) (r .0) o)
       where
-        rested : resting (i .processor) ≡ true
-        rested = not-false (resting (i .processor)) (sym v ∙ z)
+        unrested : (k : CopyIn) → Run x (i .copyout) k → (resting (i .processor) && (not (copying-out (i .copyout)) && settled k)) ≡ false → resting (i .processor) ≡ false
+        unrested Unchosen r o = clash (settled (x .engine)) s (ap settled r)
+        unrested NoneChosen r o = open-so (resting (i .processor)) (copying-out (i .copyout)) true (r .0) refl o
+        unrested (Copying n until) r o = clash (settled (x .engine)) s (ap settled (r .1 .1))
+        unrested (Loaded n) r o = open-so (resting (i .processor)) (copying-out (i .copyout)) true (r .0) refl o
+        unrested (Cancelled n fate) r o = open-so (resting (i .processor)) (copying-out (i .copyout)) true (r .0) refl o
 
-        go : (k : CopyIn) → Run x (i .copyout) k → (resting (i .processor) && (not (copying-out (i .copyout)) && settled k)) ≡ false → ⊥
-        go Unchosen r o = no-tick c (sym (r .2) ∙ f)
-        go NoneChosen r o = over-so (resting (i .processor)) (copying-out (i .copyout)) true rested (r .0) refl o
-        go (Copying n until) r o = no-job n (sym (r .3) ∙ e ∙ r .1)
-        go (Loaded n) r o = over-so (resting (i .processor)) (copying-out (i .copyout)) true rested (r .0) refl o
-        go (Cancelled n fate) r o = over-so (resting (i .processor)) (copying-out (i .copyout)) true rested (r .0) refl o
-
-    not-overdue : (p : Phase) → Times Plain p → Times (λ u. now < u) p → Runs x p → (n t c : ℕ) → x .pick ≡ Task n → x .seen ≡ NoTask → x .free ≡ Tick c → w ≡ Tick t → t < c + copyin-length columns n
-    not-overdue (Between next outgoing) a b r n t c p s f z = no-job n (sym s ∙ r .0 ∙ p)
-    not-overdue (Within i) a b r n t c p s f z = go (i .copyin) (a .2) (b .2) (r .0)
+    no-rival : (p : Phase) → Runs x p → (n k : ℕ) → copyin-task (x .engine) ≡ Task n → k < 32 → member k (x .rivals) ≡ true → getD pr n 0 ≤ getD pr k 0
+    no-rival (Between next outgoing) r n k p l m = no-job n (sym (ap copyin-task r) ∙ p)
+    no-rival (Within i) r n k p l m = go (i .copyin) (r .0) (r .1)
       where
-        go : (k : CopyIn) → copyin-times Plain k → copyin-times (λ u. now < u) k → Run x (i .copyout) k → t < c + copyin-length columns n
-        go Unchosen a b r = no-job n (sym (r .0) ∙ p)
-        go NoneChosen a b r = no-job n (sym (r .1) ∙ p)
-        go (Copying m until) a b r =
-            let same : m ≡ n = let z : Task m ≡ Task n = sym (r .1) ∙ p in cc in
-            let from : r .2 .0 ≡ c = let z : Tick (r .2 .0) ≡ Tick c = sym (r .2 .1) ∙ f in cc in
-            let l : until ≡ r .2 .0 + copyin-length columns m = r .2 .2 ∙ exact (r .2 .0) (copyin-length columns m) (subst (λ (y : ℕ). y ≤ 3000000000) (r .2 .2) a) in
-            let k : until ≡ c + copyin-length columns n = l ∙ ap (λ (j : ℕ). j + copyin-length columns m) from ∙ ap (λ (j : ℕ). c + copyin-length columns j) same in
-            subst (λ (j : ℕ). j < c + copyin-length columns n) (sym (at t z)) (subst (λ (j : ℕ). now < j) k b)
-        go (Loaded m) a b r = no-job n (sym s ∙ r .2 ∙ sym (r .1) ∙ p)
-        go (Cancelled m fate) a b r = no-job n (sym s ∙ r .2 ∙ sym (r .1) ∙ p)
-
-    no-rival : (p : Phase) → Runs x p → (n k c : ℕ) → x .pick ≡ Task n → x .free ≡ Tick c → k < 32 → member k (x .rivals) ≡ true → getD pr n 0 ≤ getD pr k 0
-    no-rival (Between next outgoing) r n k c p f l m = no-tick c (sym (r .1) ∙ f)
-    no-rival (Within i) r n k c p f l m = go (i .copyin) (r .0) (r .1)
-      where
-        leads : (j : ℕ) → x .pick ≡ Task j → Leads x 0 j → getD pr n 0 ≤ getD pr k 0
+        leads : (j : ℕ) → copyin-task (x .engine) ≡ Task j → Leads x 0 j → getD pr n 0 ≤ getD pr k 0
         leads j q a =
             let same : j ≡ n = let z : Task j ≡ Task n = sym q ∙ p in cc in
             subst (λ (i : ℕ). getD pr i 0 ≤ getD pr k 0) same (⊎-elim (λ z. clash (member k 0) z (none k)) (λ z. z) (a k l m))
 
         go : (c : CopyIn) → Run x (i .copyout) c → Ahead x 0 c → getD pr n 0 ≤ getD pr k 0
-        go Unchosen r a = no-job n (sym (r .0) ∙ p)
-        go NoneChosen r a = no-job n (sym (r .1) ∙ p)
-        go (Copying j until) r a = leads j (r .1) a
-        go (Loaded j) r a = leads j (r .1) a
-        go (Cancelled j fate) r a = no-job n (sym (r .1) ∙ p)
+        go Unchosen r a = no-job n (sym (ap copyin-task r) ∙ p)
+        go NoneChosen r a = no-job n (sym (ap copyin-task (r .1)) ∙ p)
+        go (Copying j until) r a = leads j (ap copyin-task (r .1 .1)) a
+        go (Loaded j) r a = leads j (ap copyin-task (r .1)) a
+        go (Cancelled j fate) r a = no-job n (sym (ap copyin-task (r .1)) ∙ p)
 
     rested : (p : Phase) → Times Plain p → Times (λ u. now < u) p → Runs x p → Working x p → OpenAt p → Rest x w
-    rested p a b r v o = (not-over p r v o, not-overdue p a b r, no-rival p r)
+    rested p a b r v o = (not-over p r v o, (λ n t u e z. subst (λ (j : ℕ). j < u) (sym (at t z)) (under-way (λ u. now < u) x p a b r n u e)), no-rival p r)
 
   module _ (t : ℕ) where
     abbrev T : Choice → List Event → Type 0
     T x es = Chosen x (Tick t) es
 
+    -- it copies the job in from now on that is highest by what was taken so far
+    abbrev from-now : MaybeTask → CopyIn
+    from-now = engine-of (λ n. Copying n (t + copyin-length columns n))
+
+    abbrev Picks : Choice → Type 0
+    Picks x = x .engine ≡ from-now (highest pr (λ n. x .origins n .since) (x .ready))
+
     -- the engine is free since this instant and the choice is still to come, or it has not become free at it
     abbrev FreeNow : Choice → Phase → Type 0
     FreeNow x (Between next outgoing) = ⊥
-    FreeNow x (Within i) = (i .copyin ≡ Unchosen) × (copying-out (i .copyout) ≡ false) × Picks x × (x .free ≡ Tick t) × (x .seen ≡ NoTask) × (x .rivals ≡ 0)
+    FreeNow x (Within i) = (i .copyin ≡ Unchosen) × (copying-out (i .copyout) ≡ false) × Picks x × (x .rivals ≡ 0)
 
     -- a copy-in under way does not end now
     abbrev Unended : CopyIn → Type 0
@@ -293,26 +288,26 @@ module _ (pr columns : List ℕ) where
     finish-chosen x o (Cancelled n fate) ys r a u p k = k x (like x) refl r a u tt
     finish-chosen x o (Copying n until) ys r a u p k = go (eqb until t) refl k
       where
-        at-its-end : eqb until t ≡ true → (m : ℕ) → Task n ≡ Task m → (c : ℕ) × (x .pick ≡ Task m) × (x .free ≡ Tick c) × (Tick t ≡ Tick (c + copyin-length columns m))
+        at-its-end : eqb until t ≡ true → (m : ℕ) → Task n ≡ Task m → (u : ℕ) × (x .engine ≡ Copying m u) × (Tick t ≡ Tick u)
         at-its-end e m z =
-            let c : ℕ = r .2 .0 in
-            let l : later c (copyin-length columns n) ≡ c + copyin-length columns n = exact c (copyin-length columns n) (subst (λ (y : ℕ). y ≤ 3000000000) (r .2 .2) p) in
+            let c : ℕ = r .1 .0 in
+            let l : later c (copyin-length columns n) ≡ c + copyin-length columns n = exact c (copyin-length columns n) (subst (λ (y : ℕ). y ≤ 3000000000) (r .1 .2) p) in
             let same : n ≡ m = cc in
-            (c, r .1 ∙ z, r .2 .1, ap Tick (sym (eqb-true until t e) ∙ r .2 .2 ∙ l ∙ ap (λ (j : ℕ). c + copyin-length columns j) same))
+            (c + copyin-length columns n, r .1 .1 ∙ ap (λ (j : ℕ). Copying j (c + copyin-length columns n)) same, ap Tick (sym (eqb-true until t e) ∙ r .1 .2 ∙ l))
 
         go : (b : Bool) → eqb until t ≡ b
             → ((y : Choice) → Like x y → y .choosing ≡ x .choosing → Run y o (cond b (Loaded n) (Copying n until)) → Ahead y 0 (cond b (Loaded n) (Copying n until)) → Decided (cond b (Loaded n) (Copying n until)) o → Unended (cond b (Loaded n) (Copying n until)) → T y ys)
             → T x (cond b (Finishes n ∷ []) [] ++ ys)
         go true e k =
             unfold Chosen in (
-              ((λ m y z. at-its-end e m z), (λ n i y. absurd (false≢true y)), (λ y. absurd (false≢true y)), (λ y. absurd (false≢true y)), (λ y. absurd (false≢true y))),
-              k (choice-by pr x (Finishes n)) (record { ready = refl; origins = λ j. refl; works = refl }) refl (r .0, r .1, refl, (r .2 .0, r .2 .1)) a tt tt,
+              ((λ m y z. at-its-end e m z), (λ n y. absurd (false≢true y)), (λ y. absurd (false≢true y)), (λ y. absurd (false≢true y))),
+              k (choice-by pr columns x (Finishes n)) (record { ready = refl; origins = λ j. refl; works = refl }) refl (r .0, refl) a tt tt,
             )
         go false e k = k x (like x) refl r a tt (e, p)
 
     -- while the engine copies out nobody is chosen
-    unchosen : (x : Choice) (o : CopyOut) (c : CopyIn) → Run x o c → copying-out o ≡ true → (c ≡ Unchosen) × (x .seen ≡ NoTask)
-    unchosen x o Unchosen r e = (refl, r .1)
+    unchosen : (x : Choice) (o : CopyOut) (c : CopyIn) → Run x o c → copying-out o ≡ true → c ≡ Unchosen
+    unchosen x o Unchosen r e = refl
     unchosen x o NoneChosen r e = clash (copying-out o) e (r .0)
     unchosen x o (Copying n until) r e = clash (copying-out o) e (r .0)
     unchosen x o (Loaded n) r e = clash (copying-out o) e (r .0)
@@ -327,9 +322,8 @@ module _ (pr columns : List ℕ) where
       where
         go : (z : Bool) → i .copyout ≡ cond z (CopiedOut n) (CopyingOut n start until) → T x (completion-events (cond z (Job (job-entry j n start t)) NoJob) ++ ys)
         go true b =
-            let z = unchosen x (CopyingOut n start until) c r refl in
-            on (Completes n t) refl refl refl refl refl x (Tick t) ys
-            (k (choice-by pr x (Completes n t)) (record { ready = refl; origins = λ j. refl; works = refl }) (inl (refl, (a ∙ z .0, ap copying-out b, refl, refl, z .1, refl))))
+            on (Completes n t) refl refl refl refl x (Tick t) ys
+            (k (choice-by pr columns x (Completes n t)) (record { ready = refl; origins = λ j. refl; works = refl }) (inl (refl, (a ∙ unchosen x (CopyingOut n start until) c r refl, ap copying-out b, refl, refl))))
         go false b = k x (like x) (inr (e, (rw (a, b) r, rw a w), rw (a, b) u, rw a v))
 
     module _ (present : ℕ) (tasks : present < 4294967296) where
@@ -366,14 +360,14 @@ module _ (pr columns : List ℕ) where
       processor-chosen table x (CopyingIn n until) ys v k = go (eqb until t) k
         where
           go : (b : Bool) → ((y : Choice) → Still x y → y .works ≡ not (resting (cond b (Executing n t (later t (execution-length (table .columns) n))) (CopyingIn n until))) → T y ys) → T x (cond b (Starts n t ∷ []) [] ++ ys)
-          go true k = on (Starts n t) refl refl refl refl refl x (Tick t) ys (k x (still x) v)
+          go true k = on (Starts n t) refl refl refl refl x (Tick t) ys (k x (still x) v)
           go false k = k x (still x) v
       processor-chosen table x (Executing n start until) ys v k = go (eqb until t) k
         where
           go : (b : Bool) → ((y : Choice) → Still x y → y .works ≡ not (resting (cond b (Finished n start) (Executing n start until))) → T y ys) → T x (cond b (Stops n t ∷ []) [] ++ ys)
           go true k =
-              on (Stops n t) refl refl refl refl refl x (Tick t) ys
-              (k (choice-by pr x (Stops n t)) (record { ready = refl; origins = λ j. refl; choosing = refl; free = refl; seen = refl; pick = refl; rivals = refl }) refl)
+              on (Stops n t) refl refl refl refl x (Tick t) ys
+              (k (choice-by pr columns x (Stops n t)) (record { ready = refl; origins = λ j. refl; choosing = refl; engine = refl; rivals = refl }) refl)
           go false k = k x (still x) v
 
       a-chosen : (d : State) (p : Phase) (x : Choice) (ys : List Event) → d .phase ≡ p → Parted present tasks d p → Times Plain p → Readies x (d .jobs .pending) p → Runs x p → DecidedAt p → x .choosing ≡ false → Working x p
@@ -384,21 +378,21 @@ module _ (pr columns : List ℕ) where
           a-phase d (Between next outgoing) x ys e h times readies runs decided c (λ y l r m. k y (l .origins) r m (l .works ∙ v ∙ unfold step-a in ap (λ (q : Phase). not (rest-of q)) (sym e)))
       a-chosen d (Within i) x ys e h times readies runs decided c v k =
           processor-chosen (d .table) x (i .processor) _ v
-          (λ y a w. a-phase d (Within i) y ys e h times (λ j l. ap (λ (r : ℕ). bit (member j r) + spots j (Within i)) (a .ready) ∙ readies j l) (runs-as x y (Within i) (a .free) (a .seen) (a .pick) (a .rivals) runs) decided (a .choosing ∙ c)
+          (λ y a w. a-phase d (Within i) y ys e h times (λ j l. ap (λ (r : ℕ). bit (member j r) + spots j (Within i)) (a .ready) ∙ readies j l) (runs-as x y (Within i) (a .engine) (a .rivals) runs) decided (a .choosing ∙ c)
           (λ z l r m. k z (λ j. l .origins j ∙ a .origins j) r m (l .works ∙ w ∙ unfold step-a ended in refl)))
 
       -- ---- b
 
-      run-seen : (x : Choice) (o : CopyOut) (c : CopyIn) → settled c ≡ true → Run x o c → Made x
-      run-seen x o Unchosen s r = absurd (false≢true s)
-      run-seen x o NoneChosen s r = (r .3 .0, r .3 .1, r .2 ∙ sym (r .1))
-      run-seen x o (Copying n until) s r = absurd (false≢true s)
-      run-seen x o (Loaded n) s r = (r .3 .0, r .3 .1, r .2 ∙ sym (r .1))
-      run-seen x o (Cancelled n fate) s r = (r .3 .0, r .3 .1, r .2 ∙ sym (r .1))
+      run-settled : (x : Choice) (o : CopyOut) (c : CopyIn) → settled c ≡ true → Run x o c → settled (x .engine) ≡ true
+      run-settled x o Unchosen s r = absurd (false≢true s)
+      run-settled x o NoneChosen s r = ap settled (r .1)
+      run-settled x o (Copying n until) s r = absurd (false≢true s)
+      run-settled x o (Loaded n) s r = ap settled (r .1)
+      run-settled x o (Cancelled n fate) s r = ap settled (r .1)
 
-      ended-seen : (x : Choice) (i : Interval) → over i ≡ true → Mode x (Within i) → Made x × (x .choosing ≡ false)
-      ended-seen x i o m =
-          ⊎-elim (λ z. clash (settled (i .copyin)) (settles i o) (ap settled (z .1 .0))) (λ z. (run-seen x (i .copyout) (i .copyin) (settles i o) (z .1 .0), z .0)) m
+      ended-settled : (x : Choice) (i : Interval) → over i ≡ true → Mode x (Within i) → (settled (x .engine) ≡ true) × (x .choosing ≡ false)
+      ended-settled x i o m =
+          ⊎-elim (λ z. clash (settled (i .copyin)) (settles i o) (ap settled (z .1 .0))) (λ z. (run-settled x (i .copyout) (i .copyin) (settles i o) (z .1 .0), z .0)) m
 
       b-chosen : (x : Choice) (pending : ℕ) (s : Stage) (p : Phase) (ys : List Event) → s .state .phase ≡ p → Readies x pending p → Mode x p → Working x p
           → ((y : Choice) → ((k : ℕ) → y .origins k ≡ x .origins k) → Readies y pending (step-b s t p .state .phase) → Mode y (step-b s t p .state .phase) → Working y (step-b s t p .state .phase) → T y ys)
@@ -415,9 +409,9 @@ module _ (pr columns : List ℕ) where
               → T x (end-events t (Within i) (close-stage s t i b .state .phase) ++ ys)
           go true o k =
               unfold Chosen in (
-                ((λ n y z. absurd (false≢true y)), (λ n j y. absurd (false≢true y)), (λ y. ended-seen x i o m .0), (λ y. absurd (false≢true y)), (λ y. absurd (false≢true y))),
-                k (choice-by pr x (Ends t)) (λ j. refl) (λ j l. omega (arith, h j l, b-outgoing-bit present tasks j (i .processor) (rests i o), b-copyout-bit present tasks j (i .copyout) (no-copyout i o)))
-                    (inr (ended-seen x i o m .1, (ended-seen x i o m .0 .2, refl), tt, tt)) (v ∙ ap not (rests i o)),
+                ((λ n y z. absurd (false≢true y)), (λ n y. absurd (false≢true y)), (λ y. ended-settled x i o m .0), (λ y. absurd (false≢true y))),
+                k (choice-by pr columns x (Ends t)) (λ j. refl) (λ j l. omega (arith, h j l, b-outgoing-bit present tasks j (i .processor) (rests i o), b-copyout-bit present tasks j (i .copyout) (no-copyout i o)))
+                    (inr (ended-settled x i o m .1, refl, tt, tt)) (v ∙ ap not (rests i o)),
               )
           go false o k = stays (s .state .phase) e k
 
@@ -429,24 +423,22 @@ module _ (pr columns : List ℕ) where
       walked change [] ys s = refl
       walked change (e ∷ xs) ys s = walked change xs ys (change s e)
 
-      readies-of : (es : List Event) (x : Choice) → after (choice-by pr) x es .ready ≡ after ready-by (x .ready) es
+      readies-of : (es : List Event) (x : Choice) → after (choice-by pr columns) x es .ready ≡ after ready-by (x .ready) es
       unfolding after
       readies-of [] x = refl
-      readies-of (e ∷ es) x = readies-of es (choice-by pr x e)
+      readies-of (e ∷ es) x = readies-of es (choice-by pr columns x e)
 
-      origins-of : (es : List Event) (x : Choice) (k : ℕ) → after (choice-by pr) x es .origins k ≡ after (origin-by k) (x .origins k) es
+      origins-of : (es : List Event) (x : Choice) (k : ℕ) → after (choice-by pr columns) x es .origins k ≡ after (origin-by k) (x .origins k) es
       unfolding after
       origins-of [] x k = refl
-      origins-of (e ∷ es) x k = origins-of es (choice-by pr x e) k
+      origins-of (e ∷ es) x k = origins-of es (choice-by pr columns x e) k
 
       -- what the takings leave of the choice
       record Keeps (x y : Choice) : Type 0 where
-        free : y .free ≡ x .free
-        seen : y .seen ≡ x .seen
         choosing : y .choosing ≡ x .choosing
         works : y .works ≡ x .works
         picks : x .choosing ≡ true → Picks x → Picks y
-        keeps : x .choosing ≡ false → y .pick ≡ x .pick
+        keeps : x .choosing ≡ false → y .engine ≡ x .engine
 
       -- and which rivals they add
       record Grows (taken w : ℕ) (x y : Choice) : Type 0 where
@@ -454,47 +446,45 @@ module _ (pr columns : List ℕ) where
         none-new : x .choosing ≡ true → y .rivals ≡ x .rivals
 
       module _ (taken w : ℕ) where
-        takes-run : (k : ℕ) (x : Choice) (ys : List Event) → T (after (choice-by pr) x (take-events k taken w t)) ys → T x (take-events k taken w t ++ ys)
+        takes-run : (k : ℕ) (x : Choice) (ys : List Event) → T (after (choice-by pr columns) x (take-events k taken w t)) ys → T x (take-events k taken w t ++ ys)
         unfolding take-events after
         takes-run zero x ys h = h
         takes-run (suc k) x ys h =
             rw (append-assoc (take-events k taken w t) (cond (member k taken) (Takes k t (member k w) ∷ []) []) ys)
             (takes-run k x (cond (member k taken) (Takes k t (member k w) ∷ []) [] ++ ys)
-            (go (member k taken) (subst (λ (y : Choice). T y ys) (walked (choice-by pr) (take-events k taken w t) (cond (member k taken) (Takes k t (member k w) ∷ []) []) x) h)))
+            (go (member k taken) (subst (λ (y : Choice). T y ys) (walked (choice-by pr columns) (take-events k taken w t) (cond (member k taken) (Takes k t (member k w) ∷ []) []) x) h)))
           where
-            go : (b : Bool) → T (after (choice-by pr) (after (choice-by pr) x (take-events k taken w t)) (cond b (Takes k t (member k w) ∷ []) [])) ys
-                → T (after (choice-by pr) x (take-events k taken w t)) (cond b (Takes k t (member k w) ∷ []) [] ++ ys)
-            go true h = on (Takes k t (member k w)) refl refl refl refl refl (after (choice-by pr) x (take-events k taken w t)) (Tick t) ys h
+            go : (b : Bool) → T (after (choice-by pr columns) (after (choice-by pr columns) x (take-events k taken w t)) (cond b (Takes k t (member k w) ∷ []) [])) ys
+                → T (after (choice-by pr columns) x (take-events k taken w t)) (cond b (Takes k t (member k w) ∷ []) [] ++ ys)
+            go true h = on (Takes k t (member k w)) refl refl refl refl (after (choice-by pr columns) x (take-events k taken w t)) (Tick t) ys h
             go false h = h
 
         abbrev Kept : List Event → Type 0
-        Kept es = (x : Choice) → Keeps x (after (choice-by pr) x es)
+        Kept es = (x : Choice) → Keeps x (after (choice-by pr columns) x es)
 
-        takes-keep : (x : Choice) → Keeps x (after (choice-by pr) x (take-events 32 taken w t))
+        takes-keep : (x : Choice) → Keeps x (after (choice-by pr columns) x (take-events 32 taken w t))
         takes-keep x =
             subst Kept (append-nil (take-events 32 taken w t))
-            (by-takes Kept 32 taken w t (λ n l m es h x. one n es x (h (choice-by pr x (Takes n t (member n w))))) [] (λ x. unfold after in record { free = refl; seen = refl; choosing = refl; works = refl; picks = λ e p. p; keeps = λ e. refl })) x
+            (by-takes Kept 32 taken w t (λ n l m es h x. one n es x (h (choice-by pr columns x (Takes n t (member n w))))) [] (λ x. unfold after in record { choosing = refl; works = refl; picks = λ e p. p; keeps = λ e. refl })) x
           where
-            one : (n : ℕ) (es : List Event) (x : Choice) → Keeps (choice-by pr x (Takes n t (member n w))) (after (choice-by pr) (choice-by pr x (Takes n t (member n w))) es) → Keeps x (after (choice-by pr) x (Takes n t (member n w) ∷ es))
+            one : (n : ℕ) (es : List Event) (x : Choice) → Keeps (choice-by pr columns x (Takes n t (member n w))) (after (choice-by pr columns) (choice-by pr columns x (Takes n t (member n w))) es) → Keeps x (after (choice-by pr columns) x (Takes n t (member n w) ∷ es))
             one n es x h = unfold after in record {
-              free = h .free;
-              seen = h .seen;
               choosing = h .choosing;
               works = h .works;
-              picks = λ e p. h .picks e (ap (λ (b : Bool). cond b (highest-ready pr x (Takes n t (member n w))) (x .pick)) e);
-              keeps = λ e. h .keeps e ∙ ap (λ (b : Bool). cond b (highest-ready pr x (Takes n t (member n w))) (x .pick)) e;
+              picks = λ e p. h .picks e (ap (λ (b : Bool). cond b (chosen-by pr columns x (Takes n t (member n w))) (x .engine)) e);
+              keeps = λ e. h .keeps e ∙ ap (λ (b : Bool). cond b (chosen-by pr columns x (Takes n t (member n w))) (x .engine)) e;
             }
 
         abbrev Grown : List Event → Type 0
-        Grown es = (x : Choice) → Grows taken w x (after (choice-by pr) x es)
+        Grown es = (x : Choice) → Grows taken w x (after (choice-by pr columns) x es)
 
-        takes-grow : (x : Choice) → Grows taken w x (after (choice-by pr) x (take-events 32 taken w t))
+        takes-grow : (x : Choice) → Grows taken w x (after (choice-by pr columns) x (take-events 32 taken w t))
         takes-grow x =
             subst Grown (append-nil (take-events 32 taken w t))
-            (by-takes Grown 32 taken w t (λ n l m es h x. one n m es x (h (choice-by pr x (Takes n t (member n w))))) [] (λ x. unfold after in record { new = λ k l m. inl m; none-new = λ e. refl })) x
+            (by-takes Grown 32 taken w t (λ n l m es h x. one n m es x (h (choice-by pr columns x (Takes n t (member n w))))) [] (λ x. unfold after in record { new = λ k l m. inl m; none-new = λ e. refl })) x
           where
-            one : (n : ℕ) → member n taken ≡ true → (es : List Event) (x : Choice) → Grows taken w (choice-by pr x (Takes n t (member n w))) (after (choice-by pr) (choice-by pr x (Takes n t (member n w))) es)
-                → Grows taken w x (after (choice-by pr) x (Takes n t (member n w) ∷ es))
+            one : (n : ℕ) → member n taken ≡ true → (es : List Event) (x : Choice) → Grows taken w (choice-by pr columns x (Takes n t (member n w))) (after (choice-by pr columns) (choice-by pr columns x (Takes n t (member n w))) es)
+                → Grows taken w x (after (choice-by pr columns) x (Takes n t (member n w) ∷ es))
             one n m es x h = unfold after in record {
               new = λ k l z. ⊎-elim (λ r. add k l (x .choosing) (member n w) refl r) inr (h .new k l z);
               none-new = λ e. h .none-new e ∙ ap (λ (b : Bool). cond (not b && member n w) (insert n (x .rivals)) (x .rivals)) e;
@@ -529,63 +519,61 @@ module _ (pr columns : List ℕ) where
       -- and the releases that are set waiting
       record Same (x y : Choice) : Type 0 where
         ready : y .ready ≡ x .ready
-        free : y .free ≡ x .free
-        seen : y .seen ≡ x .seen
         choosing : y .choosing ≡ x .choosing
-        pick : y .pick ≡ x .pick
+        engine : y .engine ≡ x .engine
         rivals : y .rivals ≡ x .rivals
         works : y .works ≡ x .works
 
       module _ (deferred : ℕ) where
-        defers-run : (k : ℕ) (x : Choice) (ys : List Event) → T (after (choice-by pr) x (defer-events k deferred t)) ys → T x (defer-events k deferred t ++ ys)
+        defers-run : (k : ℕ) (x : Choice) (ys : List Event) → T (after (choice-by pr columns) x (defer-events k deferred t)) ys → T x (defer-events k deferred t ++ ys)
         unfolding defer-events after
         defers-run zero x ys h = h
         defers-run (suc k) x ys h =
             rw (append-assoc (defer-events k deferred t) (cond (member k deferred) (Defers k t ∷ []) []) ys)
             (defers-run k x (cond (member k deferred) (Defers k t ∷ []) [] ++ ys)
-            (go (member k deferred) (subst (λ (y : Choice). T y ys) (walked (choice-by pr) (defer-events k deferred t) (cond (member k deferred) (Defers k t ∷ []) []) x) h)))
+            (go (member k deferred) (subst (λ (y : Choice). T y ys) (walked (choice-by pr columns) (defer-events k deferred t) (cond (member k deferred) (Defers k t ∷ []) []) x) h)))
           where
-            go : (b : Bool) → T (after (choice-by pr) (after (choice-by pr) x (defer-events k deferred t)) (cond b (Defers k t ∷ []) [])) ys
-                → T (after (choice-by pr) x (defer-events k deferred t)) (cond b (Defers k t ∷ []) [] ++ ys)
-            go true h = on (Defers k t) refl refl refl refl refl (after (choice-by pr) x (defer-events k deferred t)) (Tick t) ys h
+            go : (b : Bool) → T (after (choice-by pr columns) (after (choice-by pr columns) x (defer-events k deferred t)) (cond b (Defers k t ∷ []) [])) ys
+                → T (after (choice-by pr columns) x (defer-events k deferred t)) (cond b (Defers k t ∷ []) [] ++ ys)
+            go true h = on (Defers k t) refl refl refl refl (after (choice-by pr columns) x (defer-events k deferred t)) (Tick t) ys h
             go false h = h
 
         abbrev Left : List Event → Type 0
-        Left es = (x : Choice) → Same x (after (choice-by pr) x es)
+        Left es = (x : Choice) → Same x (after (choice-by pr columns) x es)
 
-        defers-same : (x : Choice) → Same x (after (choice-by pr) x (defer-events 32 deferred t))
+        defers-same : (x : Choice) → Same x (after (choice-by pr columns) x (defer-events 32 deferred t))
         defers-same x =
             subst Left (append-nil (defer-events 32 deferred t))
-            (by-defers Left 32 deferred t (λ n l m es h x. one n es x (h (choice-by pr x (Defers n t)))) [] (λ x. unfold after in record { ready = refl; free = refl; seen = refl; choosing = refl; pick = refl; rivals = refl; works = refl })) x
+            (by-defers Left 32 deferred t (λ n l m es h x. one n es x (h (choice-by pr columns x (Defers n t)))) [] (λ x. unfold after in record { ready = refl; choosing = refl; engine = refl; rivals = refl; works = refl })) x
           where
-            one : (n : ℕ) (es : List Event) (x : Choice) → Same (choice-by pr x (Defers n t)) (after (choice-by pr) (choice-by pr x (Defers n t)) es) → Same x (after (choice-by pr) x (Defers n t ∷ es))
-            one n es x h = unfold after in record { ready = h .ready; free = h .free; seen = h .seen; choosing = h .choosing; pick = h .pick; rivals = h .rivals; works = h .works }
+            one : (n : ℕ) (es : List Event) (x : Choice) → Same (choice-by pr columns x (Defers n t)) (after (choice-by pr columns) (choice-by pr columns x (Defers n t)) es) → Same x (after (choice-by pr columns) x (Defers n t ∷ es))
+            one n es x h = unfold after in record { ready = h .ready; choosing = h .choosing; engine = h .engine; rivals = h .rivals; works = h .works }
 
       -- ---- d, e
 
       -- from a state c behind its releases: the choice is the state's, or none is made
       abbrev Ready : Choice → State → ℕ → Phase → Type 0
-      Ready x c s (Between next outgoing) = (x .seen ≡ x .pick) × (x .free ≡ Never)
+      Ready x c s (Between next outgoing) = x .engine ≡ Unchosen
       Ready x c s (Within i) =
-          ((i .copyin ≡ Unchosen) × (copying-out (i .copyout) ≡ false) × (x .pick ≡ highest-of c (c .jobs .ready)) × (x .free ≡ Tick t) × (x .seen ≡ NoTask) × (x .rivals ≡ 0))
+          ((i .copyin ≡ Unchosen) × (copying-out (i .copyout) ≡ false) × (x .engine ≡ from-now (highest-of c (c .jobs .ready))) × (x .rivals ≡ 0))
           ⊎ (Run x (i .copyout) (i .copyin) × Decided (i .copyin) (i .copyout) × Unended (i .copyin) × Ahead x s (i .copyin))
 
-      chosen-runs : (x : Choice) (c : State) (i : Interval) (q : MaybeTask) → c .table .columns ≡ columns → copying-out (i .copyout) ≡ false → x .pick ≡ q → x .free ≡ Tick t → x .seen ≡ NoTask → x .rivals ≡ 0
+      chosen-runs : (x : Choice) (c : State) (i : Interval) (q : MaybeTask) → c .table .columns ≡ columns → copying-out (i .copyout) ≡ false → x .engine ≡ from-now q → x .rivals ≡ 0
           → Runs x (choose c t i q .phase)
       unfolding choose
-      chosen-runs x c i NoTask e o p f s z = ((o, p, s, (t, f)), tt)
-      chosen-runs x c i (Task n) e o p f s z = (
-        (o, p, (t, f, ap (λ (l : List ℕ). later t (copyin-length l n)) e), s),
+      chosen-runs x c i NoTask e o p z = ((o, p), tt)
+      chosen-runs x c i (Task n) e o p z = (
+        (o, (t, p, ap (λ (l : List ℕ). later t (copyin-length l n)) e)),
         λ k l m. clash (member k 0) (subst (λ (r : ℕ). member k r ≡ true) z m) (none k),
       )
 
       -- step e
-      e-free : (x : Choice) (c : State) (i : Interval) → c .table .columns ≡ columns → i .copyin ≡ Unchosen → copying-out (i .copyout) ≡ false → x .pick ≡ highest-of c (c .jobs .ready)
-          → x .free ≡ Tick t → x .seen ≡ NoTask → x .rivals ≡ 0 → Runs x (step-e c t (Within i) .phase)
+      e-free : (x : Choice) (c : State) (i : Interval) → c .table .columns ≡ columns → i .copyin ≡ Unchosen → copying-out (i .copyout) ≡ false → x .engine ≡ from-now (highest-of c (c .jobs .ready))
+          → x .rivals ≡ 0 → Runs x (step-e c t (Within i) .phase)
       unfolding step-e choose-if
-      e-free x c i e u v p f s z =
+      e-free x c i e u v p z =
           subst (λ (k : CopyIn). Runs x (choose-if c t i k .phase)) (sym u)
-          (subst (λ (b : Bool). Runs x (cond b c (choose c t i (highest-of c (c .jobs .ready))) .phase)) (sym v) (chosen-runs x c i (highest-of c (c .jobs .ready)) e v p f s z))
+          (subst (λ (b : Bool). Runs x (cond b c (choose c t i (highest-of c (c .jobs .ready))) .phase)) (sym v) (chosen-runs x c i (highest-of c (c .jobs .ready)) e v p z))
 
       e-keeps : (x : Choice) (c : State) → DecidedAt (c .phase) → Runs x (c .phase) → Runs x (step-e c t (c .phase) .phase)
       e-keeps x c d r =
@@ -598,24 +586,20 @@ module _ (pr columns : List ℕ) where
           go : (p : Phase) → c .phase ≡ p → Ready x c 0 p → Runs x (step-e c t (c .phase) .phase)
           go (Between next outgoing) p h = e-keeps x c (subst DecidedAt (sym p) tt) (subst (Runs x) (sym p) h)
           go (Within i) p h =
-              ⊎-elim (λ r. subst (λ (q : Phase). Runs x (step-e c t q .phase)) (sym p) (e-free x c i e (r .0) (r .1) (r .2) (r .3) (r .4) (r .5)))
+              ⊎-elim (λ r. subst (λ (q : Phase). Runs x (step-e c t q .phase)) (sym p) (e-free x c i e (r .0) (r .1) (r .2) (r .3)))
               (λ r. e-keeps x c (subst DecidedAt (sym p) (r .1)) (subst (Runs x) (sym p) (r .0, r .3))) h
 
-      -- one that gives way under way does so before its end
+      -- what gives way is held, and where it is under way it does so before its end
       abbrev Early : Choice → ℕ → Type 0
-      Early x n = (c : ℕ) → x .seen ≡ NoTask → x .free ≡ Tick c → Tick t ≡ Tick (c + copyin-length columns n) → ⊥
-
-      -- what the engine has copied in, or still copies in
-      abbrev Held : Choice → Interval → ℕ → Type 0
-      Held x i n = (copying-out (i .copyout) ≡ false) × (x .pick ≡ Task n) × Early x n × Freed x
+      Early x n = (copyin-task (x .engine) ≡ Task n) × ((u : ℕ) → x .engine ≡ Copying n u → Tick t ≡ Tick u → ⊥)
 
       abbrev Gave : Choice → State → State → Type 0
-      Gave x c z = ((n : ℕ) × (giving-events-in (c .phase) (z .phase) ≡ GivesWay n ∷ []) × (x .pick ≡ Task n) × Early x n × Ready (choice-by pr x (GivesWay n)) z 0 (z .phase)) ⊎ (z ≡ c)
+      Gave x c z = ((n : ℕ) × (giving-events-in (c .phase) (z .phase) ≡ GivesWay n ∷ []) × Early x n × Ready (choice-by pr columns x (GivesWay n)) z 0 (z .phase)) ⊎ (z ≡ c)
 
-      cancelled : (x : Choice) (c : State) (i : Interval) (n fate : ℕ) → copying-out (i .copyout) ≡ false → Freed x
-          → let z : State = cancel c i n fate true in Ready (choice-by pr x (GivesWay n)) z 0 (z .phase)
+      cancelled : (x : Choice) (c : State) (i : Interval) (n fate : ℕ) → copying-out (i .copyout) ≡ false
+          → let z : State = cancel c i n fate true in Ready (choice-by pr columns x (GivesWay n)) z 0 (z .phase)
       unfolding cancel
-      cancelled x c i n fate o f = inr ((o, refl, refl, f), tt, tt, tt)
+      cancelled x c i n fate o = inr ((o, refl), tt, tt, tt)
 
       d-gave : (x : Choice) (c : State) (taken s : ℕ) → Ready x c s (c .phase) → Gave x c (step-d c taken (c .phase))
       d-gave x c taken s h = d-fates (Gave x c) c taken (inr refl) (λ i n fate p held b. inl (gives i n fate p held (subst (Ready x c s) p h)))
@@ -625,41 +609,33 @@ module _ (pr columns : List ℕ) where
               unfold cancel giving-events-in giving-events in
               ⊎-elim (λ z. ap (λ (c : CopyIn). giving-events (given-way c) (Task n)) (z .1)) (λ z. ap (λ (c : CopyIn). giving-events (given-way c) (Task n)) (z .0)) h
 
-          held-run : (i : Interval) (n fate : ℕ) → HeldFor (i .copyin) n fate → Ready x c s (Within i) → Held x i n
+          held-run : (i : Interval) (n fate : ℕ) → HeldFor (i .copyin) n fate → Ready x c s (Within i) → (copying-out (i .copyout) ≡ false) × (Early x n)
           held-run i n fate held r =
               ⊎-elim (λ a. ⊎-elim (λ z. absurd (true≢false (ap is-unchosen (sym (a .0) ∙ z .1)))) (λ z. absurd (true≢false (ap is-unchosen (sym (a .0) ∙ z .0)))) held)
               (λ a. ⊎-elim (λ z. copying (z .0) (z .1) (a .0) (a .2)) (λ z. loaded (z .0) (a .0)) held) r
             where
-              early : (until b c : ℕ) → until ≡ later b (copyin-length columns n) → eqb until t ≡ false → until ≤ 3000000000 → Tick b ≡ Tick c → Tick t ≡ Tick (c + copyin-length columns n) → ⊥
-              early until b c e u l f z =
-                  let same : b ≡ c = cc in
-                  let now : t ≡ c + copyin-length columns n = cc in
-                  eqb-false until t u (e ∙ exact b (copyin-length columns n) (subst (λ (y : ℕ). y ≤ 3000000000) e l) ∙ ap (λ (j : ℕ). j + copyin-length columns n) same ∙ sym now)
+              early : (until b u : ℕ) → until ≡ later b (copyin-length columns n) → eqb until t ≡ false → until ≤ 3000000000 → Copying n (b + copyin-length columns n) ≡ Copying n u → Tick t ≡ Tick u → ⊥
+              early until b u e f l g z =
+                  let same : b + copyin-length columns n ≡ u = cc in
+                  let now : t ≡ u = cc in
+                  eqb-false until t f (e ∙ exact b (copyin-length columns n) (subst (λ (y : ℕ). y ≤ 3000000000) e l) ∙ same ∙ sym now)
 
-              no-task : (n : ℕ) → NoTask ≡ Task n → ⊥
-              no-task n e = let z : _≡_ {A = ℕ} 0 1 = cc in omega arith
-
-              is-unchosen : CopyIn → Bool
-              is-unchosen Unchosen = true
-              is-unchosen NoneChosen = false
-              is-unchosen (Copying n until) = false
-              is-unchosen (Loaded n) = false
-              is-unchosen (Cancelled n fate) = false
-
-              copying : (until : ℕ) → i .copyin ≡ Copying n until → Run x (i .copyout) (i .copyin) → Unended (i .copyin) → Held x i n
+              copying : (until : ℕ) → i .copyin ≡ Copying n until → Run x (i .copyout) (i .copyin) → Unended (i .copyin) → (copying-out (i .copyout) ≡ false) × (Early x n)
               copying until e r u =
                   let y : Run x (i .copyout) (Copying n until) = subst (Run x (i .copyout)) e r in
                   let v : Unended (Copying n until) = subst Unended e u in
-                  (y .0, y .1, (λ c s f z. early until (y .2 .0) c (y .2 .2) (v .0) (v .1) (sym (y .2 .1) ∙ f) z), (y .2 .0, y .2 .1))
+                  (y .0, (ap copyin-task (y .1 .1), λ u f z. early until (y .1 .0) u (y .1 .2) (v .0) (v .1) (sym (y .1 .1) ∙ f) z))
 
-              loaded : i .copyin ≡ Loaded n → Run x (i .copyout) (i .copyin) → Held x i n
-              loaded e r = let y : Run x (i .copyout) (Loaded n) = subst (Run x (i .copyout)) e r in (y .0, y .1, (λ c s f z. absurd (no-task n (sym s ∙ y .2))), y .3)
+              loaded : i .copyin ≡ Loaded n → Run x (i .copyout) (i .copyin) → (copying-out (i .copyout) ≡ false) × (Early x n)
+              loaded e r =
+                  let y : Run x (i .copyout) (Loaded n) = subst (Run x (i .copyout)) e r in
+                  (y .0, (ap copyin-task (y .1), λ u f z. absurd (false≢true (ap is-copying (sym (y .1) ∙ f)))))
 
           gives : (i : Interval) (n fate : ℕ) → c .phase ≡ Within i → HeldFor (i .copyin) n fate → Ready x c s (Within i)
-              → let z : State = cancel c i n fate true in (m : ℕ) × (giving-events-in (c .phase) (z .phase) ≡ GivesWay m ∷ []) × (x .pick ≡ Task m) × Early x m × Ready (choice-by pr x (GivesWay m)) z 0 (z .phase)
+              → let z : State = cancel c i n fate true in (m : ℕ) × (giving-events-in (c .phase) (z .phase) ≡ GivesWay m ∷ []) × Early x m × Ready (choice-by pr columns x (GivesWay m)) z 0 (z .phase)
           gives i n fate p held r =
-              let h : Held x i n = held-run i n fate held r in
-              (n, subst (λ (q : Phase). giving-events-in q (cancel c i n fate true .phase) ≡ GivesWay n ∷ []) (sym p) (gives-it i n fate held), h .1, h .2, cancelled x c i n fate (h .0) (h .3))
+              let h = held-run i n fate held r in
+              (n, subst (λ (q : Phase). giving-events-in q (cancel c i n fate true .phase) ≡ GivesWay n ∷ []) (sym p) (gives-it i n fate held), h .1, cancelled x c i n fate (h .0))
 
       -- step c
       c-ready : (x : Choice) (b c : State) (taken s : ℕ) (p : Phase) → Ready x c s p → Ready x c s (with-candidates b taken p)
@@ -733,8 +709,8 @@ module _ (pr columns : List ℕ) where
           let z : Phase = step-e y t (y .phase) .phase in
           let same : giving-events-in (b .phase) z ≡ giving-events-in (c .phase) (y .phase) = sym (c-same [] b t taken deferred z) ∙ e-same [] y t (c .phase) in
           ⊎-elim
-          (λ g. subst (λ (es : List Event). T x (es ++ ys)) (sym (same ∙ g .1)) (gone (g .0) (g .2) (g .3) (k (choice-by pr x (GivesWay (g .0))) (record { ready = refl; origins = λ j. refl; works = refl })
-          (e-runs (choice-by pr x (GivesWay (g .0))) y (ap (λ (f : Frame). f .table .columns) (d-frame c taken) ∙ e) (g .4)))))
+          (λ g. subst (λ (es : List Event). T x (es ++ ys)) (sym (same ∙ g .1)) (gone (g .0) (g .2) (k (choice-by pr columns x (GivesWay (g .0))) (record { ready = refl; origins = λ j. refl; works = refl })
+          (e-runs (choice-by pr columns x (GivesWay (g .0))) y (ap (λ (f : Frame). f .table .columns) (d-frame c taken) ∙ e) (g .3)))))
           (λ g. subst (λ (es : List Event). T x (es ++ ys)) (sym (same ∙ ap (λ (s : State). giving-events-in (c .phase) (s .phase)) g ∙ gives-same [] (c .phase)))
           (k x (like x) (subst (λ (s : State). Runs x (step-e s t (s .phase) .phase)) (sym g)
           (e-runs x c e (d-stays x c (intersection taken (c .marked)) (c .phase) (subst (λ (s : State). BeatsAt (intersection taken (c .marked)) (s .phase)) g (d-beats c taken f)) h)))))
@@ -743,8 +719,12 @@ module _ (pr columns : List ℕ) where
           number : (a b : ℕ) → Task a ≡ Task b → a ≡ b
           number a b e = cc
 
-          gone : (n : ℕ) → x .pick ≡ Task n → Early x n → T (choice-by pr x (GivesWay n)) ys → T x (GivesWay n ∷ ys)
-          gone n p f h = unfold Chosen in (((λ n y z. absurd (false≢true y)), (λ m c y z. (p ∙ z, λ s e v. f c s e (v ∙ ap (λ (j : ℕ). Tick (c + copyin-length columns j)) (sym (number n m z))))), (λ y. absurd (false≢true y)), (λ y. absurd (false≢true y)), (λ y. absurd (false≢true y))), h)
+          gone : (n : ℕ) → Early x n → T (choice-by pr columns x (GivesWay n)) ys → T x (GivesWay n ∷ ys)
+          gone n f h =
+              unfold Chosen in (
+                ((λ n y z. absurd (false≢true y)), (λ m y z. subst (Early x) (number n m z) f), (λ y. absurd (false≢true y)), (λ y. absurd (false≢true y))),
+                h,
+              )
 
       -- ---- f
 
@@ -763,9 +743,9 @@ module _ (pr columns : List ℕ) where
               → T x (end-events t (Within i) (close-stage s t i b .state .phase) ++ ys)
           go true o k =
               unfold Chosen in (
-                ((λ n y z. absurd (false≢true y)), (λ n j y. absurd (false≢true y)), (λ y. run-seen x (i .copyout) (i .copyin) (settles i o) (m .0)), (λ y. absurd (false≢true y)), (λ y. absurd (false≢true y))),
-                k (choice-by pr x (Ends t)) (λ j. refl) (λ j l. omega (arith, h j l, b-outgoing-bit present tasks j (i .processor) (rests i o), b-copyout-bit present tasks j (i .copyout) (no-copyout i o)))
-                    (run-seen x (i .copyout) (i .copyin) (settles i o) (m .0) .2, refl) (v ∙ ap not (rests i o)),
+                ((λ n y z. absurd (false≢true y)), (λ n y. absurd (false≢true y)), (λ y. run-settled x (i .copyout) (i .copyin) (settles i o) (m .0)), (λ y. absurd (false≢true y))),
+                k (choice-by pr columns x (Ends t)) (λ j. refl) (λ j l. omega (arith, h j l, b-outgoing-bit present tasks j (i .processor) (rests i o), b-copyout-bit present tasks j (i .copyout) (no-copyout i o)))
+                    refl (v ∙ ap not (rests i o)),
               )
           go false o k = stays (s .state .phase) e k
 
@@ -781,16 +761,19 @@ module _ (pr columns : List ℕ) where
       bit-same false true h = absurd (omega arith)
       bit-same false false h = refl
 
+      taken-off : (n k s : ℕ) → k < 32 → bit (eqb k n) ≤ bit (member k s) → bit (member k (remove n s)) + bit (eqb k n) ≡ bit (member k s)
+      taken-off n k s l h = rw (removed n s k l) (by-test (eqb k n) (λ e. rw e (let z : 1 ≤ bit (member k s) = rw e at h in omega (arith, bit-most (member k s)))) (λ e. rw e (omega arith)))
+
       -- the job that an interval executes is not to be executed any more
       off : (table : Table) (next : Next) (k s : ℕ) → k < 32 → next-bit k next ≤ bit (member k s)
           → bit (member k (without-task (processor-task (begin-processor table t next)) s)) + next-bit k next ≡ bit (member k s)
       off table NoneNext k s l h = omega arith
-      off table (LoadedNext n) k s l h = rw (removed n s k l) (by-test (eqb k n) (λ e. rw e (let z : 1 ≤ bit (member k s) = rw e at h in omega (arith, bit-most (member k s)))) (λ e. rw e (omega arith)))
-      off table (PromotedNext n) k s l h = rw (removed n s k l) (by-test (eqb k n) (λ e. rw e (let z : 1 ≤ bit (member k s) = rw e at h in omega (arith, bit-most (member k s)))) (λ e. rw e (omega arith)))
+      off table (LoadedNext n) k s l h = taken-off n k s l h
+      off table (PromotedNext n) k s l h = taken-off n k s l h
 
       -- where an interval begins
       abbrev begun : Choice → Table → Next → Outgoing → Choice
-      begun x table next outgoing = choice-by pr x (Begins t (processor-task (begin-processor table t next)) (copyout-task (begin-copyout table t outgoing)))
+      begun x table next outgoing = choice-by pr columns x (Begins t (processor-task (begin-processor table t next)) (copyout-task (begin-copyout table t outgoing)))
 
       module _ (x : Choice) (f : State) (taken : ℕ) (next : Next) (outgoing : Outgoing) (e : f .table .priority ≡ pr) (c : f .table .columns ≡ columns)
           (h : Parted present tasks f (Between next outgoing)) (readies : Readies x (f .jobs .pending) (Between next outgoing)) (since : (k : ℕ) → k < 32 → x .origins k .since ≡ getD (f .jobs .release) k 0) where
@@ -809,17 +792,15 @@ module _ (pr columns : List ℕ) where
         where
           go : (outgoing : Outgoing) → Parted present tasks f (Between next outgoing) → Readies x (f .jobs .pending) (Between next outgoing)
               → let b : State = begin f t taken next outgoing in Ready (begun x (f .table) next outgoing) b 0 (b .phase)
-          go (AwaitsCopyOut m start) h readies = unfold begin in inr ((refl, refl, refl), refl, tt, tt)
+          go (AwaitsCopyOut m start) h readies = unfold begin in inr (refl, refl, tt, tt)
           go NoneOutgoing h readies =
               unfold begin in
               inl (
                 refl,
                 refl,
-                highest-same pr (λ k. x .origins k .since) (λ k. getD (f .jobs .release) k 0) (begun x (f .table) next NoneOutgoing .ready) (f .jobs .ready)
+                ap from-now (highest-same pr (λ k. x .origins k .since) (λ k. getD (f .jobs .release) k 0) (begun x (f .table) next NoneOutgoing .ready) (f .jobs .ready)
                     (λ k l. bit-same _ _ (omega (arith, left-over x f taken next NoneOutgoing e c h readies since k l, readies k l, h .parts k l))) since
-                    ∙ ap (λ (p : List ℕ). highest p (λ k. getD (f .jobs .release) k 0) (f .jobs .ready)) (sym e),
-                refl,
-                refl,
+                    ∙ ap (λ (p : List ℕ). highest p (λ k. getD (f .jobs .release) k 0) (f .jobs .ready)) (sym e)),
                 refl,
               )
 
@@ -878,28 +859,9 @@ module _ (pr columns : List ℕ) where
 
       -- ---- an interval that begins
 
-      begins-on : (x : Choice) (r l : MaybeTask) (ys : List Event) → (l ≡ NoTask → x .ready ≡ 0 → ⊥) → T (choice-by pr x (Begins t r l)) ys → T x (Begins t r l ∷ ys)
+      begins-on : (x : Choice) (r l : MaybeTask) (ys : List Event) → T (choice-by pr columns x (Begins t r l)) ys → T x (Begins t r l ∷ ys)
       unfolding Chosen
-      begins-on x r l ys f h = (((λ n y z. absurd (false≢true y)), (λ n i y z. absurd (false≢true y)), (λ y. absurd (false≢true y)), (λ y. absurd (false≢true y)), (λ y. f)), h)
-
-      -- not where there is nothing to do
-      something : (x : Choice) (f : State) (next : Next) (outgoing : Outgoing) → f .jobs .ready < 2 ^ 32 → Parted present tasks f (Between next outgoing) → Readies x (f .jobs .pending) (Between next outgoing)
-          → wanted next outgoing (f .jobs .ready) ≡ true → copyout-task (begin-copyout (f .table) t outgoing) ≡ NoTask → x .ready ≡ 0 → ⊥
-      something x f next (AwaitsCopyOut m start) few h r w l z = let y : Task m ≡ NoTask = l in let u : _≡_ {A = ℕ} 1 0 = cc in omega arith
-      something x f next NoneOutgoing few h r w l z = go next h r w
-        where
-          none-left : (k : ℕ) → bit (member k (x .ready)) ≡ 0
-          none-left k = ap bit (ap (member k) z ∙ none k)
-
-          loaded-one : (n : ℕ) (next : Next) → member n present ≡ true → next-bit n next ≡ 1 → Parted present tasks f (Between next NoneOutgoing) → Readies x (f .jobs .pending) (Between next NoneOutgoing) → ⊥
-          loaded-one n next m e h r = let l : n < 32 = member-task n present tasks m in omega (arith, r n l, h .parts n l, none-left n, e)
-
-          go : (next : Next) → Parted present tasks f (Between next NoneOutgoing) → Readies x (f .jobs .pending) (Between next NoneOutgoing) → wanted next NoneOutgoing (f .jobs .ready) ≡ true → ⊥
-          go NoneNext h r w =
-              let e : f .jobs .ready ≡ 0 = empty (f .jobs .ready) few (λ k l. bit-same (member k (f .jobs .ready)) false (omega (arith, r k l, h .parts k l, none-left k))) in
-              clash (eqb (f .jobs .ready) 0) (eq-eqb (f .jobs .ready) 0 e) (not-true (eqb (f .jobs .ready) 0) w)
-          go (LoadedNext n) h r w = loaded-one n (LoadedNext n) (h .known .0) (ap bit (same-task n)) h r
-          go (PromotedNext n) h r w = loaded-one n (PromotedNext n) (h .known .0) (ap bit (same-task n)) h r
+      begins-on x r l ys h = (((λ n y z. absurd (false≢true y)), (λ n y z. absurd (false≢true y)), (λ y. absurd (false≢true y)), (λ y. absurd (false≢true y))), h)
 
       begun-works : (table : Table) (next : Next) → has-task (processor-task (begin-processor table t next)) ≡ not (resting (begin-processor table t next))
       begun-works table NoneNext = refl
@@ -910,14 +872,14 @@ module _ (pr columns : List ℕ) where
       unfolding begin
       begin-rest f taken next outgoing = refl
 
-      opens-chosen : (x : Choice) (table : Table) (next : Next) (outgoing : Outgoing) (q : Phase) (ys : List Event) → (copyout-task (begin-copyout table t outgoing) ≡ NoTask → x .ready ≡ 0 → ⊥)
+      opens-chosen : (x : Choice) (table : Table) (next : Next) (outgoing : Outgoing) (q : Phase) (ys : List Event)
           → Both (table .columns) t (begin-processor table t next) (begin-copyout table t outgoing) q → T (begun x table next outgoing) ys → T x (begin-events t (Between next outgoing) q ++ ys)
       unfolding begin-events
-      opens-chosen x table next outgoing (Between y z) ys f b h = absurd b
-      opens-chosen x table next outgoing (Within j) ys f b h =
+      opens-chosen x table next outgoing (Between y z) ys b h = absurd b
+      opens-chosen x table next outgoing (Within j) ys b h =
           subst (λ (o : CopyOut). T x (Begins t (processor-task (j .processor)) (copyout-task o) ∷ ys)) (sym (b .1))
           (subst (λ (q : Processor). T x (Begins t (processor-task q) (copyout-task (begin-copyout table t outgoing)) ∷ ys)) (sym (b .0))
-          (begins-on x (processor-task (begin-processor table t next)) (copyout-task (begin-copyout table t outgoing)) ys f h))
+          (begins-on x (processor-task (begin-processor table t next)) (copyout-task (begin-copyout table t outgoing)) ys h))
 
       shut-chosen : (x : Choice) (next : Next) (outgoing : Outgoing) (q : Phase) (ys : List Event) → q ≡ Between next outgoing → T x ys → T x (begin-events t (Between next outgoing) q ++ ys)
       unfolding begin-events
@@ -928,12 +890,12 @@ module _ (pr columns : List ℕ) where
       SinceAs x f = (k : ℕ) → k < 32 → x .origins k .since ≡ getD (f .jobs .release) k 0
 
       g-chosen : (x : Choice) (f : State) (taken : ℕ) (p : Phase) (ys : List Event) → f .phase ≡ p → f .table .priority ≡ pr → f .table .columns ≡ columns → Parted present tasks f p
-          → Readies x (f .jobs .pending) p → Runs x p → SinceAs x f → f .jobs .ready < 2 ^ 32 → Working x p
+          → Readies x (f .jobs .pending) p → Runs x p → SinceAs x f → Working x p
           → ((y : Choice) → ((k : ℕ) → y .origins k ≡ x .origins k) → Readies y (f .jobs .pending) (step-g f t taken p .phase) → Runs y (step-g f t taken p .phase) → Working y (step-g f t taken p .phase) → T y ys)
           → T x (begin-events t p (step-g f t taken p .phase) ++ ys)
       unfolding step-g begin-events
-      g-chosen x f taken (Within i) ys e a c h readies runs since few v k = k x (λ j. refl) (subst (Readies x (f .jobs .pending)) (sym e) readies) (subst (Runs x) (sym e) runs) (subst (Working x) (sym e) v)
-      g-chosen x f taken (Between next outgoing) ys e a c h readies runs since few v k = go (wanted next outgoing (f .jobs .ready)) refl k
+      g-chosen x f taken (Within i) ys e a c h readies runs since v k = k x (λ j. refl) (subst (Readies x (f .jobs .pending)) (sym e) readies) (subst (Runs x) (sym e) runs) (subst (Working x) (sym e) v)
+      g-chosen x f taken (Between next outgoing) ys e a c h readies runs since v k = go (wanted next outgoing (f .jobs .ready)) refl k
         where
           b : State
           b = begin f t taken next outgoing
@@ -942,7 +904,7 @@ module _ (pr columns : List ℕ) where
               → ((y : Choice) → ((k : ℕ) → y .origins k ≡ x .origins k) → Readies y (f .jobs .pending) (cond z (step-e b t (b .phase)) f .phase) → Runs y (cond z (step-e b t (b .phase)) f .phase) → Working y (cond z (step-e b t (b .phase)) f .phase) → T y ys)
               → T x (begin-events t (Between next outgoing) (cond z (step-e b t (b .phase)) f .phase) ++ ys)
           go true w k =
-              opens-chosen x (f .table) next outgoing (step-e b t (b .phase) .phase) ys (something x f next outgoing few h readies w)
+              opens-chosen x (f .table) next outgoing (step-e b t (b .phase) .phase) ys
               (begun-both (f .table .columns) t b (begin-processor (f .table) t next) (begin-copyout (f .table) t outgoing) (unfold begin in (refl, refl)))
               (k (begun x (f .table) next outgoing) (λ j. refl)
               (λ j l. ap (λ (s : ℕ). bit (member j (begun x (f .table) next outgoing .ready)) + s) (e-spots j b) ∙ begun-readies x f taken next outgoing a c h readies since j l)
@@ -953,10 +915,10 @@ module _ (pr columns : List ℕ) where
       -- ---- the releases
 
       abbrev took : Choice → ℕ → ℕ → Choice
-      took x taken w = after (choice-by pr) x (take-events 32 taken w t)
+      took x taken w = after (choice-by pr columns) x (take-events 32 taken w t)
 
       abbrev held : Choice → ℕ → ℕ → ℕ → Choice
-      held x taken w deferred = after (choice-by pr) (took x taken w) (defer-events 32 deferred t)
+      held x taken w deferred = after (choice-by pr columns) (took x taken w) (defer-events 32 deferred t)
 
       module _ (x : Choice) (b : State) (taken deferred w : ℕ) (e : b .table .priority ≡ pr) (h : Parted present tasks b (b .phase)) (readies : Readies x (b .jobs .pending) (b .phase))
           (origins : (k : ℕ) → k < 32 → OriginIs k (x .origins k) (b .jobs .release) (b .waiting)) (new : (k : ℕ) → k < 32 → member k taken ≡ true → member k (b .jobs .pending) ≡ false) where
@@ -1040,25 +1002,22 @@ module _ (pr columns : List ℕ) where
 
             go : (p : Phase) → b .phase ≡ p → Mode x p → Ready (held x taken w deferred) c (intersection taken (b .marked)) p
             go (Between next outgoing) z m =
-                ⊎-elim (λ n. absurd (n .1)) (λ n. (same .seen ∙ keep .seen ∙ n .1 .0 ∙ sym (same .pick ∙ keep .keeps (n .0)), same .free ∙ keep .free ∙ n .1 .1)) m
+                ⊎-elim (λ n. absurd (n .1)) (λ n. same .engine ∙ keep .keeps (n .0) ∙ n .1) m
             go (Within i) z m =
                 ⊎-elim
                 (λ n. inl (
                   n .1 .0,
                   n .1 .1,
-                  same .pick ∙ keep .picks (n .0) (n .1 .2)
-                      ∙ highest-same pr (λ k. (took x taken w) .origins k .since) (λ k. getD (c .jobs .release) k 0) ((took x taken w) .ready) (union (b .jobs .ready) taken) (took-same i z (n .1 .0)) took-since
-                      ∙ ap (λ (q : List ℕ). highest q (λ k. getD (c .jobs .release) k 0) (union (b .jobs .ready) taken)) (sym e),
-                  same .free ∙ keep .free ∙ n .1 .3,
-                  same .seen ∙ keep .seen ∙ n .1 .4,
-                  same .rivals ∙ grow .none-new (n .0) ∙ n .1 .5,
+                  same .engine ∙ keep .picks (n .0) (n .1 .2)
+                      ∙ ap from-now (highest-same pr (λ k. (took x taken w) .origins k .since) (λ k. getD (c .jobs .release) k 0) ((took x taken w) .ready) (union (b .jobs .ready) taken) (took-same i z (n .1 .0)) took-since
+                      ∙ ap (λ (q : List ℕ). highest q (λ k. getD (c .jobs .release) k 0) (union (b .jobs .ready) taken)) (sym e)),
+                  same .rivals ∙ grow .none-new (n .0) ∙ n .1 .3,
                 ))
-                (λ n. inr (run-as x (held x taken w deferred) (i .copyout) (i .copyin) (same .free ∙ keep .free) (same .seen ∙ keep .seen) (same .pick ∙ keep .keeps (n .0)) (n .1 .0), n .2, n .3, ahead (i .copyin) (n .1 .1))) m
+                (λ n. inr (run-as x (held x taken w deferred) (i .copyout) (i .copyin) (same .engine ∙ keep .keeps (n .0)) (n .1 .0), n .2, n .3, ahead (i .copyin) (n .1 .1))) m
 
       -- ---- an instant
 
-      module _ (d : State) (set : ℕ) (known : Sub set present) (priority : d .table .priority ≡ pr) (lengths : d .table .columns ≡ columns) (h : Parted present tasks d (d .phase))
-          (few : at-f d t set .state .jobs .ready < 2 ^ 32) where
+      module _ (d : State) (set : ℕ) (known : Sub set present) (priority : d .table .priority ≡ pr) (lengths : d .table .columns ≡ columns) (h : Parted present tasks d (d .phase)) where
         abbrev B : State
         B = at-b d t .state
 
@@ -1102,8 +1061,8 @@ module _ (pr columns : List ℕ) where
             (held-ready x B taken deferred (d .marked) priority-b parted-b readies origins new (marked-b d t) mode)
             (λ y a runs. f-chosen y (union (B .jobs .pending) taken) (fresh-stage E) (E .phase) _ refl (readies-e y a) runs (a .works ∙ held-works ∙ v ∙ ap not (sym (rest-e d set)))
             (λ u i r m v. g-chosen u F (held-at d t set) (F .phase) starts refl (ap (λ (z : Table). z .priority) table-f ∙ priority) (ap (λ (z : Table). z .columns) table-f ∙ lengths) parted-f
-            (subst (λ (p : ℕ). Readies u p (F .phase)) (sym pending-f) r) m (λ j l. ap (λ (o : Origin). o .since) (i j ∙ a .origins j) ∙ held-is j l .since-is ∙ ap (λ (z : Frame). getD (z .release) j 0) (sym frame-f)) few v
-            (λ z o r m v. by-starts (T z) t (λ n es q. on (Starts n t) refl refl refl refl refl z (Tick t) es q) (F .phase) (G .phase) ys
+            (subst (λ (p : ℕ). Readies u p (F .phase)) (sym pending-f) r) m (λ j l. ap (λ (o : Origin). o .since) (i j ∙ a .origins j) ∙ held-is j l .since-is ∙ ap (λ (z : Frame). getD (z .release) j 0) (sym frame-f)) v
+            (λ z o r m v. by-starts (T z) t (λ n es q. on (Starts n t) refl refl refl refl z (Tick t) es q) (F .phase) (G .phase) ys
             (k z (record {
               readies = subst (λ (p : ℕ). Readies z p (G .phase)) (pending-f ∙ sym (pending-g d t set)) r;
               origins = λ j l. rw (release-g d t set, waiting-g d t set) (subst (λ (u : Origin). OriginIs j u (at-c d t set .jobs .release) (at-c d t set .waiting)) (sym (o j ∙ i j ∙ a .origins j)) (held-is j l));
@@ -1147,35 +1106,20 @@ module _ (pr columns : List ℕ) where
             (λ z i r m v. k z (subst (λ (p : ℕ). Readies z p (B .phase)) (sym (ap (λ (z : Frame). z .pending) (b-frame a t))) r)
             (λ j s. rw (release-b d t, waiting-b d t) (subst (λ (o : Origin). OriginIs j o (d .jobs .release) (d .waiting)) (sym (i j ∙ l j)) (agrees .origins j s))) m v))
 
-        comes-on : (x : Choice) (w : Due) (es : List Event) → Rest x w → InTime x t → T (choice-by pr x (Comes t)) es → Chosen x w (Comes t ∷ es)
+        comes-on : (x : Choice) (w : Due) (es : List Event) → Rest x w → InTime x t → T (choice-by pr columns x (Comes t)) es → Chosen x w (Comes t ∷ es)
         unfolding Chosen
-        comes-on x w es r f h = (((λ n y z. absurd (false≢true y)), (λ n c y. absurd (false≢true y)), (λ y. absurd (false≢true y)), (λ y. (r, f)), (λ y. absurd (false≢true y))), h)
+        comes-on x w es r f h = (((λ n y z. absurd (false≢true y)), (λ n y. absurd (false≢true y)), (λ y. absurd (false≢true y)), (λ y. (r, f))), h)
 
         -- no instant comes behind the end of a copy-in
         in-time : (x : Choice) (p : Phase) → Times Plain p → Times (λ u. t ≤ u) p → Runs x p → InTime x t
-        in-time x (Between next outgoing) times due r n c p s f = absurd (let z : NoTask ≡ Task n = sym s ∙ r .0 ∙ p in let y : _≡_ {A = ℕ} 0 1 = cc in omega arith)
-        in-time x (Within i) times due r n c p s f = go (i .copyin) (times .2) (due .2) (r .0)
-          where
-            no-task : NoTask ≡ Task n → t ≤ c + copyin-length columns n
-            no-task e = absurd (let y : _≡_ {A = ℕ} 0 1 = cc in omega arith)
-
-            go : (k : CopyIn) → copyin-times Plain k → copyin-times (λ u. t ≤ u) k → Run x (i .copyout) k → t ≤ c + copyin-length columns n
-            go Unchosen a b r = no-task (sym (r .0) ∙ p)
-            go NoneChosen a b r = no-task (sym (r .1) ∙ p)
-            go (Copying m until) a b r =
-                let same : m ≡ n = let z : Task m ≡ Task n = sym (r .1) ∙ p in cc in
-                let at : r .2 .0 ≡ c = let z : Tick (r .2 .0) ≡ Tick c = sym (r .2 .1) ∙ f in cc in
-                let l : until ≡ r .2 .0 + copyin-length columns m = r .2 .2 ∙ exact (r .2 .0) (copyin-length columns m) (subst (λ (y : ℕ). y ≤ 3000000000) (r .2 .2) a) in
-                subst (λ (z : ℕ). t ≤ z + copyin-length columns n) at (subst (λ (z : ℕ). t ≤ r .2 .0 + copyin-length columns z) same (subst (λ (z : ℕ). t ≤ z) l b))
-            go (Loaded m) a b r = no-task (sym s ∙ r .2 ∙ sym (r .1) ∙ p)
-            go (Cancelled m fate) a b r = no-task (sym s ∙ r .2 ∙ sym (r .1) ∙ p)
+        in-time = under-way (λ u. t ≤ u)
 
         happens-chosen : (x : Choice) (w : Due) (ys : List Event) → Times Plain (d .phase) → Times (λ u. t ≤ u) (d .phase) → DecidedAt (d .phase) → Rest x w → Agrees x d → ((y : Choice) → Agrees y G → T y ys) → Chosen x w (happens d t set ++ ys)
         happens-chosen x w ys times due decided rest agrees k =
             let later : List Event = take-events 32 (taken-at d t set) (d .marked) t ++ (tail-of d t set ++ ys) in
             rw (happens-parts d t set ys, front-parts d t later)
             (comes-on x w _ rest (in-time x (d .phase) times due (agrees .runs))
-            (front-chosen (choice-by pr x (Comes t)) later times decided refl (record { readies = agrees .readies; origins = agrees .origins; runs = runs-as x (choice-by pr x (Comes t)) (d .phase) refl refl refl refl (agrees .runs); working = agrees .working })
+            (front-chosen (choice-by pr columns x (Comes t)) later times decided refl (record { readies = agrees .readies; origins = agrees .origins; runs = runs-as x (choice-by pr columns x (Comes t)) (d .phase) refl refl (agrees .runs); working = agrees .working })
             (λ y r o m v. tail-chosen y ys r o m v k)))
 
 -- ---- along the calls
@@ -1197,7 +1141,7 @@ module _ (table : Table) (marks : ℕ) (fair : Fair table marks) where
       (λ d t set cs e k g x w at a.
       let s : Served-at d t set = served-at d t set e in
       happens-chosen (table .priority) (table .columns) t (table .present) (fair .present) d set (subst (λ (y : Table). Sub set (y .present)) (g .table-is) (s .known))
-      (ap (λ (y : Table). y .priority) (g .table-is)) (ap (λ (y : Table). y .columns) (g .table-is)) (g .parted) (few-f d t set (g .sound)) x w (history (at-g d t set) cs) (plain table marks fair d g) (s .due) (g .settled .decided)
+      (ap (λ (y : Table). y .priority) (g .table-is)) (ap (λ (y : Table). y .columns) (g .table-is)) (g .parted) x w (history (at-g d t set) cs) (plain table marks fair d g) (s .due) (g .settled .decided)
       (finds d x w g at a) a
       (λ y b. k (good-next table marks fair d t set g s) y (Tick t) (λ u e. let z : u ≡ t = cc in z ∙ sym (ap last (clock-g d t set))) b))
       (λ d m e h k g x w at a. k (good-quiet table marks fair d m e g) x w at (record { readies = a .readies; origins = a .origins; runs = a .runs; working = a .working }))
@@ -1212,4 +1156,4 @@ module _ (table : Table) (marks : ℕ) (fair : Fair table marks) where
       never t e = let z : _≡_ {A = ℕ} 0 1 = cc in omega arith
 
       first : Agrees (table .priority) (table .columns) no-choice (opened table marks)
-      first = record { readies = unfold opened in λ k l. rw (none k) refl; origins = λ k l. opened-origin table marks k l; runs = unfold opened in (refl, refl); working = unfold opened in refl }
+      first = record { readies = unfold opened in λ k l. rw (none k) refl; origins = λ k l. opened-origin table marks k l; runs = unfold opened in refl; working = unfold opened in refl }

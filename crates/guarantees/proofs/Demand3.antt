@@ -96,7 +96,7 @@ module _ (table : Table) (marks : ℕ) (fair : Fair table marks) where
     };
     each-spacing = λ n l s. spaced table marks fair n l calls s;
     in-time = in-time 0 h (turns table marks fair 0 (omega arith) calls);
-    each-step = λ before after e x c. each-step calls (opened table marks) before after e x c;
+    each-step = λ before after e x c. each-step table marks calls before after e x c;
     at-most-three = at-most-three table marks calls;
     figure = figure table h in-turn (copied-out table marks fair calls) (executed table marks fair calls)
         (λ n l. turns table marks fair n l calls) (λ n l. lasts table marks fair n l calls) (λ before after n t m e. taken-small (opened table marks) calls before after n t m e);

@@ -44,6 +44,7 @@ pub mod Courses
 pub mod Causes
 pub mod Reasons
 pub mod Choices
+pub mod Alone
 pub mod Sequence
 pub mod Serving
 pub mod Arithmetic

@@ -1,13 +1,15 @@
 -- The events of an instant come in the order of its steps.
-use Rattle.guarantees.specs.Types.{_≡_, refl, subst, Bool, true, false, cond, true≢false, List, [], _∷_, _++_, ℕ, _≤_, Processor, Idle, CopyingIn, Executing, Finished, Phase, Between, Within, State, Call}
+use Rattle.guarantees.specs.Types.{_≡_, refl, sym, subst, Bool, true, false, cond, true≢false, _⊎_, ⊎-elim, List, [], _∷_, _++_, ℕ, _≤_, Table, Processor, Idle, CopyingIn, Executing, Finished, Phase, Between, Within, State, Call}
 use native.Mathlib.Omega.{arith}
 use borrow.Author.Tests.{leb-true}
 use lib.Dec.{leb}
+use Rattle.rules.specs.Calls.{opened}
 use Rattle.rules.specs.Instant.{at-a, at-b, at-e, at-f, at-g, taken-at, deferred-at}
-use Rattle.guarantees.specs.History.{Event, Comes, Starts, Stops, Finishes, Completes, Ends, Takes, Defers, GivesWay, Begins, history, happens, processor-events-in, finish-events-in, completion-events, end-events, take-events, giving-events-in, begin-events, start-events, execution-events}
+use Rattle.guarantees.specs.History.{Event, Comes, Starts, Stops, Finishes, Completes, Ends, history, happens, completion-events, end-events, take-events, giving-events-in, begin-events, start-events, execution-events}
 use Rattle.guarantees.specs.Queries.{comes, after}
 use Rattle.guarantees.specs.Pending.{step-by, step}
 use Rattle.guarantees.proofs.Walk.{walk}
+use Rattle.guarantees.proofs.Alone.{AloneIn, alone-after, completes-or-ends}
 use Rattle.guarantees.proofs.Events.{by-processor-at, by-finishes, by-completes, by-ends, by-takes, by-defers, by-gives, tail-of, happens-parts, front-parts, tail-parts}
 
 -- ---- along a history
@@ -69,15 +71,23 @@ module _ (t : ℕ) where
   unfolding Ordered
   finishes-ordered n es h = ((λ e. omega arith), h)
 
-  completes-ordered : (n u : ℕ) (es : List Event) → Ordered 0 es → Ordered 0 (Completes n u ∷ es)
+  completes-ordered : (n u : ℕ) (es : List Event) → Upto 2 es → Upto 2 (Completes n u ∷ es)
   unfolding Ordered
-  completes-ordered n u es h = ((λ e. omega arith), h)
+  completes-ordered n u es h s l = ((λ e. l), h 2 (omega arith))
 
   b-ordered : (p q : Phase) (es : List Event) → Upto 2 es → Ordered 0 (end-events t p q ++ es)
   unfolding end-events Ordered
   b-ordered (Between next outgoing) q es h = h 0 (omega arith)
   b-ordered (Within i) (Between next outgoing) es h = ((λ e. omega arith), h 1 (omega arith))
   b-ordered (Within i) (Within j) es h = h 0 (omega arith)
+
+  a-b-ordered : (d : State) (es : List Event) → AloneIn d → Upto 2 es
+      → Ordered 0 (completion-events (at-a d t .done) ++ (end-events t (at-a d t .state .phase) (at-b d t .state .phase) ++ es))
+  a-b-ordered d es h k =
+      ⊎-elim
+      (λ e. subst (λ (xs : List Event). Ordered 0 (xs ++ (end-events t (at-a d t .state .phase) (at-b d t .state .phase) ++ es))) (sym e) (b-ordered (at-a d t .state .phase) (at-b d t .state .phase) es k))
+      (λ e. subst (λ (xs : List Event). Ordered 0 (completion-events (at-a d t .done) ++ (xs ++ es))) (sym e) (by-completes (Upto 2) completes-ordered (at-a d t .done) es k 0 (omega arith)))
+      (completes-or-ends t d h)
 
   -- ---- an instant
 
@@ -93,8 +103,8 @@ module _ (t : ℕ) where
       rw (tail-parts d t set es)
       (by-defers (Upto 2) 32 (deferred-at d t set) t (λ n k m zs h s l. unfold Ordered in ((λ e. l), h 2 (omega arith))) (giving-events-in (at-b d t .state .phase) (at-e d t set .phase) ++ ending) (λ s l. y s (omega arith)))
 
-  happens-ordered : (d : State) (set : ℕ) (es : List Event) → Any es → Any (happens d t set ++ es)
-  happens-ordered d set es any s =
+  happens-ordered : (d : State) (set : ℕ) (es : List Event) → AloneIn d → Any es → Any (happens d t set ++ es)
+  happens-ordered d set es alone any s =
       let later : List Event = take-events 32 (taken-at d t set) (d .marked) t ++ (tail-of d t set ++ es) in
       let taking : Upto 2 later =
       by-takes (Upto 2) 32 (taken-at d t set) (d .marked) t (λ n k m zs h s l. unfold Ordered in ((λ e. l), h 2 (omega arith))) (tail-of d t set ++ es) (tail-ordered d set es any) in
@@ -102,12 +112,12 @@ module _ (t : ℕ) where
       (comes-ordered s _
       (by-processor-at (Ordered 0) t starts-ordered stops-ordered (d .phase) _
       (by-finishes (Ordered 0) finishes-ordered t (d .phase) _
-      (by-completes (Ordered 0) completes-ordered (at-a d t .done) _
-      (b-ordered (at-a d t .state .phase) (at-b d t .state .phase) later taking)))))
+      (a-b-ordered d later alone taking))))
 
 -- ---- along the calls
 
-pub each-step : (cs : List Call) (d : State) (before rest : List Event) (e : Event) → history d cs ≡ before ++ (e ∷ rest) → comes e ≡ false → step before ≤ step-by (step before) e
-each-step cs d before rest e x =
+pub each-step : (table : Table) (marks : ℕ) (cs : List Call) (before rest : List Event) (e : Event) → history (opened table marks) cs ≡ before ++ (e ∷ rest) → comes e ≡ false → step before ≤ step-by (step before) e
+each-step table marks cs before rest e x =
     at-event before rest e 0
-    (subst (Ordered 0) x (walk (λ d h. Any h) (λ d s. unfold Ordered in tt) (λ d t set cs e k. happens-ordered t d set (history (at-g d t set) cs) k) (λ d m e h k. k) cs d 0))
+    (subst (Ordered 0) x (walk (λ d h. AloneIn d → Any h) (λ d a s. unfold Ordered in tt) (λ d t set cs e k a. happens-ordered t d set (history (at-g d t set) cs) a (k (alone-after t d set a))) (λ d m e h k a. k a) cs (opened table marks)
+    (unfold opened in tt) 0))

@@ -56,14 +56,14 @@ pub record InTime (h : List Event) : Type 0 where
 
 -- ---- The steps of an instant
 
--- the step that an event belongs to, from a, which is 0, to g, which is 6, where s was the last: an interval ends in b, or in f if there
--- were releases before, and an execution starts in a, or in g with its interval
+-- the step that an event belongs to, from a, which is 0, to g, which is 6, where s was the last: an execution starts in a, or in g with its
+-- interval; an interval ends in b, or in f behind releases or a completion, which counts as c: the engine chooses behind the releases
 abbrev pub step-by : ℕ → Event → ℕ
 step-by s e =
     cond (begins e) 6
     (cond (ends e) (cond (leb s 1) 1 5)
     (cond (gives-way e) 3
-    (cond (takes e || defers e) 2
+    (cond (takes e || (defers e || completes e)) 2
     (cond (starts e && eqb s 6) 6 0))))
 
 -- the last one

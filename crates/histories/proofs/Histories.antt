@@ -19,7 +19,8 @@ use Rattle.table.specs.Head
 use Rattle.rules.specs.Order
 use Rattle.rules.specs.Instant
 use Rattle.rules.specs.Calls
-use Rattle.rules.specs.Instant.{due}
+use Rattle.guarantees.specs.Types.{Copying}
+use Rattle.rules.specs.Instant.{due, copyin-task}
 use Rattle.rules.specs.Calls.{opening}
 use Rattle.guarantees.specs.History
 use Rattle.rules.specs.declared.Call.{Call}
@@ -28,7 +29,7 @@ use Rattle.guarantees.specs.Queries.{details, is-task, takes, completes, after,
 use Rattle.guarantees.specs.Figure.{greatest, longest-interval, not-lower-in, before-start}
 use Rattle.guarantees.specs.Claim.{Holds, Completed, TakenLater, AllCompleted, Claim, Demand3}
 use Rattle.sets.proofs.Laws.{by-test, same-task}
-use Rattle.histories.specs.Histories.{task, tasks, three, plans-table, spaced-tasks, spaced-table, AcceptsOf, Accepts, Refuses, PlansAccepted, WrongRefused, calls-a, history-a, calls-b, history-b, calls-c, history-c, calls-d, history-d, calls-e, history-e, calls-f, history-f, calls-f′, history-f′, calls-waiting, history-waiting, second-lower, second-finished, thrown-out-runs, third-idle, third-lower, copyout-late, four-intervals, copyout-not-at-once, completion-late, completion-missing, completion-unexecuted, begins-late, no-ticks, not-executed, loaded-late, promoted-early, execution-long, promoted-unmarked, starts-unasked, starts-twice, stops-unstarted, cut-short, one-waits, never-taken, two-wait, waited-unexecuted, before-13, before-17, job-1, Tells, OneEntry, WaitedEntry, taken-late, waits-for-nothing, taken-twice, completed-twice, runs-unreleased, executed-again, another-tick, instants-fall, nobody-promoted, promoted-late, promoted-beside-the-loaded, begins-twice, ends-twice, finishes-twice, gives-way-twice, FigureRefuses, FigureTells, unmarked-in-four, marked-in-three, marked-behind-idle, marked-idles, lasts-long, open-long, completes-behind-two, unmarked-late, marked-late, between-unstarted, between-unstopped, Marks, calls-one, taken-another, up-to-5, ReleasesRefused, calls-skipped, history-skipped, calls-third, history-third, RefusesSpaced, taken-at-0, SpacingsAccepted, SpacingsRefused, LastReleases, PlanEntries, waits-between, ends-late, stays-open, ends-a-tick-late, taken-unchosen, ends-behind-a-taking, begins-a-tick-late, lower-chosen, nobody-chosen, copyin-short, copyin-overdue, cancelled-at-its-end, gives-way-unchosen, over-and-open, left-open, left-copying, begins-for-nobody, taken-behind-the-begin, late-table, cancelled-late, not-thrown-out, slow-tasks, slow-table, calls-slow, history-slow, ends-copying-out, LaterEnd, calls-unmarked, history-unmarked, BoundsMet}
+use Rattle.histories.specs.Histories.{task, tasks, three, plans-table, spaced-tasks, spaced-table, AcceptsOf, Accepts, Refuses, PlansAccepted, WrongRefused, calls-a, history-a, calls-b, history-b, calls-c, history-c, calls-d, history-d, calls-e, history-e, calls-f, history-f, calls-f′, history-f′, calls-waiting, history-waiting, second-lower, second-finished, thrown-out-runs, third-idle, third-lower, copyout-late, four-intervals, copyout-not-at-once, completion-late, completion-missing, completion-unexecuted, begins-late, no-ticks, not-executed, loaded-late, promoted-early, execution-long, promoted-unmarked, starts-unasked, starts-twice, stops-unstarted, cut-short, one-waits, never-taken, two-wait, waited-unexecuted, before-13, before-17, job-1, Tells, OneEntry, WaitedEntry, taken-late, waits-for-nothing, taken-twice, completed-twice, runs-unreleased, executed-again, another-tick, instants-fall, nobody-promoted, promoted-late, promoted-beside-the-loaded, begins-twice, ends-twice, finishes-twice, gives-way-twice, FigureRefuses, FigureTells, unmarked-in-four, marked-in-three, marked-behind-idle, marked-idles, lasts-long, open-long, completes-behind-two, unmarked-late, marked-late, between-unstarted, between-unstopped, Marks, calls-one, taken-another, up-to-5, ReleasesRefused, calls-skipped, history-skipped, calls-third, history-third, RefusesSpaced, taken-at-0, SpacingsAccepted, SpacingsRefused, LastReleases, PlanEntries, waits-between, ends-late, stays-open, ends-a-tick-late, taken-unchosen, ends-behind-a-taking, begins-a-tick-late, lower-chosen, nobody-chosen, copyin-short, copyin-overdue, cancelled-at-its-end, gives-way-unchosen, over-and-open, left-open, left-copying, begins-for-nobody, ends-unchosen, taken-behind-the-begin, late-table, cancelled-late, not-thrown-out, slow-tasks, slow-table, calls-slow, history-slow, ends-copying-out, LaterEnd, calls-unmarked, history-unmarked, BoundsMet}
 use Rattle.guarantees.specs.Intervals.{ended}
 use Rattle.guarantees.specs.Entries.{lower-in, handed-in, marked-by}
 use Rattle.guarantees.specs.Queries.{until}
@@ -398,46 +399,50 @@ refuses-ends-behind-a-taking h = false≢true (h .each-reason (take 11 ends-behi
 
 refuses-lower-chosen : Refuses lower-chosen
 unfolding lower-chosen after plans-table three Sets.member Sets.below Sets.collect Sets.insert Sets.remove Order.better Order.highest-below Order.highest
-refuses-lower-chosen h = other-task 2 3 (λ e. omega arith) (h .each-copyin .each-finish (take 5 lower-chosen) (drop 6 lower-chosen) 3 refl .1)
+refuses-lower-chosen h = other-task 2 3 (λ e. omega arith) (ap copyin-task (h .each-copyin .each-finish (take 5 lower-chosen) (drop 6 lower-chosen) 3 refl .1))
 
 refuses-nobody-chosen : Refuses nobody-chosen
 unfolding nobody-chosen after plans-table three Sets.member Sets.below Sets.collect Sets.insert Sets.remove Order.better Order.highest-below Order.highest
-refuses-nobody-chosen h = no-task 3 (h .each-copyin .each-end (take 11 nobody-chosen) (drop 12 nobody-chosen) 6 refl .2)
+refuses-nobody-chosen h = false≢true (h .each-copyin .each-end (take 11 nobody-chosen) (drop 12 nobody-chosen) 6 refl)
 
 refuses-copyin-short : Refuses copyin-short
 unfolding copyin-short after plans-table three Sets.member Sets.below Sets.collect Sets.insert Sets.remove Order.better Order.highest-below Order.highest
 refuses-copyin-short h =
-    let x : (c : ℕ) × (Task 1 ≡ Task 1) × (Tick 0 ≡ Tick c) × (Tick 1 ≡ Tick (c + 2)) = h .each-copyin .each-finish (take 4 copyin-short) (drop 5 copyin-short) 1 refl in
-    let c : 0 ≡ x .0 = let z : Tick 0 ≡ Tick (x .0) = x .2 in cc in
-    other-tick 1 (x .0 + 2) (λ e. omega arith) (x .3)
+    let x : (u : ℕ) × (Copying 1 2 ≡ Copying 1 u) × (Tick 1 ≡ Tick u) = h .each-copyin .each-finish (take 4 copyin-short) (drop 5 copyin-short) 1 refl in
+    let u : 2 ≡ x .0 = let z : Copying 1 2 ≡ Copying 1 (x .0) = x .1 in cc in
+    other-tick 1 (x .0) (λ e. omega arith) (x .2)
 
 refuses-copyin-overdue : Refuses copyin-overdue
 unfolding copyin-overdue after plans-table three Sets.member Sets.below Sets.collect Sets.insert Sets.remove Order.better Order.highest-below Order.highest
-refuses-copyin-overdue h = let x : 4 ≤ 0 + 2 = h .each-copyin .each-instant (take 3 copyin-overdue) (drop 4 copyin-overdue) 1 4 0 refl refl refl refl in omega arith
+refuses-copyin-overdue h = let x : 4 ≤ 2 = h .each-copyin .each-instant (take 3 copyin-overdue) (drop 4 copyin-overdue) 1 4 2 refl refl in omega arith
 
 refuses-cancelled-at-its-end : Refuses cancelled-at-its-end
 unfolding cancelled-at-its-end after plans-table three Sets.member Sets.below Sets.collect Sets.insert Sets.remove Order.better Order.highest-below Order.highest
-refuses-cancelled-at-its-end h = h .each-copyin .each-giving (take 11 cancelled-at-its-end) (drop 12 cancelled-at-its-end) 2 2 refl .1 refl refl refl
+refuses-cancelled-at-its-end h = h .each-copyin .each-giving (take 11 cancelled-at-its-end) (drop 12 cancelled-at-its-end) 2 refl .1 4 refl refl
 
 refuses-gives-way-unchosen : Refuses gives-way-unchosen
 unfolding gives-way-unchosen after plans-table three Sets.member Sets.below Sets.collect Sets.insert Sets.remove Order.better Order.highest-below Order.highest
-refuses-gives-way-unchosen h = other-task 3 2 (λ e. omega arith) (h .each-copyin .each-giving (take 6 gives-way-unchosen) (drop 7 gives-way-unchosen) 2 0 refl .0)
+refuses-gives-way-unchosen h = other-task 3 2 (λ e. omega arith) (h .each-copyin .each-giving (take 6 gives-way-unchosen) (drop 7 gives-way-unchosen) 2 refl .0)
 
 refuses-over-and-open : Refuses over-and-open
 unfolding over-and-open after plans-table three Sets.member Sets.below Sets.collect Sets.insert Sets.remove Order.better Order.highest-below Order.highest
-refuses-over-and-open h = h .each-copyin .each-open (take 5 over-and-open) (drop 5 over-and-open) 0 refl refl refl refl refl
+refuses-over-and-open h = false≢true (h .each-copyin .each-open (take 5 over-and-open) (drop 5 over-and-open) refl refl refl)
 
 refuses-left-open : Refuses left-open
 unfolding left-open after plans-table three Sets.member Sets.below Sets.collect Sets.insert Sets.remove Order.better Order.highest-below Order.highest
-refuses-left-open h = h .each-copyin .each-open left-open [] 0 refl refl refl refl refl
+refuses-left-open h = false≢true (h .each-copyin .each-open left-open [] refl refl refl)
 
 refuses-left-copying : Refuses left-copying
 unfolding left-copying after plans-table three Sets.member Sets.below Sets.collect Sets.insert Sets.remove Order.better Order.highest-below Order.highest
-refuses-left-copying h = let x : 2 < 0 + 2 = h .each-copyin .each-copying left-copying [] 2 2 0 refl refl refl refl refl refl in omega arith
+refuses-left-copying h = let x : 2 < 2 = h .each-copyin .each-copying left-copying [] 2 2 2 refl refl refl refl in omega arith
 
 refuses-begins-for-nobody : Refuses begins-for-nobody
 unfolding begins-for-nobody after plans-table three Sets.member Sets.below Sets.collect Sets.insert Sets.remove Order.better Order.highest-below Order.highest
-refuses-begins-for-nobody h = h .each-copyin .each-begin (take 26 begins-for-nobody) [] 20 NoTask refl refl
+refuses-begins-for-nobody h = false≢true (h .each-copyin .each-open begins-for-nobody [] refl refl refl)
+
+refuses-ends-unchosen : Refuses ends-unchosen
+unfolding ends-unchosen after
+refuses-ends-unchosen h = let x : 5 ≤ 2 = h .each-step (take 15 ends-unchosen) (drop 16 ends-unchosen) (Takes 1 7 false) refl refl in omega arith
 
 refuses-taken-behind-the-begin : Refuses taken-behind-the-begin
 unfolding taken-behind-the-begin after
@@ -446,11 +451,11 @@ refuses-taken-behind-the-begin h =
 
 refuses-cancelled-late : Holds late-table cancelled-late → ⊥
 unfolding cancelled-late after late-table three Sets.member Sets.below Sets.collect Sets.insert Sets.remove Order.better Order.highest-below Order.highest
-refuses-cancelled-late h = let x : 3 ≤ 1 = h .each-copyin .each-rival (take 5 cancelled-late) (drop 5 cancelled-late) 3 1 0 refl refl refl refl (omega arith) refl in omega arith
+refuses-cancelled-late h = let x : 3 ≤ 1 = h .each-copyin .each-rival (take 5 cancelled-late) (drop 5 cancelled-late) 3 1 refl refl refl (omega arith) refl in omega arith
 
 refuses-not-thrown-out : Refuses not-thrown-out
 unfolding not-thrown-out after plans-table three Sets.member Sets.below Sets.collect Sets.insert Sets.remove Order.better Order.highest-below Order.highest
-refuses-not-thrown-out h = let x : 2 ≤ 1 = h .each-copyin .each-rival not-thrown-out [] 2 1 2 refl refl refl refl (omega arith) refl in omega arith
+refuses-not-thrown-out h = let x : 2 ≤ 1 = h .each-copyin .each-rival not-thrown-out [] 2 1 refl refl refl (omega arith) refl in omega arith
 
 pub wrong-refused : WrongRefused
 unfolding WrongRefused
@@ -511,6 +516,7 @@ wrong-refused = (
   refuses-left-open,
   refuses-left-copying,
   refuses-begins-for-nobody,
+  refuses-ends-unchosen,
   refuses-taken-behind-the-begin,
   refuses-cancelled-late,
   refuses-not-thrown-out,
@@ -532,8 +538,7 @@ slow-made = record { made = refl; at-rest = refl }
 
 refuses-ends-copying-out : Holds slow-table ends-copying-out → ⊥
 unfolding ends-copying-out after
-refuses-ends-copying-out h =
-    let x : (c : ℕ) × (Never ≡ Tick c) × _ = h .each-copyin .each-end (take 18 ends-copying-out) (drop 19 ends-copying-out) 10 refl in not-never (x .0) (x .1)
+refuses-ends-copying-out h = false≢true (h .each-copyin .each-end (take 18 ends-copying-out) (drop 19 ends-copying-out) 10 refl)
 
 pub later-end : LaterEnd
 unfolding LaterEnd

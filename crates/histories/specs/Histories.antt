@@ -646,6 +646,14 @@ begins-for-nobody =
     Comes 10 ∷ Completes 2 10 ∷ Ends 10 ∷
     Comes 20 ∷ Begins 20 NoTask NoTask ∷ []
 
+-- R2: the engine becomes free at 7, where it has to choose after the releases, and the interval ends before them; the next copies in 1
+unfoldable pub ends-unchosen : List Event
+ends-unchosen =
+    Comes 0 ∷ Takes 2 0 false ∷ Begins 0 NoTask NoTask ∷
+    Comes 2 ∷ Finishes 2 ∷ Ends 2 ∷ Begins 2 (Task 2) NoTask ∷ Starts 2 2 ∷
+    Comes 6 ∷ Stops 2 6 ∷ Ends 6 ∷ Begins 6 NoTask (Task 2) ∷
+    Comes 7 ∷ Completes 2 7 ∷ Ends 7 ∷ Takes 1 7 false ∷ Begins 7 NoTask NoTask ∷ []
+
 -- the steps of an instant: 2 is taken behind the begin of the interval, whose engine therefore copies in 3
 unfoldable pub taken-behind-the-begin : List Event
 taken-behind-the-begin =
@@ -733,6 +741,7 @@ WrongRefused =
     × Refuses left-open
     × Refuses left-copying
     × Refuses begins-for-nobody
+    × Refuses ends-unchosen
     × Refuses taken-behind-the-begin
     × (Holds late-table cancelled-late → ⊥)
     × Refuses not-thrown-out
