@@ -14,9 +14,9 @@ use Rattle.rules.specs.Order.{highest, highest-of, outranks}
 use Rattle.rules.specs.Calls.{opened}
 use Rattle.rules.specs.Instant.{resting, processor-at, step-a, without-done, step-b, step-c, step-d, step-e, step-g, cancel, cancel-by, choose, choose-if, close, close-stage, over, settled, copying-out, copyin-at, copyout-at, ended, completed, job-entry, begin, begin-processor, begin-copyout, wanted, processor-task, copyout-task, copyin-task, with-candidates, steps-c-d, steps-c-to-e, at-a, at-b, at-e, at-f, at-g, taken, taken-at, deferred-at, fresh-stage}
 use Rattle.guarantees.specs.History.{Event, Comes, Starts, Stops, Finishes, Completes, Ends, Takes, Defers, GivesWay, Begins, history, happens, processor-events, processor-events-in, finish-events, finish-events-in, completion-events, end-events, take-events, defer-events, given-way, giving-events, giving-events-in, begin-events, start-events}
-use Rattle.guarantees.specs.Queries.{details, comes, finishes, ends, begins, gives-way, after, at-rest, Origin, origin-by}
+use Rattle.guarantees.specs.Queries.{details, comes, finishes, ends, takes, gives-way, defers, after, at-rest, Origin, origin-by}
 use Rattle.guarantees.specs.Pending.{now-by}
-use Rattle.guarantees.specs.Copying.{Choice, no-choice, choice, without-task, ready-by, engine-of, chosen-by, choice-by, has-task, Copies}
+use Rattle.guarantees.specs.Copying.{Choice, no-choice, past-b, choice, without-task, ready-by, engine-of, chosen-by, choice-by, has-task, Copies}
 use Rattle.guarantees.proofs.Proper.{Fair}
 use Rattle.guarantees.proofs.Walk.{walk}
 use Rattle.guarantees.proofs.Cases.{is-unchosen, HeldFor, held-at, copyin-cases, d-fates, d-cases, e-cases}
@@ -24,7 +24,7 @@ use Rattle.guarantees.proofs.Steps.{Sub, settles}
 use Rattle.guarantees.proofs.Frames.{Frame, frame, at-c, b-frame, d-frame, frame-e, frame-g, pending-g, release-b, waiting-b, release-g, waiting-g, table-b, marked-b, c-table, clock-g}
 use Rattle.guarantees.proofs.Highest.{Best, best, highest-same}
 use Rattle.guarantees.proofs.Releases.{taken-not-pending, passed}
-use Rattle.guarantees.proofs.Settled.{Decided, DecidedAt, OpenAt}
+use Rattle.guarantees.proofs.Settled.{Decided, DecidedAt, OpenAt, open-b}
 use Rattle.guarantees.proofs.Events.{by-takes, by-defers, by-starts, tail-of, happens-parts, front-parts, tail-parts}
 use Rattle.guarantees.proofs.Places.{Parted, copyin-bit, processor-bit, copyout-bit, next-bit, outgoing-bit, stage, rests, no-copyout, a-moves, b-outgoing-bit, b-copyout-bit, g-processor, g-copyout, b-moves, to-b, to-e}
 use Rattle.guarantees.proofs.Origins.{OriginIs, taken-origin, deferred-origin, takes-origin, defers-origin, c-origin, opened-origin}
@@ -46,6 +46,10 @@ is-copying (Cancelled n fate) = false
 module _ (pr columns : List ℕ) where
   -- ---- along a history
 
+  -- no interval is open that is over
+  abbrev Open : Choice → Type 0
+  Open x = x .choosing ≡ false → settled (x .engine) ≡ true → x .works ≡ true
+
   -- where an instant is over no interval is open that is over, no copy-in is under way that should have ended, and none has a rival to give way to
   abbrev Rest : Choice → Due → Type 0
   Rest x w =
@@ -63,6 +67,7 @@ module _ (pr columns : List ℕ) where
       × ((n : ℕ) → gives-way e ≡ true → details e .task ≡ Task n → (copyin-task (x .engine) ≡ Task n) × ((u : ℕ) → x .engine ≡ Copying n u → w ≡ Tick u → ⊥))
       × (ends e ≡ true → settled (x .engine) ≡ true)
       × (comes e ≡ true → Rest x w × InTime x (details e .tick))
+      × ((takes e || defers e) ≡ true → Open x)
 
   unfoldable pub Chosen : Choice → Due → List Event → Type 0
   Chosen x w [] = Rest x w
@@ -79,6 +84,18 @@ module _ (pr columns : List ℕ) where
   rest-at [] (e ∷ es) x w q h = h .0 .3 q .0
   rest-at (y ∷ before) rest x w q h = rest-at before rest (choice-by pr columns x y) (now-by w y) q (h .1)
 
+  open-at : (before rest : List Event) (x : Choice) (w : Due) → past-b (after (choice-by pr columns) x before .choosing) rest ≡ true → Chosen x w (before ++ rest)
+      → settled (after (choice-by pr columns) x before .engine) ≡ true → after (choice-by pr columns) x before .works ≡ true
+  unfolding Chosen after
+  open-at [] [] x w q h s = h .0 s
+  open-at [] (e ∷ es) x w q h s = ⊎-elim (λ c. h .0 .3 c .0 .0 s) (λ c. h .0 .4 (c .1) (c .0) s) (either (comes e) (x .choosing) (takes e || defers e) q)
+    where
+      either : (a b c : Bool) → (a || (not b && c)) ≡ true → (a ≡ true) ⊎ ((b ≡ false) × (c ≡ true))
+      either true b c q = inl refl
+      either false true c q = absurd (false≢true q)
+      either false false c q = inr (refl, q)
+  open-at (y ∷ before) rest x w q h s = open-at before rest (choice-by pr columns x y) (now-by w y) q (h .1) s
+
   pub copies : (h : List Event) → Chosen no-choice Never h → Copies pr columns h
   copies h x = record {
     each-finish = λ before after n e. at before (Finishes n) after e .0 n refl refl;
@@ -87,7 +104,7 @@ module _ (pr columns : List ℕ) where
     each-instant = λ before after n t u e. at before (Comes t) after e .3 refl .1 n u;
     each-copying = λ before after n t u e q. rest-at before after no-choice Never q (subst (Chosen no-choice Never) e x) .1 n t u;
     each-end = λ before after t e. at before (Ends t) after e .2 refl;
-    each-open = λ before after e q. rest-at before after no-choice Never q (subst (Chosen no-choice Never) e x) .0;
+    each-open = λ before after e q. open-at before after no-choice Never q (subst (Chosen no-choice Never) e x);
   }
     where
       at : (before : List Event) (e : Event) (es : List Event) → h ≡ before ++ (e ∷ es) → So (choice pr columns before) (after now-by Never before) e
@@ -96,9 +113,13 @@ module _ (pr columns : List ℕ) where
   not-so {ℓ} : {A : Type ℓ} (b : Bool) → b ≡ false → b ≡ true → A
   not-so b e f = absurd (true≢false (sym f ∙ e))
 
-  on : (e : Event) → finishes e ≡ false → gives-way e ≡ false → ends e ≡ false → comes e ≡ false → (x : Choice) (w : Due) (es : List Event) → Chosen (choice-by pr columns x e) (now-by w e) es → Chosen x w (e ∷ es)
+  release-on : (e : Event) → finishes e ≡ false → gives-way e ≡ false → ends e ≡ false → comes e ≡ false → (x : Choice) (w : Due) (es : List Event) → ((takes e || defers e) ≡ true → Open x)
+      → Chosen (choice-by pr columns x e) (now-by w e) es → Chosen x w (e ∷ es)
   unfolding Chosen
-  on e a b c d x w es h = (((λ n y z. not-so (finishes e) a y), (λ n y z. not-so (gives-way e) b y), (λ y. not-so (ends e) c y), (λ y. not-so (comes e) d y)), h)
+  release-on e a b c d x w es o h = (((λ n y z. not-so (finishes e) a y), (λ n y z. not-so (gives-way e) b y), (λ y. not-so (ends e) c y), (λ y. not-so (comes e) d y), o), h)
+
+  on : (e : Event) → finishes e ≡ false → gives-way e ≡ false → ends e ≡ false → comes e ≡ false → (takes e || defers e) ≡ false → (x : Choice) (w : Due) (es : List Event) → Chosen (choice-by pr columns x e) (now-by w e) es → Chosen x w (e ∷ es)
+  on e a b c d f x w es h = release-on e a b c d x w es (λ y. not-so (takes e || defers e) f y) h
 
   -- ---- what agrees with the state
 
@@ -210,23 +231,24 @@ module _ (pr columns : List ℕ) where
       go (Loaded m) a b r = other (Loaded m) refl (r .1)
       go (Cancelled m fate) a b r = other NoneChosen refl (r .1)
 
+  -- behind step b, and where an instant is over
+  open-so : (a b c : Bool) → b ≡ false → c ≡ true → (a && (not b && c)) ≡ false → a ≡ false
+  open-so true b c f g h = rw (f, g) at h
+  open-so false b c f g h = refl
+
+  not-over : (x : Choice) (p : Phase) → Runs x p → Working x p → OpenAt p → settled (x .engine) ≡ true → x .works ≡ true
+  not-over x (Between next outgoing) r v o s = clash (settled (x .engine)) s (ap settled r)
+  not-over x (Within i) r v o s = v ∙ ap not (unrested (i .copyin) (r .0) o)
+    where
+      unrested : (k : CopyIn) → Run x (i .copyout) k → (resting (i .processor) && (not (copying-out (i .copyout)) && settled k)) ≡ false → resting (i .processor) ≡ false
+      unrested Unchosen r o = clash (settled (x .engine)) s (ap settled r)
+      unrested NoneChosen r o = open-so (resting (i .processor)) (copying-out (i .copyout)) true (r .0) refl o
+      unrested (Copying n until) r o = clash (settled (x .engine)) s (ap settled (r .1 .1))
+      unrested (Loaded n) r o = open-so (resting (i .processor)) (copying-out (i .copyout)) true (r .0) refl o
+      unrested (Cancelled n fate) r o = open-so (resting (i .processor)) (copying-out (i .copyout)) true (r .0) refl o
+
   -- what holds where an instant is over
   module _ (x : Choice) (w : Due) (now : ℕ) (at : (t : ℕ) → w ≡ Tick t → t ≡ now) where
-    open-so : (a b c : Bool) → b ≡ false → c ≡ true → (a && (not b && c)) ≡ false → a ≡ false
-    open-so true b c f g h = rw (f, g) at h
-    open-so false b c f g h = refl
-
-    not-over : (p : Phase) → Runs x p → Working x p → OpenAt p → settled (x .engine) ≡ true → x .works ≡ true
-    not-over (Between next outgoing) r v o s = clash (settled (x .engine)) s (ap settled r)
-    not-over (Within i) r v o s = v ∙ ap not (unrested (i .copyin) (r .0) o)
-      where
-        unrested : (k : CopyIn) → Run x (i .copyout) k → (resting (i .processor) && (not (copying-out (i .copyout)) && settled k)) ≡ false → resting (i .processor) ≡ false
-        unrested Unchosen r o = clash (settled (x .engine)) s (ap settled r)
-        unrested NoneChosen r o = open-so (resting (i .processor)) (copying-out (i .copyout)) true (r .0) refl o
-        unrested (Copying n until) r o = clash (settled (x .engine)) s (ap settled (r .1 .1))
-        unrested (Loaded n) r o = open-so (resting (i .processor)) (copying-out (i .copyout)) true (r .0) refl o
-        unrested (Cancelled n fate) r o = open-so (resting (i .processor)) (copying-out (i .copyout)) true (r .0) refl o
-
     no-rival : (p : Phase) → Runs x p → (n k : ℕ) → copyin-task (x .engine) ≡ Task n → k < 32 → member k (x .rivals) ≡ true → getD pr n 0 ≤ getD pr k 0
     no-rival (Between next outgoing) r n k p l m = no-job n (sym (ap copyin-task r) ∙ p)
     no-rival (Within i) r n k p l m = go (i .copyin) (r .0) (r .1)
@@ -244,7 +266,7 @@ module _ (pr columns : List ℕ) where
         go (Cancelled j fate) r a = no-job n (sym (ap copyin-task (r .1)) ∙ p)
 
     rested : (p : Phase) → Times Plain p → Times (λ u. now < u) p → Runs x p → Working x p → OpenAt p → Rest x w
-    rested p a b r v o = (not-over p r v o, (λ n t u e z. subst (λ (j : ℕ). j < u) (sym (at t z)) (under-way (λ u. now < u) x p a b r n u e)), no-rival p r)
+    rested p a b r v o = (not-over x p r v o, (λ n t u e z. subst (λ (j : ℕ). j < u) (sym (at t z)) (under-way (λ u. now < u) x p a b r n u e)), no-rival p r)
 
   module _ (t : ℕ) where
     abbrev T : Choice → List Event → Type 0
@@ -300,7 +322,7 @@ module _ (pr columns : List ℕ) where
             → T x (cond b (Finishes n ∷ []) [] ++ ys)
         go true e k =
             unfold Chosen in (
-              ((λ m y z. at-its-end e m z), (λ n y. absurd (false≢true y)), (λ y. absurd (false≢true y)), (λ y. absurd (false≢true y))),
+              ((λ m y z. at-its-end e m z), (λ n y. absurd (false≢true y)), (λ y. absurd (false≢true y)), (λ y. absurd (false≢true y)), (λ y. absurd (false≢true y))),
               k (choice-by pr columns x (Finishes n)) (record { ready = refl; origins = λ j. refl; works = refl }) refl (r .0, refl) a tt tt,
             )
         go false e k = k x (like x) refl r a tt (e, p)
@@ -322,7 +344,7 @@ module _ (pr columns : List ℕ) where
       where
         go : (z : Bool) → i .copyout ≡ cond z (CopiedOut n) (CopyingOut n start until) → T x (completion-events (cond z (Job (job-entry j n start t)) NoJob) ++ ys)
         go true b =
-            on (Completes n t) refl refl refl refl x (Tick t) ys
+            on (Completes n t) refl refl refl refl refl x (Tick t) ys
             (k (choice-by pr columns x (Completes n t)) (record { ready = refl; origins = λ j. refl; works = refl }) (inl (refl, (a ∙ unchosen x (CopyingOut n start until) c r refl, ap copying-out b, refl, refl))))
         go false b = k x (like x) (inr (e, (rw (a, b) r, rw a w), rw (a, b) u, rw a v))
 
@@ -360,13 +382,13 @@ module _ (pr columns : List ℕ) where
       processor-chosen table x (CopyingIn n until) ys v k = go (eqb until t) k
         where
           go : (b : Bool) → ((y : Choice) → Still x y → y .works ≡ not (resting (cond b (Executing n t (later t (execution-length (table .columns) n))) (CopyingIn n until))) → T y ys) → T x (cond b (Starts n t ∷ []) [] ++ ys)
-          go true k = on (Starts n t) refl refl refl refl x (Tick t) ys (k x (still x) v)
+          go true k = on (Starts n t) refl refl refl refl refl x (Tick t) ys (k x (still x) v)
           go false k = k x (still x) v
       processor-chosen table x (Executing n start until) ys v k = go (eqb until t) k
         where
           go : (b : Bool) → ((y : Choice) → Still x y → y .works ≡ not (resting (cond b (Finished n start) (Executing n start until))) → T y ys) → T x (cond b (Stops n t ∷ []) [] ++ ys)
           go true k =
-              on (Stops n t) refl refl refl refl x (Tick t) ys
+              on (Stops n t) refl refl refl refl refl x (Tick t) ys
               (k (choice-by pr columns x (Stops n t)) (record { ready = refl; origins = λ j. refl; choosing = refl; engine = refl; rivals = refl }) refl)
           go false k = k x (still x) v
 
@@ -409,7 +431,7 @@ module _ (pr columns : List ℕ) where
               → T x (end-events t (Within i) (close-stage s t i b .state .phase) ++ ys)
           go true o k =
               unfold Chosen in (
-                ((λ n y z. absurd (false≢true y)), (λ n y. absurd (false≢true y)), (λ y. ended-settled x i o m .0), (λ y. absurd (false≢true y))),
+                ((λ n y z. absurd (false≢true y)), (λ n y. absurd (false≢true y)), (λ y. ended-settled x i o m .0), (λ y. absurd (false≢true y)), (λ y. absurd (false≢true y))),
                 k (choice-by pr columns x (Ends t)) (λ j. refl) (λ j l. omega (arith, h j l, b-outgoing-bit present tasks j (i .processor) (rests i o), b-copyout-bit present tasks j (i .copyout) (no-copyout i o)))
                     (inr (ended-settled x i o m .1, refl, tt, tt)) (v ∙ ap not (rests i o)),
               )
@@ -440,32 +462,22 @@ module _ (pr columns : List ℕ) where
         picks : x .choosing ≡ true → Picks x → Picks y
         keeps : x .choosing ≡ false → y .engine ≡ x .engine
 
+      kept-open : (x y : Choice) → Keeps x y → Open x → Open y
+      kept-open x y k o c s = let e : x .choosing ≡ false = sym (k .choosing) ∙ c in k .works ∙ o e (sym (ap settled (k .keeps e)) ∙ s)
+
       -- and which rivals they add
       record Grows (taken w : ℕ) (x y : Choice) : Type 0 where
         new : (k : ℕ) → k < 32 → member k (y .rivals) ≡ true → (member k (x .rivals) ≡ true) ⊎ ((member k taken ≡ true) × (member k w ≡ true))
         none-new : x .choosing ≡ true → y .rivals ≡ x .rivals
 
       module _ (taken w : ℕ) where
-        takes-run : (k : ℕ) (x : Choice) (ys : List Event) → T (after (choice-by pr columns) x (take-events k taken w t)) ys → T x (take-events k taken w t ++ ys)
-        unfolding take-events after
-        takes-run zero x ys h = h
-        takes-run (suc k) x ys h =
-            rw (append-assoc (take-events k taken w t) (cond (member k taken) (Takes k t (member k w) ∷ []) []) ys)
-            (takes-run k x (cond (member k taken) (Takes k t (member k w) ∷ []) [] ++ ys)
-            (go (member k taken) (subst (λ (y : Choice). T y ys) (walked (choice-by pr columns) (take-events k taken w t) (cond (member k taken) (Takes k t (member k w) ∷ []) []) x) h)))
-          where
-            go : (b : Bool) → T (after (choice-by pr columns) (after (choice-by pr columns) x (take-events k taken w t)) (cond b (Takes k t (member k w) ∷ []) [])) ys
-                → T (after (choice-by pr columns) x (take-events k taken w t)) (cond b (Takes k t (member k w) ∷ []) [] ++ ys)
-            go true h = on (Takes k t (member k w)) refl refl refl refl (after (choice-by pr columns) x (take-events k taken w t)) (Tick t) ys h
-            go false h = h
-
         abbrev Kept : List Event → Type 0
         Kept es = (x : Choice) → Keeps x (after (choice-by pr columns) x es)
 
-        takes-keep : (x : Choice) → Keeps x (after (choice-by pr columns) x (take-events 32 taken w t))
-        takes-keep x =
-            subst Kept (append-nil (take-events 32 taken w t))
-            (by-takes Kept 32 taken w t (λ n l m es h x. one n es x (h (choice-by pr columns x (Takes n t (member n w))))) [] (λ x. unfold after in record { choosing = refl; works = refl; picks = λ e p. p; keeps = λ e. refl })) x
+        takes-keep : (k : ℕ) (x : Choice) → Keeps x (after (choice-by pr columns) x (take-events k taken w t))
+        takes-keep k x =
+            subst Kept (append-nil (take-events k taken w t))
+            (by-takes Kept k taken w t (λ n l m es h x. one n es x (h (choice-by pr columns x (Takes n t (member n w))))) [] (λ x. unfold after in record { choosing = refl; works = refl; picks = λ e p. p; keeps = λ e. refl })) x
           where
             one : (n : ℕ) (es : List Event) (x : Choice) → Keeps (choice-by pr columns x (Takes n t (member n w))) (after (choice-by pr columns) (choice-by pr columns x (Takes n t (member n w))) es) → Keeps x (after (choice-by pr columns) x (Takes n t (member n w) ∷ es))
             one n es x h = unfold after in record {
@@ -474,6 +486,19 @@ module _ (pr columns : List ℕ) where
               picks = λ e p. h .picks e (ap (λ (b : Bool). cond b (chosen-by pr columns x (Takes n t (member n w))) (x .engine)) e);
               keeps = λ e. h .keeps e ∙ ap (λ (b : Bool). cond b (chosen-by pr columns x (Takes n t (member n w))) (x .engine)) e;
             }
+
+        takes-run : (k : ℕ) (x : Choice) (ys : List Event) → Open x → T (after (choice-by pr columns) x (take-events k taken w t)) ys → T x (take-events k taken w t ++ ys)
+        unfolding take-events after
+        takes-run zero x ys o h = h
+        takes-run (suc k) x ys o h =
+            rw (append-assoc (take-events k taken w t) (cond (member k taken) (Takes k t (member k w) ∷ []) []) ys)
+            (takes-run k x (cond (member k taken) (Takes k t (member k w) ∷ []) [] ++ ys) o
+            (go (member k taken) (subst (λ (y : Choice). T y ys) (walked (choice-by pr columns) (take-events k taken w t) (cond (member k taken) (Takes k t (member k w) ∷ []) []) x) h)))
+          where
+            go : (b : Bool) → T (after (choice-by pr columns) (after (choice-by pr columns) x (take-events k taken w t)) (cond b (Takes k t (member k w) ∷ []) [])) ys
+                → T (after (choice-by pr columns) x (take-events k taken w t)) (cond b (Takes k t (member k w) ∷ []) [] ++ ys)
+            go true h = release-on (Takes k t (member k w)) refl refl refl refl (after (choice-by pr columns) x (take-events k taken w t)) (Tick t) ys (λ y. kept-open x _ (takes-keep k x) o) h
+            go false h = h
 
         abbrev Grown : List Event → Type 0
         Grown es = (x : Choice) → Grows taken w x (after (choice-by pr columns) x es)
@@ -524,30 +549,33 @@ module _ (pr columns : List ℕ) where
         rivals : y .rivals ≡ x .rivals
         works : y .works ≡ x .works
 
+      same-open : (x y : Choice) → Same x y → Open x → Open y
+      same-open x y k o c s = k .works ∙ o (sym (k .choosing) ∙ c) (sym (ap settled (k .engine)) ∙ s)
+
       module _ (deferred : ℕ) where
-        defers-run : (k : ℕ) (x : Choice) (ys : List Event) → T (after (choice-by pr columns) x (defer-events k deferred t)) ys → T x (defer-events k deferred t ++ ys)
+        abbrev Left : List Event → Type 0
+        Left es = (x : Choice) → Same x (after (choice-by pr columns) x es)
+
+        defers-same : (k : ℕ) (x : Choice) → Same x (after (choice-by pr columns) x (defer-events k deferred t))
+        defers-same k x =
+            subst Left (append-nil (defer-events k deferred t))
+            (by-defers Left k deferred t (λ n l m es h x. one n es x (h (choice-by pr columns x (Defers n t)))) [] (λ x. unfold after in record { ready = refl; choosing = refl; engine = refl; rivals = refl; works = refl })) x
+          where
+            one : (n : ℕ) (es : List Event) (x : Choice) → Same (choice-by pr columns x (Defers n t)) (after (choice-by pr columns) (choice-by pr columns x (Defers n t)) es) → Same x (after (choice-by pr columns) x (Defers n t ∷ es))
+            one n es x h = unfold after in record { ready = h .ready; choosing = h .choosing; engine = h .engine; rivals = h .rivals; works = h .works }
+
+        defers-run : (k : ℕ) (x : Choice) (ys : List Event) → Open x → T (after (choice-by pr columns) x (defer-events k deferred t)) ys → T x (defer-events k deferred t ++ ys)
         unfolding defer-events after
-        defers-run zero x ys h = h
-        defers-run (suc k) x ys h =
+        defers-run zero x ys o h = h
+        defers-run (suc k) x ys o h =
             rw (append-assoc (defer-events k deferred t) (cond (member k deferred) (Defers k t ∷ []) []) ys)
-            (defers-run k x (cond (member k deferred) (Defers k t ∷ []) [] ++ ys)
+            (defers-run k x (cond (member k deferred) (Defers k t ∷ []) [] ++ ys) o
             (go (member k deferred) (subst (λ (y : Choice). T y ys) (walked (choice-by pr columns) (defer-events k deferred t) (cond (member k deferred) (Defers k t ∷ []) []) x) h)))
           where
             go : (b : Bool) → T (after (choice-by pr columns) (after (choice-by pr columns) x (defer-events k deferred t)) (cond b (Defers k t ∷ []) [])) ys
                 → T (after (choice-by pr columns) x (defer-events k deferred t)) (cond b (Defers k t ∷ []) [] ++ ys)
-            go true h = on (Defers k t) refl refl refl refl (after (choice-by pr columns) x (defer-events k deferred t)) (Tick t) ys h
+            go true h = release-on (Defers k t) refl refl refl refl (after (choice-by pr columns) x (defer-events k deferred t)) (Tick t) ys (λ y. same-open x _ (defers-same k x) o) h
             go false h = h
-
-        abbrev Left : List Event → Type 0
-        Left es = (x : Choice) → Same x (after (choice-by pr columns) x es)
-
-        defers-same : (x : Choice) → Same x (after (choice-by pr columns) x (defer-events 32 deferred t))
-        defers-same x =
-            subst Left (append-nil (defer-events 32 deferred t))
-            (by-defers Left 32 deferred t (λ n l m es h x. one n es x (h (choice-by pr columns x (Defers n t)))) [] (λ x. unfold after in record { ready = refl; choosing = refl; engine = refl; rivals = refl; works = refl })) x
-          where
-            one : (n : ℕ) (es : List Event) (x : Choice) → Same (choice-by pr columns x (Defers n t)) (after (choice-by pr columns) (choice-by pr columns x (Defers n t)) es) → Same x (after (choice-by pr columns) x (Defers n t ∷ es))
-            one n es x h = unfold after in record { ready = h .ready; choosing = h .choosing; engine = h .engine; rivals = h .rivals; works = h .works }
 
       -- ---- d, e
 
@@ -722,7 +750,7 @@ module _ (pr columns : List ℕ) where
           gone : (n : ℕ) → Early x n → T (choice-by pr columns x (GivesWay n)) ys → T x (GivesWay n ∷ ys)
           gone n f h =
               unfold Chosen in (
-                ((λ n y z. absurd (false≢true y)), (λ m y z. subst (Early x) (number n m z) f), (λ y. absurd (false≢true y)), (λ y. absurd (false≢true y))),
+                ((λ n y z. absurd (false≢true y)), (λ m y z. subst (Early x) (number n m z) f), (λ y. absurd (false≢true y)), (λ y. absurd (false≢true y)), (λ y. absurd (false≢true y))),
                 h,
               )
 
@@ -743,7 +771,7 @@ module _ (pr columns : List ℕ) where
               → T x (end-events t (Within i) (close-stage s t i b .state .phase) ++ ys)
           go true o k =
               unfold Chosen in (
-                ((λ n y z. absurd (false≢true y)), (λ n y. absurd (false≢true y)), (λ y. run-settled x (i .copyout) (i .copyin) (settles i o) (m .0)), (λ y. absurd (false≢true y))),
+                ((λ n y z. absurd (false≢true y)), (λ n y. absurd (false≢true y)), (λ y. run-settled x (i .copyout) (i .copyin) (settles i o) (m .0)), (λ y. absurd (false≢true y)), (λ y. absurd (false≢true y))),
                 k (choice-by pr columns x (Ends t)) (λ j. refl) (λ j l. omega (arith, h j l, b-outgoing-bit present tasks j (i .processor) (rests i o), b-copyout-bit present tasks j (i .copyout) (no-copyout i o)))
                     refl (v ∙ ap not (rests i o)),
               )
@@ -861,7 +889,7 @@ module _ (pr columns : List ℕ) where
 
       begins-on : (x : Choice) (r l : MaybeTask) (ys : List Event) → T (choice-by pr columns x (Begins t r l)) ys → T x (Begins t r l ∷ ys)
       unfolding Chosen
-      begins-on x r l ys h = (((λ n y z. absurd (false≢true y)), (λ n y z. absurd (false≢true y)), (λ y. absurd (false≢true y)), (λ y. absurd (false≢true y))), h)
+      begins-on x r l ys h = (((λ n y z. absurd (false≢true y)), (λ n y z. absurd (false≢true y)), (λ y. absurd (false≢true y)), (λ y. absurd (false≢true y)), (λ y. absurd (false≢true y))), h)
 
       begun-works : (table : Table) (next : Next) → has-task (processor-task (begin-processor table t next)) ≡ not (resting (begin-processor table t next))
       begun-works table NoneNext = refl
@@ -930,7 +958,7 @@ module _ (pr columns : List ℕ) where
 
         held-readies : (k : ℕ) → k < 32 → bit (member k ((held x taken w deferred) .ready)) + spots k (b .phase) ≡ bit (member k (union (b .jobs .pending) taken))
         held-readies k l =
-            ap (λ (r : ℕ). bit (member k r) + spots k (b .phase)) (defers-same deferred (took x taken w) .ready)
+            ap (λ (r : ℕ). bit (member k r) + spots k (b .phase)) (defers-same deferred 32 (took x taken w) .ready)
             ∙ ap (λ (z : Bool). bit z + spots k (b .phase)) (took-ready k l)
             ∙ go (member k taken) (member k (x .ready)) (member k (b .jobs .pending)) (new k l) (readies k l)
             ∙ ap bit (sym (united (b .jobs .pending) taken k l))
@@ -976,10 +1004,10 @@ module _ (pr columns : List ℕ) where
         held-ready v m = c-ready (held x taken w deferred) b c taken (intersection taken (b .marked)) (b .phase) (go (b .phase) refl m)
           where
             same : Same (took x taken w) (held x taken w deferred)
-            same = defers-same deferred (took x taken w)
+            same = defers-same deferred 32 (took x taken w)
 
             keep : Keeps x (took x taken w)
-            keep = takes-keep taken w x
+            keep = takes-keep taken w 32 x
 
             grow : Grows taken w x (took x taken w)
             grow = takes-grow taken w x
@@ -1054,15 +1082,15 @@ module _ (pr columns : List ℕ) where
             let taken : ℕ = taken-at d t set in
             let deferred : ℕ = deferred-at d t set in
             let starts : List Event = start-events t (F .phase) (G .phase) ++ ys in
-            takes-run taken (d .marked) 32 x (tail-of d t set ++ ys)
+            takes-run taken (d .marked) 32 x (tail-of d t set ++ ys) opens
             (rw (tail-parts d t set ys)
-            (defers-run deferred 32 (took x taken (d .marked)) _
+            (defers-run deferred 32 (took x taken (d .marked)) _ (kept-open x _ (takes-keep taken (d .marked) 32 x) opens)
             (gives-chosen (held x taken (d .marked) deferred) B taken deferred _ (ap (λ (y : Table). y .columns) table-c ∙ lengths) (ap (λ (y : Table). y .priority) table-c ∙ priority)
             (held-ready x B taken deferred (d .marked) priority-b parted-b readies origins new (marked-b d t) mode)
             (λ y a runs. f-chosen y (union (B .jobs .pending) taken) (fresh-stage E) (E .phase) _ refl (readies-e y a) runs (a .works ∙ held-works ∙ v ∙ ap not (sym (rest-e d set)))
             (λ u i r m v. g-chosen u F (held-at d t set) (F .phase) starts refl (ap (λ (z : Table). z .priority) table-f ∙ priority) (ap (λ (z : Table). z .columns) table-f ∙ lengths) parted-f
             (subst (λ (p : ℕ). Readies u p (F .phase)) (sym pending-f) r) m (λ j l. ap (λ (o : Origin). o .since) (i j ∙ a .origins j) ∙ held-is j l .since-is ∙ ap (λ (z : Frame). getD (z .release) j 0) (sym frame-f)) v
-            (λ z o r m v. by-starts (T z) t (λ n es q. on (Starts n t) refl refl refl refl z (Tick t) es q) (F .phase) (G .phase) ys
+            (λ z o r m v. by-starts (T z) t (λ n es q. on (Starts n t) refl refl refl refl refl z (Tick t) es q) (F .phase) (G .phase) ys
             (k z (record {
               readies = subst (λ (p : ℕ). Readies z p (G .phase)) (pending-f ∙ sym (pending-g d t set)) r;
               origins = λ j l. rw (release-g d t set, waiting-g d t set) (subst (λ (u : Origin). OriginIs j u (at-c d t set .jobs .release) (at-c d t set .waiting)) (sym (o j ∙ i j ∙ a .origins j)) (held-is j l));
@@ -1070,6 +1098,9 @@ module _ (pr columns : List ℕ) where
               working = v;
             }))))))))
           where
+            opens : Open x
+            opens c = ⊎-elim (λ z. clash (x .choosing) (z .0) c) (λ z. not-over x (at-b d t .state .phase) (z .1) v (open-b d t)) mode
+
             new : (j : ℕ) → j < 32 → member j (taken-at d t set) ≡ true → member j (at-b d t .state .jobs .pending) ≡ false
             new j l m = taken-not-pending (at-b d t .state) (passed d t set) j (unfold taken-at in m)
 
@@ -1086,7 +1117,7 @@ module _ (pr columns : List ℕ) where
             held-is = held-origins x (at-b d t .state) (taken-at d t set) (deferred-at d t set) (d .marked) priority-b parted-b readies origins new
 
             held-works : held x (taken-at d t set) (d .marked) (deferred-at d t set) .works ≡ x .works
-            held-works = defers-same (deferred-at d t set) (took x (taken-at d t set) (d .marked)) .works ∙ takes-keep (taken-at d t set) (d .marked) x .works
+            held-works = defers-same (deferred-at d t set) 32 (took x (taken-at d t set) (d .marked)) .works ∙ takes-keep (taken-at d t set) (d .marked) 32 x .works
 
             readies-e : (y : Choice) → Like (held x (taken-at d t set) (d .marked) (deferred-at d t set)) y → Readies y (union (at-b d t .state .jobs .pending) (taken-at d t set)) (at-e d t set .phase)
             readies-e y a j l =
@@ -1108,7 +1139,7 @@ module _ (pr columns : List ℕ) where
 
         comes-on : (x : Choice) (w : Due) (es : List Event) → Rest x w → InTime x t → T (choice-by pr columns x (Comes t)) es → Chosen x w (Comes t ∷ es)
         unfolding Chosen
-        comes-on x w es r f h = (((λ n y z. absurd (false≢true y)), (λ n y. absurd (false≢true y)), (λ y. absurd (false≢true y)), (λ y. (r, f))), h)
+        comes-on x w es r f h = (((λ n y z. absurd (false≢true y)), (λ n y. absurd (false≢true y)), (λ y. absurd (false≢true y)), (λ y. (r, f)), (λ y. absurd (false≢true y))), h)
 
         -- no instant comes behind the end of a copy-in
         in-time : (x : Choice) (p : Phase) → Times Plain p → Times (λ u. t ≤ u) p → Runs x p → InTime x t

@@ -27,7 +27,6 @@ use Rattle.guarantees.proofs.Remembered.{tells}
 use Rattle.guarantees.proofs.Closings.{all-done}
 use Rattle.guarantees.proofs.Courses.{proceeds, Follows, courses}
 use Rattle.guarantees.proofs.Causes.{cause}
-use Rattle.guarantees.proofs.Reasons.{reasoned}
 use Rattle.guarantees.proofs.Choices.{all-copies}
 use Rattle.guarantees.proofs.Sequence.{each-step}
 use Rattle.guarantees.proofs.Known.{AllKnown, begins-known, completes-known, all-known}
@@ -79,7 +78,6 @@ module _ (table : Table) (marks : ℕ) (fair : Fair table marks) where
     each-start = λ before after n s e. started-so (table .columns) h (executed table marks fair calls) before after n s e;
     each-stop = λ before after n u e. stopped-so (table .columns) h (executed table marks fair calls) before after n u e;
     each-end = λ before after n e x y. ended-so (table .columns) h (executed table marks fair calls) before after n e x y;
-    each-reason = λ before after e x. reasoned table marks fair calls before after e x;
     each-next = λ before after n e l x y. next-in (M table (fair .present)) n h (lasts table marks fair n l calls) (turns table marks fair n l calls) before after e x y;
     each-executed = λ before after n t l e. executed-in (table .columns) n h before after t 0 l Free (copied-out table marks fair calls) e;
     each-copyout = λ before after n b r e. copied-out-so (table .columns) h (copied-out table marks fair calls) before after n b r e;

@@ -42,7 +42,6 @@ pub mod Fates
 pub mod Marks
 pub mod Courses
 pub mod Causes
-pub mod Reasons
 pub mod Choices
 pub mod Alone
 pub mod Sequence

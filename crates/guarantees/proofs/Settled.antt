@@ -6,7 +6,7 @@ use lib.Dec.{eqb}
 use Rattle.sets.specs.Sets.{intersection}
 use Rattle.sets.proofs.Laws.{by-test, empty}
 use Rattle.guarantees.proofs.Highest.{Best}
-use Rattle.rules.specs.Instant.{step-b, step-c, step-d, step-e, step-g, close, over, choose, choose-if, begin, begin-processor, copying-out, wanted, resting, at-b, at-e, at-f, at-g, taken-at, deferred-at, fresh-stage}
+use Rattle.rules.specs.Instant.{step-b, step-c, step-d, step-e, step-g, close, over, choose, choose-if, begin, begin-processor, copying-out, wanted, resting, at-a, at-b, at-e, at-f, at-g, taken-at, deferred-at, fresh-stage}
 use Rattle.rules.specs.Order.{highest-of}
 use Rattle.guarantees.proofs.Cases.{held-at, b-cases, g-cases}
 use Rattle.guarantees.proofs.Steps.{Opened, e-opens, best-of}
@@ -69,6 +69,10 @@ f-decided s t h = b-cases (λ x. DecidedAt (x .phase)) s t (λ i e o. h) (λ nex
 f-open : (s : Stage) (t : ℕ) → OpenAt (step-b s t (s .state .phase) .state .phase)
 unfolding close
 f-open s t = b-cases (λ x. OpenAt (x .phase)) s t (λ i e o. subst OpenAt (sym e) o) (λ next outgoing e. subst OpenAt (sym e) tt) (λ i e o. tt)
+
+pub open-b : (d : State) (t : ℕ) → OpenAt (at-b d t .state .phase)
+unfolding at-b
+open-b d t = f-open (at-a d t) t
 
 -- g
 busy : (q : Processor) (p : Phase) → Opened q p → resting q ≡ false → OpenAt p

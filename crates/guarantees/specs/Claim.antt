@@ -10,7 +10,7 @@ use Rattle.rules.specs.Calls.{opening, refusal}
 use Rattle.guarantees.specs.History.{Event, Starts, Stops, Completes, Ends, Takes, Defers, GivesWay, Begins, history, after-calls, EmptySets}
 use Rattle.guarantees.specs.Pending.{place, OneAtATime, InTime, step-by, step}
 use Rattle.guarantees.specs.Releases.{Spaced}
-use Rattle.guarantees.specs.Intervals.{Proceeds, came, Cause, reason}
+use Rattle.guarantees.specs.Intervals.{Proceeds, came, Cause}
 use Rattle.guarantees.specs.Copying.{Copies}
 use Rattle.guarantees.specs.Entries.{EntriesTell}
 use Rattle.guarantees.specs.Figure.{PlainFigure, Figure}
@@ -87,7 +87,7 @@ pub record Holds (table : Table) (history : List Event) : Type 0 where
   -- one interval is open at a time; each executes the job promoted at the end of the one before it, the highest of the marked ones taken
   -- in that one; else the loaded one
   pub each-interval : Proceeds (table .priority) history
-  -- the engine copies in the highest-priority ready job of when it becomes free, for as long as the table says
+  -- the engine copies in the highest-priority ready job of when it becomes free, for as long as the table says, and then its interval ends
   pub each-copyin : Copies (table .priority) (table .columns) history
   -- and a copy-in gives way only to a marked job taken at that instant, of strictly higher priority
   pub each-cause : (before after : List Event) (n : ℕ) → history ≡ before ++ (GivesWay n ∷ after) → Cause (table .priority) (came before) n
@@ -99,12 +99,10 @@ pub record Holds (table : Table) (history : List Event) : Type 0 where
       let x : Latest = latest none-yet before in let y : Execution = execution not-yet before in
       (s : ℕ) × (x .executed ≡ Task n) × (x .ended ≡ Never) × (y .started ≡ Tick s) × (y .stopped ≡ Never) ×
       (u ≡ s + execution-length (table .columns) n)
-  -- "An interval ends at the later of its two units' ends (R6)": not before its execution has ended
+  -- "An interval ends at the later of its two units' ends (R6)": not before its execution has ended, nor its engine's copies, and not later
+  -- than both (`Copies`)
   pub each-end : (before after : List Event) (n e : ℕ) → history ≡ before ++ (Ends e ∷ after) → latest none-yet before .executed ≡ Task n →
       (s : ℕ) × (execution not-yet before .stopped ≡ Tick s)
-  -- and not later: on the tick on which a phase of it ends or its copy-in gives way, since "a cancelled copy ends at its cancelling"; and
-  -- not behind a job taken then to which none gives way: it ends before the releases, or its engine chooses one of them (R2)
-  pub each-reason : (before after : List Event) (e : ℕ) → history ≡ before ++ (Ends e ∷ after) → reason before ≡ true
   -- and the next one begins on that tick where a job is loaded, promoted or ready: one that was taken and that no interval has executed
   pub each-next : (before after : List Event) (n e : ℕ) → n < 32 → history ≡ before ++ (Ends e ∷ after) → place n before ≡ 1 →
       begin-tick after ≡ Tick e

@@ -1,13 +1,13 @@
 -- What the engine copies in, by a history: whom it chooses where it becomes free, and how long the copy-in lasts. What stands between
 -- quotation marks is document 01.
-use Rattle.guarantees.specs.Types.{_≡_, Bool, true, false, cond, not, _&&_, _||_, List, _∷_, _++_, ℕ, _+_, _≤_, _<_, MaybeTask, NoTask, Task, CopyIn, Unchosen, NoneChosen, Copying, Loaded, Tick}
+use Rattle.guarantees.specs.Types.{_≡_, Bool, true, false, cond, not, _&&_, _||_, List, [], _∷_, _++_, ℕ, _+_, _≤_, _<_, MaybeTask, NoTask, Task, CopyIn, Unchosen, NoneChosen, Copying, Loaded, Tick}
 use lib.ListN.{getD}
 use Rattle.sets.specs.Sets.{member, remove}
 use Rattle.table.specs.Table.{copyin-length}
 use Rattle.rules.specs.Order.{highest}
 use Rattle.rules.specs.Instant.{settled, copyin-task}
 use Rattle.guarantees.specs.History.{Event, Comes, Finishes, Ends, GivesWay}
-use Rattle.guarantees.specs.Queries.{details, comes, finishes, completes, ends, takes, begins, stops, gives-way, after, at-rest, Origin, no-origin, origin-by}
+use Rattle.guarantees.specs.Queries.{details, comes, finishes, completes, ends, takes, begins, stops, gives-way, defers, after, at-rest, Origin, no-origin, origin-by}
 use Rattle.guarantees.specs.Pending.{now}
 use Rattle.guarantees.specs.Intervals.{with-task}
 
@@ -38,6 +38,11 @@ has-task (Task n) = true
 abbrev pub engine-of : (ℕ → CopyIn) → MaybeTask → CopyIn
 engine-of copies NoTask = NoneChosen
 engine-of copies (Task n) = copies n
+
+-- where these events follow, step b is over, or the instant, if the engine is still to choose
+abbrev pub past-b : Bool → List Event → Bool
+past-b choosing [] = true
+past-b choosing (e ∷ es) = comes e || (not choosing && (takes e || defers e))
 
 module _ (priority columns : List ℕ) where
   -- "the highest-priority ready job begins copy-in, or none does (R2)": of those taken by the end of that instant's releases
@@ -83,6 +88,6 @@ module _ (priority columns : List ℕ) where
         → copyin-task (choice before .engine) ≡ Task n → k < 32 → member k (choice before .rivals) ≡ true → getD priority n 0 ≤ getD priority k 0
     -- an interval ends where "its copy-in choice has been made and no copy is under way",
     pub each-end : (before after : List Event) (t : ℕ) → h ≡ before ++ (Ends t ∷ after) → settled (choice before .engine) ≡ true
-    -- and where an instant is over, none is open that should have ended: its processor works
-    pub each-open : (before after : List Event) → h ≡ before ++ after → at-rest after ≡ true → settled (choice before .engine) ≡ true
-        → choice before .works ≡ true
+    -- and it ends there: behind step b none is open of which this is so and whose processor does not work
+    pub each-open : (before after : List Event) → h ≡ before ++ after → past-b (choice before .choosing) after ≡ true
+        → settled (choice before .engine) ≡ true → choice before .works ≡ true

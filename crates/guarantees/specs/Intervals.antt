@@ -6,7 +6,7 @@ use lib.ListN.{getD}
 use Rattle.sets.specs.Sets.{member, insert}
 use Rattle.rules.specs.Order.{highest}
 use Rattle.guarantees.specs.History.{Event, Finishes, Ends, GivesWay, Begins}
-use Rattle.guarantees.specs.Queries.{details, comes, finishes, completes, ends, takes, begins, stops, gives-way, after, Origin, no-origin, origin-by}
+use Rattle.guarantees.specs.Queries.{details, comes, finishes, ends, takes, begins, gives-way, after, Origin, no-origin, origin-by}
 
 -- the last interval to begin, as far as it has gone; `own` are the tasks of the marked jobs that were taken in it, `next` of those
 -- taken since its end; `origins` has of each task when its releases were handed in; `decided` is what the next interval executes
@@ -133,12 +133,3 @@ came = after came-by 0
 -- 6/13: "Only a strictly lower priority is cancelled, thrown out": there is one of strictly higher priority than task n's among them
 abbrev pub Cause : List ℕ → ℕ → ℕ → Type 0
 Cause priority s n = (k : ℕ) × (k < 32) × (member k s ≡ true) × (getD priority k 0 < getD priority n 0)
-
--- ---- Why an interval ends
-
--- whether a phase has ended at the instant that came last, or a copy-in has given way, and no job was taken since
-abbrev pub reason-by : Bool → Event → Bool
-reason-by b e = cond (stops e || (finishes e || (completes e || gives-way e))) true (cond (comes e || takes e) false b)
-
-abbrev pub reason : List Event → Bool
-reason = after reason-by false

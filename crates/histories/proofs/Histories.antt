@@ -29,7 +29,7 @@ use Rattle.guarantees.specs.Queries.{details, is-task, takes, completes, after,
 use Rattle.guarantees.specs.Figure.{greatest, longest-interval, not-lower-in, before-start}
 use Rattle.guarantees.specs.Claim.{Holds, Completed, TakenLater, AllCompleted, Claim, Demand3}
 use Rattle.sets.proofs.Laws.{by-test, same-task}
-use Rattle.histories.specs.Histories.{task, tasks, three, plans-table, spaced-tasks, spaced-table, AcceptsOf, Accepts, Refuses, PlansAccepted, WrongRefused, calls-a, history-a, calls-b, history-b, calls-c, history-c, calls-d, history-d, calls-e, history-e, calls-f, history-f, calls-f′, history-f′, calls-waiting, history-waiting, second-lower, second-finished, thrown-out-runs, third-idle, third-lower, copyout-late, four-intervals, copyout-not-at-once, completion-late, completion-missing, completion-unexecuted, begins-late, no-ticks, not-executed, loaded-late, promoted-early, execution-long, promoted-unmarked, starts-unasked, starts-twice, stops-unstarted, cut-short, one-waits, never-taken, two-wait, waited-unexecuted, before-13, before-17, job-1, Tells, OneEntry, WaitedEntry, taken-late, waits-for-nothing, taken-twice, completed-twice, runs-unreleased, executed-again, another-tick, instants-fall, nobody-promoted, promoted-late, promoted-beside-the-loaded, begins-twice, ends-twice, finishes-twice, gives-way-twice, FigureRefuses, FigureTells, unmarked-in-four, marked-in-three, marked-behind-idle, marked-idles, lasts-long, open-long, completes-behind-two, unmarked-late, marked-late, between-unstarted, between-unstopped, Marks, calls-one, taken-another, up-to-5, ReleasesRefused, calls-skipped, history-skipped, calls-third, history-third, RefusesSpaced, taken-at-0, SpacingsAccepted, SpacingsRefused, LastReleases, PlanEntries, waits-between, ends-late, stays-open, ends-a-tick-late, taken-unchosen, ends-behind-a-taking, begins-a-tick-late, lower-chosen, nobody-chosen, copyin-short, copyin-overdue, cancelled-at-its-end, gives-way-unchosen, over-and-open, left-open, left-copying, begins-for-nobody, ends-unchosen, taken-behind-the-begin, late-table, cancelled-late, not-thrown-out, slow-tasks, slow-table, calls-slow, history-slow, ends-copying-out, LaterEnd, calls-unmarked, history-unmarked, BoundsMet}
+use Rattle.histories.specs.Histories.{task, tasks, three, plans-table, spaced-tasks, spaced-table, AcceptsOf, Accepts, Refuses, PlansAccepted, WrongRefused, calls-a, history-a, calls-b, history-b, calls-c, history-c, calls-d, history-d, calls-e, history-e, calls-f, history-f, calls-f′, history-f′, calls-waiting, history-waiting, second-lower, second-finished, thrown-out-runs, third-idle, third-lower, copyout-late, four-intervals, copyout-not-at-once, completion-late, completion-missing, completion-unexecuted, begins-late, no-ticks, not-executed, loaded-late, promoted-early, execution-long, promoted-unmarked, starts-unasked, starts-twice, stops-unstarted, cut-short, one-waits, never-taken, two-wait, waited-unexecuted, before-13, before-17, job-1, Tells, OneEntry, WaitedEntry, taken-late, waits-for-nothing, taken-twice, completed-twice, runs-unreleased, executed-again, another-tick, instants-fall, nobody-promoted, promoted-late, promoted-beside-the-loaded, begins-twice, ends-twice, finishes-twice, gives-way-twice, FigureRefuses, FigureTells, unmarked-in-four, marked-in-three, marked-behind-idle, marked-idles, lasts-long, open-long, completes-behind-two, unmarked-late, marked-late, between-unstarted, between-unstopped, Marks, calls-one, taken-another, up-to-5, ReleasesRefused, calls-skipped, history-skipped, calls-third, history-third, RefusesSpaced, taken-at-0, SpacingsAccepted, SpacingsRefused, LastReleases, PlanEntries, waits-between, ends-late, stays-open, ends-a-tick-late, taken-unchosen, ends-behind-a-taking, begins-a-tick-late, lower-chosen, nobody-chosen, copyin-short, copyin-overdue, cancelled-at-its-end, gives-way-unchosen, over-and-open, left-open, left-copying, begins-for-nobody, ends-unchosen, open-for-a-release, open-for-a-deferral, taken-behind-the-begin, late-table, cancelled-late, not-thrown-out, slow-tasks, slow-table, calls-slow, history-slow, ends-copying-out, LaterEnd, calls-unmarked, history-unmarked, BoundsMet}
 use Rattle.guarantees.specs.Intervals.{ended}
 use Rattle.guarantees.specs.Entries.{lower-in, handed-in, marked-by}
 use Rattle.guarantees.specs.Queries.{until}
@@ -382,20 +382,20 @@ refuses-stays-open h =
     omega (arith, x, longest-is)
 
 refuses-ends-a-tick-late : Refuses ends-a-tick-late
-unfolding ends-a-tick-late after
-refuses-ends-a-tick-late h = false≢true (h .each-reason (take 6 ends-a-tick-late) (drop 7 ends-a-tick-late) 3 refl)
+unfolding ends-a-tick-late after plans-table three Sets.member Sets.below Sets.collect Sets.insert Sets.remove Order.better Order.highest-below Order.highest
+refuses-ends-a-tick-late h = false≢true (h .each-copyin .each-open (take 5 ends-a-tick-late) (drop 5 ends-a-tick-late) refl refl refl)
 
 refuses-taken-unchosen : Refuses taken-unchosen
-unfolding taken-unchosen after
-refuses-taken-unchosen h = false≢true (h .each-reason (take 15 taken-unchosen) (drop 16 taken-unchosen) 7 refl)
+unfolding taken-unchosen after plans-table three Sets.member Sets.below Sets.collect Sets.insert Sets.remove Order.better Order.highest-below Order.highest
+refuses-taken-unchosen h = false≢true (h .each-copyin .each-end (take 15 taken-unchosen) (drop 16 taken-unchosen) 7 refl)
 
 refuses-begins-a-tick-late : Refuses begins-a-tick-late
 unfolding begins-a-tick-late first after
 refuses-begins-a-tick-late h = other-tick 3 2 (λ e. omega arith) (h .each-next (take 5 begins-a-tick-late) (drop 6 begins-a-tick-late) 1 2 (omega arith) refl refl)
 
 refuses-ends-behind-a-taking : Refuses ends-behind-a-taking
-unfolding ends-behind-a-taking after
-refuses-ends-behind-a-taking h = false≢true (h .each-reason (take 11 ends-behind-a-taking) (drop 12 ends-behind-a-taking) 5 refl)
+unfolding ends-behind-a-taking after plans-table three Sets.member Sets.below Sets.collect Sets.insert Sets.remove Order.better Order.highest-below Order.highest
+refuses-ends-behind-a-taking h = false≢true (h .each-copyin .each-open (take 10 ends-behind-a-taking) (drop 10 ends-behind-a-taking) refl refl refl)
 
 refuses-lower-chosen : Refuses lower-chosen
 unfolding lower-chosen after plans-table three Sets.member Sets.below Sets.collect Sets.insert Sets.remove Order.better Order.highest-below Order.highest
@@ -443,6 +443,14 @@ refuses-begins-for-nobody h = false≢true (h .each-copyin .each-open begins-for
 refuses-ends-unchosen : Refuses ends-unchosen
 unfolding ends-unchosen after
 refuses-ends-unchosen h = let x : 5 ≤ 2 = h .each-step (take 15 ends-unchosen) (drop 16 ends-unchosen) (Takes 1 7 false) refl refl in omega arith
+
+refuses-open-for-a-release : Refuses open-for-a-release
+unfolding open-for-a-release after plans-table three Sets.member Sets.below Sets.collect Sets.insert Sets.remove Order.better Order.highest-below Order.highest
+refuses-open-for-a-release h = false≢true (h .each-copyin .each-open (take 5 open-for-a-release) (drop 5 open-for-a-release) refl refl refl)
+
+refuses-open-for-a-deferral : Refuses open-for-a-deferral
+unfolding open-for-a-deferral after plans-table three Sets.member Sets.below Sets.collect Sets.insert Sets.remove Order.better Order.highest-below Order.highest
+refuses-open-for-a-deferral h = false≢true (h .each-copyin .each-open (take 10 open-for-a-deferral) (drop 10 open-for-a-deferral) refl refl refl)
 
 refuses-taken-behind-the-begin : Refuses taken-behind-the-begin
 unfolding taken-behind-the-begin after
@@ -517,6 +525,8 @@ wrong-refused = (
   refuses-left-copying,
   refuses-begins-for-nobody,
   refuses-ends-unchosen,
+  refuses-open-for-a-release,
+  refuses-open-for-a-deferral,
   refuses-taken-behind-the-begin,
   refuses-cancelled-late,
   refuses-not-thrown-out,

@@ -654,6 +654,19 @@ ends-unchosen =
     Comes 6 ∷ Stops 2 6 ∷ Ends 6 ∷ Begins 6 NoTask (Task 2) ∷
     Comes 7 ∷ Completes 2 7 ∷ Ends 7 ∷ Takes 1 7 false ∷ Begins 7 NoTask NoTask ∷ []
 
+-- R6: plan E, where the first interval is over at 2 and stays open for the release of then, to which the finished copy gives way
+unfoldable pub open-for-a-release : List Event
+open-for-a-release =
+    Comes 0 ∷ Takes 2 0 false ∷ Begins 0 NoTask NoTask ∷
+    Comes 2 ∷ Finishes 2 ∷ Takes 1 2 true ∷ GivesWay 2 ∷ Ends 2 ∷ Begins 2 (Task 1) NoTask ∷ []
+
+-- plan F, where the second is over at 5 and ends behind the release that waits from then on
+unfoldable pub open-for-a-deferral : List Event
+open-for-a-deferral =
+    Comes 0 ∷ Takes 1 0 true ∷ Begins 0 NoTask NoTask ∷
+    Comes 2 ∷ Finishes 1 ∷ Ends 2 ∷ Begins 2 (Task 1) NoTask ∷ Starts 1 2 ∷
+    Comes 5 ∷ Stops 1 5 ∷ Defers 1 5 ∷ Ends 5 ∷ Begins 5 NoTask (Task 1) ∷ []
+
 -- the steps of an instant: 2 is taken behind the begin of the interval, whose engine therefore copies in 3
 unfoldable pub taken-behind-the-begin : List Event
 taken-behind-the-begin =
@@ -742,6 +755,8 @@ WrongRefused =
     × Refuses left-copying
     × Refuses begins-for-nobody
     × Refuses ends-unchosen
+    × Refuses open-for-a-release
+    × Refuses open-for-a-deferral
     × Refuses taken-behind-the-begin
     × (Holds late-table cancelled-late → ⊥)
     × Refuses not-thrown-out
