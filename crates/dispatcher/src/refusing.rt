@@ -72,11 +72,12 @@ pub fn marks_refusal(set: u32, mark: u8, sets: &at::Sets) -> u8
     if sets::difference(set, sets[at::PRESENT]) != 0 {
         return 16;
     }
+    let busy = sets::union(sets[at::PENDING], sets[at::WAITING]);
+    let named_busy = sets::intersection(set, busy);
     if 1 < mark {
         return 6;
     }
-    let busy = sets::union(sets[at::PENDING], sets[at::WAITING]);
-    if sets::intersection(set, busy) != 0 {
+    if named_busy != 0 {
         return 17;
     }
     0

@@ -50,12 +50,13 @@ returns-4 c =
 
 returns-5 : tie.Need-returns-5
 returns-5 c =
-    let e = c .before .before .enquire in
-    rw (c .before .before .before .before .entry3 .given .1)
+    let kept = c .enquired .ensures .0 in
+    let told = c .enquired .ensures .1 in
+    rw (c .before .before .before .entry3 .given .1)
     (record {
-      reply-is = ap (reply _) (c .enquiry-lines .ensures .whole ∙ ap (λ (x : Enquiry). text-of (enquiry-lines (x .step .answer) (x .ticket))) (e .ensures .shows));
-      fits = c .enquiry-lines .ensures .fits;
-      untouched = λ u. refl;
+      reply-is = ap₂ reply (ap ticketed-of kept) (told .whole ∙ ap (λ (x : Enquiry). text-of (enquiry-lines (x .step .answer) (x .ticket))) (c .before .enquire .ensures .shows));
+      fits = told .fits;
+      untouched = λ u. kept;
     })
 
 returns-6 : tie.Need-returns-6
