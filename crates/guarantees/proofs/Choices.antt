@@ -55,7 +55,7 @@ module _ (pr columns : List ℕ) where
   Rest x w =
       (settled (x .engine) ≡ true → x .works ≡ true)
       × ((n t u : ℕ) → x .engine ≡ Copying n u → w ≡ Tick t → t < u)
-      × ((n k : ℕ) → copyin-task (x .engine) ≡ Task n → k < 32 → member k (x .rivals) ≡ true → getD pr n 0 ≤ getD pr k 0)
+      × ((n k : ℕ) → k < 32 → copyin-task (x .engine) ≡ Task n → member k (x .rivals) ≡ true → getD pr n 0 ≤ getD pr k 0)
 
   -- and none comes behind its end
   abbrev InTime : Choice → ℕ → Type 0
@@ -249,9 +249,9 @@ module _ (pr columns : List ℕ) where
 
   -- what holds where an instant is over
   module _ (x : Choice) (w : Due) (now : ℕ) (at : (t : ℕ) → w ≡ Tick t → t ≡ now) where
-    no-rival : (p : Phase) → Runs x p → (n k : ℕ) → copyin-task (x .engine) ≡ Task n → k < 32 → member k (x .rivals) ≡ true → getD pr n 0 ≤ getD pr k 0
-    no-rival (Between next outgoing) r n k p l m = no-job n (sym (ap copyin-task r) ∙ p)
-    no-rival (Within i) r n k p l m = go (i .copyin) (r .0) (r .1)
+    no-rival : (p : Phase) → Runs x p → (n k : ℕ) → k < 32 → copyin-task (x .engine) ≡ Task n → member k (x .rivals) ≡ true → getD pr n 0 ≤ getD pr k 0
+    no-rival (Between next outgoing) r n k l p m = no-job n (sym (ap copyin-task r) ∙ p)
+    no-rival (Within i) r n k l p m = go (i .copyin) (r .0) (r .1)
       where
         leads : (j : ℕ) → copyin-task (x .engine) ≡ Task j → Leads x 0 j → getD pr n 0 ≤ getD pr k 0
         leads j q a =

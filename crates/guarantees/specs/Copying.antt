@@ -75,7 +75,8 @@ module _ (priority columns : List ℕ) where
     pub each-finish : (before after : List Event) (n : ℕ) → h ≡ before ++ (Finishes n ∷ after)
         → (u : ℕ) × (choice before .engine ≡ Copying n u) × (now before ≡ Tick u)
     -- behind which no instant comes, and none is over with it under way
-    pub each-instant : (before after : List Event) (n t u : ℕ) → h ≡ before ++ (Comes t ∷ after) → choice before .engine ≡ Copying n u → t ≤ u
+    pub each-instant : (before after : List Event) (n t u : ℕ) → h ≡ before ++ (Comes t ∷ after)
+        → choice before .engine ≡ Copying n u → t ≤ u
     pub each-copying : (before after : List Event) (n t u : ℕ) → h ≡ before ++ after → at-rest after ≡ true
         → choice before .engine ≡ Copying n u → now before ≡ Tick t → t < u
     -- no other gives way, and one under way does so before its end
@@ -84,8 +85,8 @@ module _ (priority columns : List ℕ) where
     -- "If a marked release was taken whose priority is higher than that of a copy-in under way on the engine, this copy-in is cancelled";
     -- 2/13: it "also throws out a lower-priority copy-in that the engine has already finished in the open interval": where an instant is
     -- over, none that has not given way has such a rival
-    pub each-rival : (before after : List Event) (n k : ℕ) → h ≡ before ++ after → at-rest after ≡ true
-        → copyin-task (choice before .engine) ≡ Task n → k < 32 → member k (choice before .rivals) ≡ true → getD priority n 0 ≤ getD priority k 0
+    pub each-rival : (before after : List Event) (n k : ℕ) → h ≡ before ++ after → at-rest after ≡ true → k < 32
+        → copyin-task (choice before .engine) ≡ Task n → member k (choice before .rivals) ≡ true → getD priority n 0 ≤ getD priority k 0
     -- an interval ends where "its copy-in choice has been made and no copy is under way",
     pub each-end : (before after : List Event) (t : ℕ) → h ≡ before ++ (Ends t ∷ after) → settled (choice before .engine) ≡ true
     -- and it ends there: behind step b none is open of which this is so and whose processor does not work

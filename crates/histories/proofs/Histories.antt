@@ -459,11 +459,11 @@ refuses-taken-behind-the-begin h =
 
 refuses-cancelled-late : Holds late-table cancelled-late → ⊥
 unfolding cancelled-late after late-table three Sets.member Sets.below Sets.collect Sets.insert Sets.remove Order.better Order.highest-below Order.highest
-refuses-cancelled-late h = let x : 3 ≤ 1 = h .each-copyin .each-rival (take 5 cancelled-late) (drop 5 cancelled-late) 3 1 refl refl refl (omega arith) refl in omega arith
+refuses-cancelled-late h = let x : 3 ≤ 1 = h .each-copyin .each-rival (take 5 cancelled-late) (drop 5 cancelled-late) 3 1 refl refl (omega arith) refl refl in omega arith
 
 refuses-not-thrown-out : Refuses not-thrown-out
 unfolding not-thrown-out after plans-table three Sets.member Sets.below Sets.collect Sets.insert Sets.remove Order.better Order.highest-below Order.highest
-refuses-not-thrown-out h = let x : 2 ≤ 1 = h .each-copyin .each-rival not-thrown-out [] 2 1 refl refl refl (omega arith) refl in omega arith
+refuses-not-thrown-out h = let x : 2 ≤ 1 = h .each-copyin .each-rival not-thrown-out [] 2 1 refl refl (omega arith) refl refl in omega arith
 
 pub wrong-refused : WrongRefused
 unfolding WrongRefused
