@@ -247,6 +247,7 @@ def main(arguments=None):
     parser = argparse.ArgumentParser(description="Measure whether the wrong programs of the must-fail edits are wrong.")
     parser.add_argument("names", nargs="*", metavar="NAME", help="a crate, or an edit as CRATE/LABEL; all if there is none")
     parser.add_argument("--gate", action="store_true", help="those that the gate tries, each until a program shows that it is wrong")
+    parser.add_argument("--briefly", action="store_true", help="each until a program shows that it is wrong")
     parser.add_argument("--count", type=int, default=300, help="how many random and how many damaged inputs each program gets")
     chosen = parser.parse_args(arguments)
     found = list(edits.find(ROOT / "crates", folders=("must-fail",))) if chosen.gate else chosen_edits(chosen.names)
@@ -256,7 +257,7 @@ def main(arguments=None):
         try:
             workshop = Workshop(ROOT, pathlib.Path(folder) / "sources")
             bench = Bench(pathlib.Path(folder) / "runs", chosen.count)
-            good = as_they_stand(workshop, bench) and measure_all(found, workshop, bench, chosen.gate)
+            good = as_they_stand(workshop, bench) and measure_all(found, workshop, bench, chosen.gate or chosen.briefly)
         except NotBuilt as bad:
             sys.exit(f"the programs cannot be built: {bad}")
     return 0 if good else 1
