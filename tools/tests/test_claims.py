@@ -81,9 +81,9 @@ class Runs(unittest.TestCase):
         self.assertFalse(self.changed("specs/Pending.antt", "Tick u → taking n after ≡ Tick c", "Tick u → taking n after ≡ Tick u"))
         self.assertFalse(self.changed("specs/Intervals.antt", "(1 - x .half)", "(x .half)"))
         self.assertFalse(self.changed("specs/Releases.antt", ".set-waiting + skipped", ".later + skipped"))
-        self.assertFalse(self.changed("specs/Intervals.antt", "(finishes e || (completes e || gives-way e))", "(completes e || gives-way e)"))
+        self.assertFalse(self.changed("specs/Copying.antt", "false (completes e || x .choosing)", "false (x .choosing)"))
         self.assertFalse(self.changed("specs/Claim.antt", "place n before ≡ 1 →", "place n before ≡ 0 →"))
-        self.assertFalse(self.changed("specs/Copying.antt", "(c + copyin-length columns n))", "(c + copyin-length columns n + 1))"))
+        self.assertFalse(self.changed("specs/Copying.antt", "(details e .tick + copyin-length columns n)", "(details e .tick + copyin-length columns n + 1)"))
         self.assertFalse(self.changed("specs/Copying.antt", "(completes e || (takes e && x .choosing))", "(completes e)"))
 
     def test_a_history_that_an_event_is_missing_of(self):
