@@ -1,5 +1,5 @@
 -- The events of an instant come in the order of its steps.
-use Rattle.guarantees.specs.Types.{_≡_, refl, sym, subst, Bool, true, false, cond, true≢false, _⊎_, ⊎-elim, List, [], _∷_, _++_, ℕ, _≤_, Table, Processor, Idle, CopyingIn, Executing, Finished, Phase, Between, Within, State, Call}
+use Rattle.guarantees.specs.Types.{_≡_, refl, sym, subst, Bool, true, false, cond, true≢false, _⊎_, ⊎-elim, List, [], _∷_, _++_, ℕ, _≤_, Table, Processor, Idle, CopyingIn, Executing, Finished, Phase, Between, Within, State, Done, NoJob, Job, Call}
 use native.Mathlib.Omega.{arith}
 use borrow.Author.Tests.{leb-true}
 use lib.Dec.{leb}
@@ -10,7 +10,7 @@ use Rattle.guarantees.specs.Queries.{comes, after}
 use Rattle.guarantees.specs.Pending.{step-by, step}
 use Rattle.guarantees.proofs.Walk.{walk}
 use Rattle.guarantees.proofs.Alone.{AloneIn, alone-after, completes-or-ends}
-use Rattle.guarantees.proofs.Events.{by-processor-at, by-finishes, by-completes, by-ends, by-takes, by-defers, by-gives, tail-of, happens-parts, front-parts, tail-parts}
+use Rattle.guarantees.proofs.Events.{by-processor-at, by-finishes, by-ends, by-takes, by-defers, by-gives, tail-of, happens-parts, front-parts, tail-parts}
 
 -- ---- along a history
 
@@ -71,9 +71,10 @@ module _ (t : ℕ) where
   unfolding Ordered
   finishes-ordered n es h = ((λ e. omega arith), h)
 
-  completes-ordered : (n u : ℕ) (es : List Event) → Upto 2 es → Upto 2 (Completes n u ∷ es)
-  unfolding Ordered
-  completes-ordered n u es h s l = ((λ e. l), h 2 (omega arith))
+  completes-ordered : (o : Done) (es : List Event) → Upto 2 es → Ordered 0 (completion-events o ++ es)
+  unfolding completion-events Ordered
+  completes-ordered NoJob es h = h 0 (omega arith)
+  completes-ordered (Job e) es h = ((λ e. omega arith), h 2 (omega arith))
 
   b-ordered : (p q : Phase) (es : List Event) → Upto 2 es → Ordered 0 (end-events t p q ++ es)
   unfolding end-events Ordered
@@ -86,7 +87,7 @@ module _ (t : ℕ) where
   a-b-ordered d es h k =
       ⊎-elim
       (λ e. subst (λ (xs : List Event). Ordered 0 (xs ++ (end-events t (at-a d t .state .phase) (at-b d t .state .phase) ++ es))) (sym e) (b-ordered (at-a d t .state .phase) (at-b d t .state .phase) es k))
-      (λ e. subst (λ (xs : List Event). Ordered 0 (completion-events (at-a d t .done) ++ (xs ++ es))) (sym e) (by-completes (Upto 2) completes-ordered (at-a d t .done) es k 0 (omega arith)))
+      (λ e. subst (λ (xs : List Event). Ordered 0 (completion-events (at-a d t .done) ++ (xs ++ es))) (sym e) (completes-ordered (at-a d t .done) es k))
       (completes-or-ends t d h)
 
   -- ---- an instant

@@ -63,7 +63,7 @@ step-by s e =
     cond (begins e) 6
     (cond (ends e) (cond (leb s 1) 1 5)
     (cond (gives-way e) 3
-    (cond (takes e || (defers e || completes e)) 2
+    (cond (takes e || (defers e || (completes e && eqb s 0))) 2
     (cond (starts e && eqb s 6) 6 0))))
 
 -- the last one

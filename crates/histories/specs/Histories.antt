@@ -667,6 +667,14 @@ open-for-a-deferral =
     Comes 2 ∷ Finishes 1 ∷ Ends 2 ∷ Begins 2 (Task 1) NoTask ∷ Starts 1 2 ∷
     Comes 5 ∷ Stops 1 5 ∷ Defers 1 5 ∷ Ends 5 ∷ Begins 5 NoTask (Task 1) ∷ []
 
+-- 4/13: plan F with a release at 6 that waits for the completion of then, which comes before it
+unfoldable pub waits-before-the-completion : List Event
+waits-before-the-completion =
+    Comes 0 ∷ Takes 1 0 true ∷ Begins 0 NoTask NoTask ∷
+    Comes 2 ∷ Finishes 1 ∷ Ends 2 ∷ Begins 2 (Task 1) NoTask ∷ Starts 1 2 ∷
+    Comes 5 ∷ Stops 1 5 ∷ Ends 5 ∷ Begins 5 NoTask (Task 1) ∷
+    Comes 6 ∷ Defers 1 6 ∷ Completes 1 6 ∷ Takes 1 6 true ∷ []
+
 -- the steps of an instant: 2 is taken behind the begin of the interval, whose engine therefore copies in 3
 unfoldable pub taken-behind-the-begin : List Event
 taken-behind-the-begin =
@@ -757,6 +765,7 @@ WrongRefused =
     × Refuses ends-unchosen
     × Refuses open-for-a-release
     × Refuses open-for-a-deferral
+    × Refuses waits-before-the-completion
     × Refuses taken-behind-the-begin
     × (Holds late-table cancelled-late → ⊥)
     × Refuses not-thrown-out
