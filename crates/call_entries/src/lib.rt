@@ -1,4 +1,6 @@
 // The call entries of a session, answered with their lines. How they are laid out, `entries` says.
+#![tactic(auto)]
+
 ghost use Rattle.std.specs.Prelude.{◌≡◌};
 ghost use Rattle.lines.specs.Lines.{enquiry_lines};
 ghost use Rattle.lines.specs.Text.{Prints};
@@ -10,7 +12,7 @@ use entries::CallEntry;
 use lines::Text;
 
 // The dispatcher after a call, and the call's lines.
-#[derive(Drop)]
+#[derive(Clone, Copy)]
 pub struct Answered {
     pub state: Dispatcher,
     pub text: Text,

@@ -1,4 +1,6 @@
 // The dispatcher of one core by instants: opened from task entries, then called with releases and marks.
+#![tactic(auto)]
+
 mod answering;
 mod enquiring;
 mod instant;
@@ -21,7 +23,7 @@ pub use ticket::raised;
 // The state of the rules as it is kept: three arrays of numbers, whose places `rules::at` names; of each task the priority and the lengths;
 // and of each task's job the release time and the count of blocked intervals, and the time of its waiting release. C and Rust keep
 // these very arrays. 9/13: beside the state stands the ticket, the number of served commits and mark calls so far, modulo 2 to the 64th.
-#[derive(Drop)]
+#[derive(Clone, Copy)]
 pub struct Dispatcher {
     pub ticket: u64,
     pub times: at::Times,
@@ -34,26 +36,26 @@ pub struct Dispatcher {
     pub blocked: [u8; 32],
 }
 
-#[derive(Drop)]
+#[derive(Clone, Copy)]
 pub struct Step {
     pub state: Dispatcher,
     pub answer: Answer,
 }
 
 // What an enquiry shows: what the instant would answer and leave, and the ticket by which it is committed.
-#[derive(Drop)]
+#[derive(Clone, Copy)]
 pub struct Enquiry {
     pub step: Step,
     pub ticket: u64,
 }
 
-#[derive(Drop)]
+#[derive(Clone, Copy)]
 pub struct MarkStep {
     pub state: Dispatcher,
     pub answer: MarkAnswer,
 }
 
-#[derive(Drop)]
+#[derive(Clone, Copy)]
 pub struct Opening {
     pub state: Dispatcher,
     pub refusal: Refusal,

@@ -1,4 +1,6 @@
 // The wire format: the entries of an input and of a record, written and taken apart, and the calls of a session, taken apart.
+#![tactic(auto)]
+
 mod calls;
 pub mod limits;
 
@@ -89,14 +91,14 @@ const INTERVAL_FATE: usize = 22;
 const INTERVAL_PROMOTED: usize = 23;
 
 // A task's number, or none.
-#[derive(Drop)]
+#[derive(Clone, Copy)]
 pub enum MaybeTask {
     NoTask,
     Task(u8),
 }
 
 // Kind 1: a task's number, priority and mark, and the lengths of its copy-in (L), execution (C) and copy-out (U).
-#[derive(Drop)]
+#[derive(Clone, Copy)]
 pub struct TaskParameters {
     pub number: u8,
     pub priority: u8,
@@ -107,21 +109,21 @@ pub struct TaskParameters {
 }
 
 // Kind 2: a release of a task.
-#[derive(Drop)]
+#[derive(Clone, Copy)]
 pub struct Release {
     pub task: u8,
     pub time: u64,
 }
 
 // Kind 3: the spacing of a task's releases, in ticks.
-#[derive(Drop)]
+#[derive(Clone, Copy)]
 pub struct Spacing {
     pub task: u8,
     pub ticks: u32,
 }
 
 // An entry of the input taken apart, or the number by which it is refused.
-#[derive(Drop)]
+#[derive(Clone, Copy)]
 pub enum Entry {
     Malformed(u8),
     TaskEntry(TaskParameters),
@@ -130,7 +132,7 @@ pub enum Entry {
 }
 
 // Kind 16: a job done.
-#[derive(Drop)]
+#[derive(Clone, Copy)]
 pub struct JobEntry {
     pub task: u8,
     pub release: u64,
@@ -140,7 +142,7 @@ pub struct JobEntry {
 }
 
 // Kind 17: an interval; `task` is the processor's.
-#[derive(Drop)]
+#[derive(Clone, Copy)]
 pub struct IntervalEntry {
     pub begin: u64,
     pub end: u64,
@@ -154,7 +156,7 @@ pub struct IntervalEntry {
 }
 
 // An entry of a record taken apart, or the number by which it is refused. Kind 18 is a release that was skipped.
-#[derive(Drop)]
+#[derive(Clone, Copy)]
 pub enum RecordEntry {
     MalformedRecord(u8),
     JobDone(JobEntry),
@@ -164,7 +166,7 @@ pub enum RecordEntry {
 
 // Kind 64 is a call of an instant, with its time and the set of tasks released then, and kind 65 a mark call, with its task and mark;
 // 9/13: kind 66 enquires what an instant would do, and kind 67 commits one, with a ticket; 10/13: kind 68 marks a set of tasks.
-#[derive(Drop)]
+#[derive(Clone, Copy)]
 pub enum CallEntry {
     CutShort,
     OtherKind,

@@ -1,4 +1,6 @@
 // The record function for programs in C and Rust: slices and numbers, and no type of this repository.
+#![tactic(auto)]
+
 ghost use Rattle.std.specs.Prelude.{◌≡◌};
 ghost use Rattle.record.specs.Writing.{file, outcome_number, outcome_value};
 ghost use Rattle.record.specs.FileClaim.{AcceptedWithClaim};

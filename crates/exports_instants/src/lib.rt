@@ -3,6 +3,8 @@
 // state, and the promises are said of the states read before and after. It is a library of its own for the reason that exports_reading is
 // one. The names carry the version of the layout, of what a dispatcher keeps and what an answer tells: where it changes they do, so that
 // a program with the header of another layout is not linked.
+#![tactic(auto)]
+
 ghost use Rattle.std.specs.Prelude.{◌≡◌, get_or};
 ghost use Rattle.sets.specs.Sets.{member};
 ghost use Rattle.guarantees.specs.Figure.{longest_interval, completes_after};

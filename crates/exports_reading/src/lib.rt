@@ -1,5 +1,7 @@
 // The reading of a stored record for programs in C and Rust. It is a library of its own, and not one with the record function, since what
 // two functions of one library call is compiled once for both, and then the steps of an instant are calls.
+#![tactic(auto)]
+
 ghost use Rattle.std.specs.Prelude.{◌≡◌};
 ghost use Rattle.record.specs.Writing.{outcome_number, outcome_value};
 ghost use Rattle.reading.specs.Reading.{reading};

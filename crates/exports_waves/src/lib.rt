@@ -1,5 +1,7 @@
 // The waveform of an input for programs in C and Rust: slices and numbers, and no type of this repository. It is a library of its own for
 // the reason that exports_reading is one.
+#![tactic(auto)]
+
 ghost use Rattle.std.specs.Prelude.{◌≡◌};
 ghost use Rattle.record.specs.Writing.{outcome_number, outcome_value};
 ghost use Rattle.waves.specs.Writing.{dumped};

@@ -1,6 +1,8 @@
 // Reads an input on standard input and prints its run, instant by instant: a J, I or S line for each entry of its record, or an R line
 // where the input is refused. No more of a record is kept than a piece of it. A read that fails is no input, and at the first write that
 // fails the program stops; either is said in a line on standard error.
+#![tactic(auto)]
+
 ghost use Rattle.std.specs.Prelude.{◌≤◌, length};
 ghost use Rattle.io.specs.Counts.{IsPrefixLen};
 ghost use Rattle.run.specs.Cut.{file_most};

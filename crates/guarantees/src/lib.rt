@@ -1,5 +1,7 @@
 // Demand 3, for every list of instants, mark calls, enquiries and commits: its statement is in specs/, its proof in proofs/. Whoever
 // opens a dispatcher here holds it.
+#![tactic(auto)]
+
 mod planning;
 
 ghost use Rattle.guarantees.specs.Opened.{OpenedWithClaim};

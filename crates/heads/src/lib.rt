@@ -1,4 +1,6 @@
 // The head of an input, the part before its releases, read: the table of tasks that its entries make, or the first refusal.
+#![tactic(auto)]
+
 ghost use Rattle.std.specs.Prelude.{◌≡◌};
 ghost use Rattle.table.specs.Head as heads;
 

@@ -1,4 +1,6 @@
 // The dispatcher advanced where it is kept: the driver keeps one for each core and lends it.
+#![tactic(auto)]
+
 ghost use Rattle.dispatcher.specs.Dispatcher.{AnswersKept, CommitsKept};
 ghost use Rattle.kept.specs.Kept.{MarksKept, MarksAllKept};
 

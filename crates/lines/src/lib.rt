@@ -1,4 +1,6 @@
 // The printed lines: a letter, the fields in decimal with a space before each, a newline.
+#![tactic(auto)]
+
 ghost use Rattle.std.specs.Prelude.{◌≡◌, [], ◌∷◌, ◌+◌, ◌≤◌, ◌<◌, length};
 ghost use Rattle.entries.specs.Entries.{each};
 ghost use Rattle.rules.specs.Entries.{done_entries, closed_entries};
@@ -11,7 +13,7 @@ use table::Refusal;
 
 // A text: the first `len` of the bytes. All lines of one answer fit: a job's line takes at most 73 bytes, an interval's 72, and the
 // answer's own 34, an enquiry's 55.
-#[derive(Drop)]
+#[derive(Clone, Copy)]
 pub struct Text {
     pub bytes: [u8; 224],
     pub len: usize,

@@ -1,4 +1,6 @@
 // A run in pieces: the one loop over its instants.
+#![tactic(auto)]
+
 ghost use Rattle.pieces.specs.Pieces.{Makes};
 
 use dispatcher::Dispatcher;
@@ -7,7 +9,7 @@ use run::advance;
 
 // A piece of a run: the dispatcher that it leaves, how many bytes of the releases were read and of the slice were written, how many
 // instants may still be made, and whether the run has come to its end: then none.
-#[derive(Drop)]
+#[derive(Clone, Copy)]
 pub struct Piece {
     pub state: Dispatcher,
     pub read: usize,

@@ -1,4 +1,6 @@
 // Lines printed on standard output, one by one or gathered in a lent slice that is printed where it is full.
+#![tactic(auto)]
+
 ghost use Rattle.std.specs.Prelude.{◌≡◌, true, ◌-◌, length};
 ghost use Rattle.lines.specs.Text.{shown};
 ghost use Rattle.printing.specs.Gathering.{Gathers};
@@ -6,7 +8,7 @@ ghost use Rattle.printing.specs.Gathering.{Gathers};
 use lines::Text;
 
 // How many bytes are kept to be printed, and whether no write failed.
-#[derive(Drop)]
+#[derive(Clone, Copy)]
 pub struct Kept {
     pub len: usize,
     pub good: bool,

@@ -5,6 +5,8 @@
 //
 // No more of a record is kept than a piece. It is gone through twice: once for the releases that its entries tell of, and once more beside
 // the run of their list.
+#![tactic(auto)]
+
 ghost use Rattle.std.specs.Prelude.{◌≤◌, length};
 
 use entries::{Entry, RELEASE_SIZE, limits};
@@ -27,7 +29,7 @@ const PIECE: usize = 4096;
 const TURNS: usize = 1099511627776;
 
 // What is noted, how many bytes the record has, its refusal, and whether no read or write failed.
-#[derive(Drop)]
+#[derive(Clone, Copy)]
 struct Found {
     noted: Noted,
     size: usize,
@@ -37,7 +39,7 @@ struct Found {
 
 // What is noted with a piece, how many bytes its whole entries have, and how many of those behind them are carried over; the number by
 // which the entry there is refused; whether the input has ended, and whether no read or write failed.
-#[derive(Drop)]
+#[derive(Clone, Copy)]
 struct Piece {
     noted: Noted,
     taken: usize,
@@ -48,7 +50,7 @@ struct Piece {
 }
 
 // Whether the bytes are the same, and whether no read failed.
-#[derive(Drop)]
+#[derive(Clone, Copy)]
 struct Held {
     same: bool,
     good: bool,

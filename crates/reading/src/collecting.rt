@@ -6,7 +6,7 @@ use entries::{RecordEntry, Release, limits};
 use table::Refusal;
 
 // What an entry tells: its length, and the release where `counts`. An interval tells of none.
-#[derive(Drop)]
+#[derive(Clone, Copy)]
 pub struct Telling {
     pub size: usize,
     pub counts: bool,
@@ -14,20 +14,20 @@ pub struct Telling {
 }
 
 // An entry taken apart, or one that is refused.
-#[derive(Drop)]
+#[derive(Clone, Copy)]
 pub enum Decoded {
     Faulty,
     Whole(Telling),
 }
 
 // How many releases are noted. No list can have them where one is later than any release may be or they are more than there is room for.
-#[derive(Drop)]
+#[derive(Clone, Copy)]
 pub struct Noted {
     pub count: usize,
     pub possible: bool,
 }
 
-#[derive(Drop)]
+#[derive(Clone, Copy)]
 pub struct Collected {
     pub noted: Noted,
     pub refusal: Refusal,

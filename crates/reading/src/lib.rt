@@ -1,4 +1,6 @@
 // From the task entries and a stored record, the release entries that made it.
+#![tactic(auto)]
+
 mod collecting;
 mod listing;
 mod order;

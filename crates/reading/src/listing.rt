@@ -28,7 +28,7 @@ fn write_list(list: &[u8], out: &mut [u8]) -> Outcome
     if out.len() < list.len() {
         return Outcome::TooShort(list.len());
     }
-    let size = bytes::copy(list, out);
+    let size = words::copy(list, out);
     Outcome::Recorded(size)
 }
 

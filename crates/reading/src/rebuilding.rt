@@ -29,7 +29,7 @@ pub fn lay_input(tasks: &[u8], keys: &[u64], out: &mut [u8]) -> usize
     requires { length tasks.now + size 2 * length keys.now ≤ length out.old }
     ensures { Put (input_of tasks.now (releases_in keys.now)) out.old result out.new }
 {
-    let from = bytes::copy(tasks, out);
+    let from = words::copy(tasks, out);
     lay(keys, &mut out[from..]);
     from + entries::RELEASE_SIZE * keys.len()
 }

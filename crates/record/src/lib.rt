@@ -1,4 +1,6 @@
 // A file's record in a lent slice.
+#![tactic(auto)]
+
 mod writing;
 
 ghost use Rattle.std.specs.Prelude.{◌≡◌};
@@ -9,7 +11,7 @@ pub use writing::write;
 
 // What comes of an input and a lent slice: a refusal of the input, the length needed where the slice is too short,
 // or the length of the record.
-#[derive(Drop)]
+#[derive(Clone, Copy)]
 pub enum Outcome {
     RefusedInput(Refusal),
     TooShort(usize),

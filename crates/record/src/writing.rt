@@ -18,7 +18,7 @@ fn keep_piece(piece: &[u8], out: &mut [u8], place: usize, keep: bool)
     ensures { KeptAt piece.now out.old place keep out.new }
 {
     if keep {
-        bytes::copy(piece, &mut out[place..]);
+        words::copy(piece, &mut out[place..]);
     }
 }
 

@@ -1,4 +1,6 @@
 // The lines of a record, read from its bytes.
+#![tactic(auto)]
+
 ghost use Rattle.std.specs.Prelude.{◌≡◌};
 ghost use Rattle.lines.specs.Lines.{line_of};
 ghost use Rattle.lines.specs.Text.{Prints};
@@ -8,14 +10,14 @@ use entries::RecordEntry;
 use lines::Text;
 
 // The line of an entry, and the place behind the entry.
-#[derive(Drop)]
+#[derive(Clone, Copy)]
 pub struct Line {
     pub text: Text,
     pub next: usize,
 }
 
 // How many bytes of a slice were filled with whole lines, and the place of the first entry whose line is not among them.
-#[derive(Drop)]
+#[derive(Clone, Copy)]
 pub struct Filled {
     pub len: usize,
     pub next: usize,

@@ -1,6 +1,8 @@
 // Reads an input on standard input and writes the bytes of its record to standard output, piece by piece: none where the input is
 // refused, and then the R line on standard error says why. No more of a record is kept than its buffer holds. A read that fails is no
 // input, and at the first write that fails the program stops; either is said in a line on standard error.
+#![tactic(auto)]
+
 ghost use Rattle.std.specs.Prelude.{◌≤◌, length};
 ghost use Rattle.io.specs.Counts.{IsPrefixLen};
 ghost use Rattle.entries.specs.Limits.{instant_most};

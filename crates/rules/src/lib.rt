@@ -1,4 +1,6 @@
 // The rules of the dispatcher of one core: its state, what it answers, and each step of an instant.
+#![tactic(auto)]
+
 mod arrays;
 pub mod at;
 mod blocking;
@@ -27,14 +29,14 @@ pub use step_d::take_releases;
 pub use step_e::choose;
 pub use step_g::begin_interval;
 
-#[derive(Drop)]
+#[derive(Clone, Copy)]
 pub enum Done {
     NoJob,
     Job(JobEntry),
 }
 
 // The interval that closed at an instant: before its releases (step b) or after them (step f).
-#[derive(Drop)]
+#[derive(Clone, Copy)]
 pub enum Closing {
     Unclosed,
     BeforeReleases(IntervalEntry),
@@ -43,7 +45,7 @@ pub enum Closing {
 
 // A call on the dispatcher: an instant, with its time and the set of tasks released then; a task's mark from now on; or (10/13) that of
 // a set of tasks.
-#[derive(Drop)]
+#[derive(Clone, Copy)]
 pub enum Call {
     Instant { time: u64, set: u32 },
     Mark { task: u8, mark: u8 },
@@ -51,7 +53,7 @@ pub enum Call {
 }
 
 // What becomes of the releases of an instant, as sets of tasks.
-#[derive(Drop)]
+#[derive(Clone, Copy)]
 pub struct ReleaseFates {
     pub taken: u32,
     pub deferred: u32,
@@ -59,7 +61,7 @@ pub struct ReleaseFates {
 }
 
 // The tasks of a set that have a higher priority than another task: those that are marked by 1.
-#[derive(Drop)]
+#[derive(Clone, Copy)]
 pub struct TasksAbove {
     pub tasks: u32,
     pub higher: [u8; 32],
@@ -67,7 +69,7 @@ pub struct TasksAbove {
 
 // What goes on now: of the open interval its begin and work, the task and the end of each phase under way, and the processor's half; 255 is
 // nobody. Beside them the sets of tasks.
-#[derive(Drop)]
+#[derive(Clone, Copy)]
 pub struct View {
     pub begin: u64,
     pub until: u64,
@@ -85,14 +87,14 @@ pub struct View {
 }
 
 // When the next phase ends.
-#[derive(Drop)]
+#[derive(Clone, Copy)]
 pub enum Due {
     Never,
     Tick(u64),
 }
 
 // What occurred at a served instant.
-#[derive(Drop)]
+#[derive(Clone, Copy)]
 pub struct Occurred {
     pub done: Done,
     pub closed: Closing,
@@ -100,13 +102,13 @@ pub struct Occurred {
     pub due: Due,
 }
 
-#[derive(Drop)]
+#[derive(Clone, Copy)]
 pub enum Answer {
     Refused(u8),
     Served(Occurred),
 }
 
-#[derive(Drop)]
+#[derive(Clone, Copy)]
 pub enum MarkAnswer {
     MarkRefused(u8),
     MarkServed,

@@ -1,4 +1,6 @@
 // A file checked, and the instants of its run.
+#![tactic(auto)]
+
 mod check;
 mod instant;
 mod putting;
@@ -9,7 +11,7 @@ use entries::Release;
 pub use instant::advance;
 
 // The release before the one that is checked.
-#[derive(Drop)]
+#[derive(Clone, Copy)]
 pub enum Last {
     NoneBefore,
     Before(Release),
@@ -17,7 +19,7 @@ pub enum Last {
 
 // A run advanced by one instant: the instant's time, how many bytes of the releases were read, and how many bytes the instant leaves in
 // the record. The last tick stands for no instant: the run has come to its end.
-#[derive(Drop)]
+#[derive(Clone, Copy)]
 pub struct Advanced {
     pub time: u64,
     pub read: usize,

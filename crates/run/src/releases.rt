@@ -9,7 +9,7 @@ use entries::RELEASE_SIZE;
 use rules::at;
 
 // The set released at a time, and how many bytes its entries have.
-#[derive(Drop)]
+#[derive(Clone, Copy)]
 pub struct Batch {
     pub set: u32,
     pub read: usize,

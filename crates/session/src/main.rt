@@ -1,6 +1,8 @@
 // Drives a dispatcher from standard input. The input is 4 bytes, lowest first, with the length of the opening bytes; the opening bytes,
 // which are task entries; then call entries until the input ends. The lines of the opening and of each call are printed. At the first
 // read or write that fails the program stops, and says so in a line on standard error.
+#![tactic(auto)]
+
 ghost use Rattle.std.specs.Prelude.{◌≤◌, length};
 ghost use Rattle.entries.specs.Limits.{head_most};
 
@@ -10,7 +12,7 @@ use streams::Sized;
 use table::Refusal;
 
 // The dispatcher after the whole calls at the start of a slice, how many bytes they took, and whether no write failed.
-#[derive(Drop)]
+#[derive(Clone, Copy)]
 struct Served {
     state: Dispatcher,
     taken: usize,
@@ -19,7 +21,7 @@ struct Served {
 
 // The dispatcher after a part of the input, how many bytes at the front of the input are no whole call yet, whether to go on, and whether
 // no read or write failed.
-#[derive(Drop)]
+#[derive(Clone, Copy)]
 struct Progress {
     state: Dispatcher,
     kept: usize,

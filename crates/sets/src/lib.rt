@@ -1,4 +1,6 @@
 // Sets of tasks as 32-bit numbers: bit n stands for task n. A task number of 32 or more is in no set.
+#![tactic(auto)]
+
 ghost use Rattle.std.specs.Prelude.{◌≡◌};
 ghost use Rattle.sets.specs.Sets as sets;
 

@@ -1,5 +1,7 @@
 // Standard input and output of the programs. A call that fails is told apart from one that moved fewer bytes: it is said in one line on
 // standard error, behind the program's name, and the caller is told to stop.
+#![tactic(auto)]
+
 mod sized;
 mod source;
 
@@ -11,7 +13,7 @@ pub use sized::{Sized, read_sized};
 pub use source::{Source, go_back, put_aside, read_again, twice};
 
 // How many bytes a read put at the front of what it was lent, and whether it came to the end of what was asked for without a failure.
-#[derive(Drop)]
+#[derive(Clone, Copy)]
 pub struct Got {
     pub count: usize,
     pub good: bool,

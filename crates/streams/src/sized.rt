@@ -4,7 +4,7 @@ ghost use Rattle.std.specs.Prelude.{◌≡◌, true, false, ◌≤◌, ◌<◌, 
 use crate::{Got, fill, least};
 
 // How many of the bytes were kept, whether all of them were there, and whether no read failed.
-#[derive(Drop)]
+#[derive(Clone, Copy)]
 pub struct Sized {
     pub kept: usize,
     pub whole: bool,
@@ -12,7 +12,7 @@ pub struct Sized {
 }
 
 // Whether all bytes were there, and whether no read failed.
-#[derive(Drop)]
+#[derive(Clone, Copy)]
 struct Skipped {
     whole: bool,
     good: bool,

@@ -8,7 +8,7 @@ use crate::{Got, fail, least};
 use libc::{SEEK_CUR, SEEK_SET, STDIN_FILENO};
 
 // The descriptor, which is negative where there is none, and the place.
-#[derive(Drop)]
+#[derive(Clone, Copy)]
 pub struct Source {
     pub at: i64,
     pub fd: i32,
@@ -71,7 +71,7 @@ pub fn fill(name: &[u8], fd: i32, to: &mut [u8], done: usize) -> Got
 // A new file that has no name any more, or a negative number, which is said.
 fn temporary(name: &[u8]) -> i32 {
     let mut path = [0u8; 19];
-    bytes::copy(b"/tmp/gateway-XXXXXX", &mut path);
+    words::copy(b"/tmp/gateway-XXXXXX", &mut path);
     let fd = os::create_temp(&mut path);
     if fd < 0 {
         fail(name, b": temporary file");

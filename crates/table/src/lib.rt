@@ -1,4 +1,6 @@
 // The table of tasks that the head of an input makes, and why an input is refused.
+#![tactic(auto)]
+
 ghost use Rattle.std.specs.Prelude.{◌≡◌, get_or, ◌+◌, ◌<◌};
 ghost use Rattle.table.specs.Table as table;
 ghost use Rattle.table.specs.Refusals.{refusal_number, refusal_place};
@@ -19,7 +21,7 @@ pub const SPACING: usize = 3 * limits::TASKS;
 pub type Columns = [u32; 4 * limits::TASKS];
 
 // The tasks by number: which there are, which of them have a spacing, each one's priority, and the columns.
-#[derive(Drop)]
+#[derive(Clone, Copy)]
 pub struct Table {
     pub present: u32,
     pub spaced: u32,
@@ -28,7 +30,7 @@ pub struct Table {
 }
 
 // Why an input is refused: a number alone, or a number and the place of the entry's kind byte.
-#[derive(Drop)]
+#[derive(Clone, Copy)]
 pub enum Refusal {
     NoRefusal,
     Alone(u8),
@@ -36,7 +38,7 @@ pub enum Refusal {
 }
 
 // The head of an input: the table, the set of marked tasks and the place behind it, or the first refusal.
-#[derive(Drop)]
+#[derive(Clone, Copy)]
 pub struct Head {
     pub table: Table,
     pub marked: u32,

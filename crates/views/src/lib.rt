@@ -1,4 +1,6 @@
 // What goes on now, read off the numbers of a dispatcher.
+#![tactic(auto)]
+
 ghost use Rattle.std.specs.Prelude.{◌≡◌, ◌+◌, ◌<◌};
 ghost use Rattle.rules.specs.View.{shown_half, viewed};
 ghost use Rattle.dispatcher.specs.Dispatcher.{state_of};

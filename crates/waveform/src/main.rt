@@ -1,6 +1,8 @@
 // Reads an input on standard input and writes its run as a value change dump to standard output, instant by instant: nothing where the
 // input is refused, and then the R line on standard error says why. A read that fails is no input, and at the first write that fails the
 // program stops; either is said in a line on standard error.
+#![tactic(auto)]
+
 ghost use Rattle.std.specs.Prelude.{◌≤◌, length};
 ghost use Rattle.io.specs.Counts.{IsPrefixLen};
 ghost use Rattle.run.specs.Cut.{file_most};

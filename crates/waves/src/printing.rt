@@ -93,7 +93,7 @@ fn put_wires(out: &mut [u8], at: usize, code: u8, n: u8) -> usize
     ensures { Lays at (dump.wires code n) out.old result out.new }
 {
     let line = wires(code, n);
-    bytes::copy(&line, &mut out[at..]);
+    words::copy(&line, &mut out[at..]);
     at + WIRES
 }
 

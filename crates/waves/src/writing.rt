@@ -26,7 +26,7 @@ pub const ROOM: usize = 256;
 pub const HEADER: usize = 191;
 
 // How many bytes of a dump there are, and whether an instant was among them.
-#[derive(Drop)]
+#[derive(Clone, Copy)]
 struct Drawn {
     size: usize,
     begun: bool,
@@ -52,7 +52,7 @@ fn keep_piece(piece: &[u8], out: &mut [u8], place: usize, keep: bool)
     ensures { KeptAt piece.now out.old place keep out.new }
 {
     if keep {
-        bytes::copy(piece, &mut out[place..]);
+        words::copy(piece, &mut out[place..]);
     }
 }
 

@@ -1,5 +1,7 @@
 // Numbers of 1, 4 and 8 bytes, lowest byte first: read at a place of a slice, and written into the front of a lent one.
-ghost use Rattle.std.specs.Prelude.{◌≡◌, ◌+◌, ◌^◌, ◌≤◌, ◌<◌, leb, length};
+#![tactic(auto)]
+
+ghost use Rattle.std.specs.Prelude.{◌≡◌, ◌+◌, ◌^◌, ◌≤◌, ◌<◌, leb, length, take, drop, ◌++◌};
 ghost use Rattle.words.specs.Words.{number_at, room, written, LeftAt};
 
 fn wide(x: u8) -> u64
@@ -144,4 +146,15 @@ pub fn put_u64(out: &mut [u8], v: u64) -> usize
     out[6] = (high2 % 256) as u8;
     out[7] = (high1 % 256) as u8;
     8
+}
+
+// Puts `from` at the front of `to`, and answers how many bytes that are. What stands behind them stays.
+pub fn copy(from: &[u8], to: &mut [u8]) -> usize
+    requires { length from.now ≤ length to.old }
+    ensures count { result ≡ length from.now }
+    ensures after { to.new ≡ take result from.now ++ drop result to.old }
+{
+    let n = from.len();
+    to[..n].copy_from_slice(from);
+    n
 }

@@ -10,7 +10,7 @@ use Rattle.waves.proofs.printing.put_wires.Statement.{statement}
 use Rattle.waves.proofs.printing.put_wires.Tie as tie
 use Rattle.waves.proofs.printing.put_wires.Reads as reads
 use Rattle.waves.proofs.printing.put_wires.Lts as lts
-use Rattle.bytes.proofs.copy.Reads as copy-reads
+use Rattle.words.proofs.copy.Reads as copy-reads
 use Rattle.waves.proofs.printing.wires.Reads as wires-reads
 
 -- src/printing.rt:87:16
