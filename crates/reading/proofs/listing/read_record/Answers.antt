@@ -31,14 +31,14 @@ slice_bounds-read_listed-end c =
     let h = c.collect-found.ensures in
     let w = (noted c.args.tasks.now c.args.stored.now c.args.out.now _ h c.enum_told-1.given.1).within in
     let s = c.sort in
-    front_within _ _ s.new.0 _ s.ensures w
+    front_within _ _ s.new.s _ s.ensures w
 
 pub slice_bounds-read_listed-end-in-NoRefusal : goal.slice_bounds-read_listed-end-in-NoRefusal
 slice_bounds-read_listed-end-in-NoRefusal c =
     let h = c.collect-found.ensures in
     let w = (noted c.args.tasks.now c.args.stored.now c.args.out.now _ h c.enum_told-1.given.1).within in
     let s = c.sort in
-    front_length _ _ s.new.0 _ s.ensures w
+    front_length _ _ s.new.s _ s.ensures w
 
 pub read_listed-requires : goal.read_listed-requires
 read_listed-requires c =
@@ -46,7 +46,7 @@ read_listed-requires c =
     let w = (noted c.args.tasks.now c.args.stored.now c.args.out.now _ h c.enum_told-1.given.1).within in
     let s = c.sort in (
       c.requires.0,
-      subst (λ (n : ℕ). length c.args.tasks.now + 10 * n ≤ length c.args.input.now) (front_length _ _ s.new.0 _ s.ensures w)
+      subst (λ (n : ℕ). length c.args.tasks.now + 10 * n ≤ length c.args.input.now) (front_length _ _ s.new.s _ s.ensures w)
           (omega (arith, w, h.same_length, opens_short c.args.tasks.now c.requires.1.opens, c.requires.1.room)),
     )
 
@@ -56,8 +56,8 @@ returns-else-not-noted c =
     let attested = c.enum_told-1.given.1 in
     let w = (noted c.args.tasks.now c.args.stored.now c.args.out.now _ h attested).within in
     let s = c.sort in
-    possible c.args.tasks.now c.args.stored.now c.args.out.now _ h attested s.new.0 _ (not-false _ c.if-not-noted.false) s.ensures
-    (front_is _ _ s.new.0 _ s.ensures w) c.read_listed.ensures
+    possible c.args.tasks.now c.args.stored.now c.args.out.now _ h attested s.new.s _ (not-false _ c.if-not-noted.false) s.ensures
+    (front_is _ _ s.new.s _ s.ensures w) c.read_listed.ensures
 
 pub returns-in-Alone : goal.returns-in-Alone
 returns-in-Alone c =
