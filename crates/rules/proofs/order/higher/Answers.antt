@@ -8,14 +8,10 @@ use lib.ListN.{length, get_or, set, length-set, replicate, get_or-replicate}
 use lib.Seq.{get_or-set_same, get_or-set_other}
 use Rattle.sets.proofs.Laws.{by-test}
 use Rattle.rules.specs.Steps.{Above}
+use Rattle.rules.proofs.order.higher.Invariants.{Found, long, passed, marks}
 use Rattle.rules.proofs.order.higher.Goals as goal
 
 -- of the tasks below k, those with a smaller number than the limit are marked
-record Found (priority : List ℕ) (limit : ℕ) (found : List ℕ) (k : ℕ) : Type 0 where
-  long : length found ≡ 32
-  passed : k ≤ 32
-  marks : (j : ℕ) → j < 32 → get_or found j 0 ≡ cond (ltb j k && ltb (get_or priority j 0) limit) 1 0
-
 module _ (priority : List ℕ) (limit : ℕ) where
   start : Found priority limit (replicate 32 0) 0
   start = record { long = refl; passed = omega arith; marks = λ j l. get_or-replicate 32 j 0 0 l ∙ rw (le-ltb j 0 (omega arith)) }
