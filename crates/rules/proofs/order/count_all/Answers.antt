@@ -11,7 +11,7 @@ use Rattle.sets.proofs.Laws.{by-test, collected}
 use Rattle.rules.specs.Instant.{counted}
 use Rattle.rules.specs.Steps.{marked_in}
 use Rattle.rules.proofs.ByTask.{each, each_length, each_at}
-use Rattle.rules.proofs.order.count_all.Invariants.{counts_at, Made, long, passed, at}
+use Rattle.rules.proofs.order.count_all.Invariants.{counts_at, Made}
 use Rattle.rules.proofs.order.count_all.Goals as goal
 
 -- one more, held at 255

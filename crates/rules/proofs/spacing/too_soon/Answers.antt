@@ -12,8 +12,9 @@ use Rattle.rules.specs.Instant.{previous_release, comes_sooner, too_soon}
 use Rattle.rules.specs.Registers.{state_in}
 use Rattle.rules.specs.Kept.{kept, by_task, beside, read}
 use Rattle.rules.proofs.Members.{Left, passed, Turn, start, turn, falls, at_start, at_end, gathers_one, gathers_none}
-use Rattle.rules.proofs.spacing.too_soon.Invariants.{Gathered, tasks, small, members, soon_by}
+use Rattle.rules.proofs.spacing.too_soon.Invariants.{Gathered, soon_by}
 use Rattle.rules.proofs.spacing.too_soon.Goals as goal
+use Rattle.rules.proofs.spacing.too_soon.Goals.{then-is_too_soon, else-is_too_soon}
 
 -- of the tasks that the loop has passed, those that meet a test are gathered
 module _ (test : ℕ → Bool) where
@@ -75,10 +76,10 @@ loop-left-preserved c =
     let w = c.loop-left in
     let u = turn w.invariant.tasks c.loop-left-test.true c.lowest-n.ensures c.rest-left.ensures in
     let is = c.is_too_soon.ensures [] [] [] [] in
-    ⊎_elim
-    (λ a. rw a.2 (gathers _ u w.invariant (sym is ∙ a.0.taken) a.1.ensures))
-    (λ a. rw a.1 (passes _ u w.invariant (sym is ∙ a.0.left)))
-    c.if-is_too_soon.branch
+    elim c.if-is_too_soon.branch [
+      then-is_too_soon a ↦ rw a.soon-is (gathers _ u w.invariant (sym is ∙ a.if-is_too_soon.true) a.insert-soon.ensures)
+      | else-is_too_soon a ↦ rw a.soon-is (passes _ u w.invariant (sym is ∙ a.if-is_too_soon.false))
+    ]
 
 pub returns : goal.returns
 returns c times codes priority blocked =
