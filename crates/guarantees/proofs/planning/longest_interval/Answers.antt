@@ -6,7 +6,7 @@ use borrow.Author.Rules.{rules}
 use Rattle.sets.specs.Sets.{member}
 use Rattle.table.specs.Table.{copyin_length, execution_length, copyout_length}
 use Rattle.guarantees.specs.Figure.{greatest, longest_interval}
-use Rattle.guarantees.proofs.planning.longest_interval.Invariants.{Passed, copyins, copyouts, works, short_copyin, short_copyout, tasks}
+use Rattle.guarantees.proofs.planning.longest_interval.Invariants.{Passed}
 use Rattle.guarantees.proofs.planning.longest_interval.Goals as goal
 
 -- of the tasks below k

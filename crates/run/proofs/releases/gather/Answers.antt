@@ -13,7 +13,6 @@ use Rattle.run.specs.Types.{Release}
 use Rattle.run.specs.Listed.{releases_at}
 use Rattle.run.specs.Run.{first_time, released_from, released_at, released_after}
 use Rattle.run.proofs.Listing.{here, in_part, how_many, taken, after_taken, stands_here, stops_here}
-use Rattle.run.proofs.releases.gather.Invariants.{entries, at_is, within, after}
 use Rattle.run.proofs.releases.gather.Goals as goal
 
 -- what the rest from a place on begins with
