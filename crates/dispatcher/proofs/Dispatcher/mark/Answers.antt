@@ -1,0 +1,21 @@
+-- `dispatcher::Dispatcher::mark` meets its contract: a call that meets no row sets the mark, and one that meets one is refused with the state as it was. Assumes nothing.
+use Rattle.std.proofs.Common.{sym, refl, ◌∙◌, rules, eq-eqb, ne_eqb}
+use Rattle.rules.specs.Calls.{mark}
+use Rattle.dispatcher.specs.Dispatcher.{beside_of}
+use Rattle.dispatcher.proofs.Numbered.{mark_answered}
+use Rattle.dispatcher.proofs.Dispatcher.mark.Goals as goal
+
+pub returns-then-number-eq0 : goal.returns-then-number-eq0
+unfolding mark
+returns-then-number-eq0 c =
+    let s = c.args in
+    let n = c.mark_refusal-number.ensures s.self.times s.self.codes (beside_of s.self) in
+    mark_answered _ _ _ _ (simp (← n, eq-eqb _ _ c.if-number-eq0.true, ← c.insert-set.ensures, c.with_marks.ensures.0))
+    (simp (← n, eq-eqb _ _ c.if-number-eq0.true, c.with_marks.ensures.1)) (λ f. absurd (f (sym n ∙ c.if-number-eq0.true)))
+
+pub returns : goal.returns
+unfolding mark
+returns c =
+    let s = c.args in
+    let n = c.mark_refusal-number.ensures s.self.times s.self.codes (beside_of s.self) in
+    mark_answered _ _ _ _ (simp (← n, ne_eqb _ _ c.if-number-eq0.false)) (simp (← n, ne_eqb _ _ c.if-number-eq0.false)) (λ f. refl)

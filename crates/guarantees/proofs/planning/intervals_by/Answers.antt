@@ -1,0 +1,9 @@
+-- `guarantees::planning::intervals_by` meets its contract: by the mark. Assumes nothing.
+use borrow.Author.Rules.{rules}
+use Rattle.guarantees.proofs.planning.intervals_by.Goals as goal
+
+pub returns-then-marked : goal.returns-then-marked
+returns-then-marked c = rw c.if-marked.true
+
+pub returns : goal.returns
+returns c = rw c.if-marked.false

@@ -1,0 +1,13 @@
+-- `lines::Text::word_field` meets its contract: the number has at most 10 digits. Assumes nothing.
+use native.Mathlib.Omega.{arith}
+use Rattle.lines.proofs.Laws.{short, at_most, ◌then◌}
+use borrow.Author.Rules.{rules}
+use Rattle.lines.proofs.Text.word_field.Goals as goal
+
+pub number-requires : goal.number-requires
+number-requires c = omega (arith, short 9 c.args.n (omega arith))
+
+pub returns : goal.returns
+returns c =
+    let digits = short 9 c.args.n (omega arith) in
+    at_most 11 (omega arith) (c.byte.ensures then c.number.ensures)

@@ -1,0 +1,74 @@
+-- `pieces::next_piece` meets its contract: each instant goes on with the piece, until the run's end, the budget's or that of the room. Assumes nothing.
+use mathlib.Core.Path.{◌≡◌, refl, ap, ◌∙◌}
+use mathlib.Core.Bool.{false}
+use mathlib.Core.Logic.{⊎_elim, inl, inr}
+use native.Mathlib.Omega.{arith}
+use lib.ListN.{length}
+use Rattle.rules.specs.Kept.{kept, by_task, beside}
+use Rattle.dispatcher.specs.Dispatcher.{state_of}
+use Rattle.run.proofs.Slices.{rest_same}
+use Rattle.pieces.proofs.Reaching.{Reached, begins, at_last, reads, puts, moves, same_kept, same_by_task, ends, stops}
+use borrow.Author.Rules.{rules}
+use Rattle.pieces.proofs.next_piece.Goals as goal
+
+pub loop-left-init : goal.loop-left-init
+loop-left-init c = (begins _ _ _ _ _, refl)
+
+pub overflow_sub-out : goal.overflow_sub-out
+overflow_sub-out c = let v = c.loop-left in omega (arith, v.invariant.0.fits, v.invariant.0.same)
+
+pub slice_bounds-advance-count : goal.slice_bounds-advance-count
+slice_bounds-advance-count c = omega (arith, c.loop-left.invariant.0.within)
+
+pub slice_bounds-advance-start : goal.slice_bounds-advance-start
+slice_bounds-advance-start c = omega (arith, c.loop-left.invariant.0.within)
+
+pub slice_bounds-advance-count-in-loop-left : goal.slice_bounds-advance-count-in-loop-left
+slice_bounds-advance-count-in-loop-left c = let v = c.loop-left in omega (arith, v.invariant.0.fits, v.invariant.0.same)
+
+pub slice_bounds-advance-start-in-loop-left : goal.slice_bounds-advance-start-in-loop-left
+slice_bounds-advance-start-in-loop-left c = let v = c.loop-left in omega (arith, v.invariant.0.fits, v.invariant.0.same)
+
+pub overflow_add-read : goal.overflow_add-read
+overflow_add-read c = omega (arith, reads c.loop-left.invariant.0 c.advance-x.ensures c.if-x.false, c.well-formed.0.0)
+
+pub overflow_add-size : goal.overflow_add-size
+overflow_add-size c = omega (arith, puts c.loop-left.invariant.0 c.advance-x.ensures c.if-x.false c.if-out-size-lt-INSTANT_MOST.false, c.loop-left.invariant.0.same, c.well-formed.1.1.1.0.0)
+
+pub overflow_sub-left : goal.overflow_sub-left
+overflow_sub-left c = omega (arith, c.loop-left-test.true)
+
+pub loop-left-smaller : goal.loop-left-smaller
+loop-left-smaller c = omega (arith, c.loop-left-test.true)
+
+pub loop-left-preserved : goal.loop-left-preserved
+loop-left-preserved c = let v = c.loop-left in (moves v.invariant.0 c.advance-x.ensures c.if-x.false c.loop-left-test.true c.if-out-size-lt-INSTANT_MOST.false refl, v.invariant.1)
+
+pub shape_of-out : goal.shape_of-out
+shape_of-out c =
+    let v = c.loop-left in
+    ⊎_elim
+    (λ w. ap length w.1 ∙ v.invariant.0.same)
+    (λ u. ⊎_elim
+    (λ w. ap length w.2 ∙ v.invariant.0.same)
+    (λ w. ap length (w.18 ∙ rest_same v.size v.out _ (w.13.ensures.ended w.17.taken).slice_is) ∙ v.invariant.0.same)
+    u)
+    c.loop-left-test.branch
+
+pub returns : goal.returns
+returns c =
+    let v = c.loop-left in
+    let d = c.args.d in
+    let others = beside d.priority d.columns in
+    ⊎_elim
+    (λ w. stops d v.invariant.0 (same_kept w.2 w.3 w.4) (ap others (same_by_task w.5 w.6 w.7)) w.1
+    (w.9 ∙ v.invariant.1) w.8 (inl (w.8 ∙ w.0.left)))
+    (λ u. ⊎_elim
+    (λ w. stops d v.invariant.0 (same_kept w.3 w.4 w.5) (ap others (same_by_task w.6 w.7 w.8)) w.2
+    (w.10 ∙ v.invariant.1) w.9 (inr (omega (arith, w.1.taken, v.invariant.0.same, v.invariant.0.fits))))
+    (λ w. let made = w.13.ensures in let stop = made.ended w.17.taken in
+    ends d v.invariant.0 (same_kept w.19 w.20 w.21 ∙ stop.numbers_are) (ap others (same_by_task w.22 w.23 w.24) ∙ stop.beside_is)
+    (w.18 ∙ rest_same v.size v.out _ stop.slice_is)
+    w.26 w.25 (at_last v.invariant.0 made w.17.taken))
+    u)
+    c.loop-left-test.branch

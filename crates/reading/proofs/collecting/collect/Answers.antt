@@ -1,0 +1,56 @@
+-- `reading::collecting::collect` meets its contract: one entry after the other. Assumes nothing.
+use mathlib.Core.Path.{◌≡◌, refl, sym, ap, ◌∙◌, subst}
+use Prim.Native.Nat.{ℕ, ◌-◌}
+use native.Mathlib.Omega.{arith}
+use lib.ListN.{length}
+use borrow.Author.Rules.{rules}
+use Rattle.entries.specs.Entries.{record_entry_size}
+use Rattle.entries.proofs.Places.{entry_within}
+use Rattle.reading.specs.Types.{AtEntry}
+use Rattle.reading.specs.Parts.{decoded, Collects}
+use Rattle.reading.proofs.Noting.{Collecting, begins, ends, faulty, whole_size, goes_on}
+use Rattle.reading.proofs.collecting.collect.Goals as goal
+
+pub loop-at-init : goal.loop-at-init
+loop-at-init c = (begins _ _ _, refl)
+
+pub shape_of-keys-in_default : goal.shape_of-keys-in_default
+shape_of-keys-in_default c = c.loop-at.invariant.1
+
+pub returns-in_default : goal.returns-in_default
+returns-in_default c =
+    let v = c.loop-at in
+    let entry = c.record_entry_at-entry in
+    let a = c.args in
+    subst (λ (n : ℕ). Collects a.stored.now a.before a.keys.now (record { noted = v.noted; refusal = AtEntry n v.at }) v.keys) (sym c.fault_of.ensures)
+    (faulty v.invariant.0 v.invariant.1 c.loop-at-test.true entry.result (sym entry.ensures) (sym c.decode.ensures ∙ c.in_default.is))
+
+pub overflow_add-at : goal.overflow_add-at
+overflow_add-at c =
+    let v = c.loop-at in
+    let entry = c.record_entry_at-entry in
+    let w = whole_size entry.result c.in-Whole.attested (sym c.decode.ensures ∙ c.in-Whole.is) in
+    omega (arith, w.0, w.1, ap record_entry_size entry.ensures, entry_within c.args.stored.now v.at)
+
+pub loop-at-smaller : goal.loop-at-smaller
+loop-at-smaller c =
+    let v = c.loop-at in
+    let entry = c.record_entry_at-entry in
+    let w = whole_size entry.result c.in-Whole.attested (sym c.decode.ensures ∙ c.in-Whole.is) in
+    omega (arith, w.0, w.1, ap record_entry_size entry.ensures, entry_within c.args.stored.now v.at)
+
+pub loop-at-preserved : goal.loop-at-preserved
+loop-at-preserved c =
+    let v = c.loop-at in
+    let entry = c.record_entry_at-entry in
+    let attested = c.attested-1.given in
+    let is = ap decoded (sym entry.ensures) ∙ sym c.decode.ensures ∙ attested.1 in (
+      goes_on v.invariant.0 v.invariant.1 c.loop-at-test.true attested.0.0 _ _ is c.note-noted.ensures,
+      c.note-noted.ensures.same_length ∙ v.invariant.1,
+    )
+
+pub shape_of-keys : goal.shape_of-keys
+shape_of-keys c = c.loop-at.invariant.1
+
+pub returns : goal.returns
+returns c = ends c.loop-at.invariant.0 c.loop-at.invariant.1 c.loop-at-test.false

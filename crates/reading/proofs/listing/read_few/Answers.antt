@@ -1,0 +1,8 @@
+-- `reading::listing::read_few` meets its contract: the memory that it lends is enough. Assumes nothing.
+use mathlib.Core.Logic.{inr}
+use native.Mathlib.Omega.{arith}
+use borrow.Author.Rules.{rules}
+use Rattle.reading.proofs.listing.read_few.Goals as goal
+
+pub read_record-requires : goal.read_record-requires
+read_record-requires c = (c.requires.0, record { opens = c.requires.0.opens; enough = inr c.requires.1; room = omega arith })

@@ -1,0 +1,17 @@
+use mathlib.Core.Path.{◌≡◌, ap, subst}
+use mathlib.Core.Bool.{Bool, false≢true}
+use mathlib.Core.List.{List}
+use Prim.Native.Nat.{ℕ, ◌-◌, ◌≤◌}
+use native.Mathlib.Omega.{arith}
+use lib.ListN.{length, take}
+use lib.Seq.{take_all}
+use borrow.Author.Rules.{rules}
+use Rattle.reading.specs.Parts.{Tells}
+use Rattle.reading.proofs.Holding.{alike_none, alike_more}
+use Rattle.reading.proofs.replay.same.Given as goal
+
+abbrev pub invariant-loop-i : goal.invariant-loop-i
+invariant-loop-i l = Tells l.alike (take l.i l.a) (take l.i l.b) × (l.i ≤ length l.a) × (length l.a ≡ length l.b)
+
+abbrev pub decreases-loop-i : goal.decreases-loop-i
+decreases-loop-i l = length l.a - l.i

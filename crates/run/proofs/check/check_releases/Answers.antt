@@ -1,0 +1,56 @@
+-- `run::check_releases` meets its contract: what is left to read, read from here, gives the refusal of the whole. Assumes nothing.
+use Prim.Native.Nat.{◌≤◌, ◌-◌}
+use mathlib.Core.Path.{refl, sym, ◌∙◌}
+use native.Mathlib.Omega.{arith}
+use borrow.Author.Rules.{rules}
+use lib.ListN.{length}
+use Rattle.run.specs.Types.{NoneBefore}
+use Rattle.run.specs.Files.{refusal_of, releases_from}
+use Rattle.run.proofs.Checking.{Rest, release_whole, few, at_end, malformed, task_late, spacing_late, refuses, turn, turn_on}
+use Rattle.run.proofs.check.check_releases.Goals as goal
+
+pub entries-init : goal.entries-init
+entries-init c = let a = c.args in (search rules, record { fuel = length a.s.now; enough = omega arith; same = refl })
+
+pub overflow_add-at : goal.overflow_add-at
+overflow_add-at c =
+    let s = c.args.s.now in
+    omega (arith, release_whole s c.entries.at _ (sym c.entry_at-entry.ensures ∙ c.in-ReleaseEntry.is))
+
+pub entries-smaller : goal.entries-smaller
+entries-smaller c =
+    let s = c.args.s.now in
+    omega (arith, release_whole s c.entries.at _ (sym c.entry_at-entry.ensures ∙ c.in-ReleaseEntry.is))
+
+pub entries-preserved : goal.entries-preserved
+entries-preserved c =
+    let a = c.args in let s = a.s.now in let v = c.entries in
+    let e = sym c.release_refusal-n.ensures ∙ c.if-n-ne0.false in
+    let r = sym c.entry_at-entry.ensures ∙ c.in-ReleaseEntry.is in
+    (omega (arith, few a.present v.new v.count _ e), turn_on s v.at a.present v.new v.count _ v.invariant.1 c.if-s-at.false _ r e)
+
+pub returns-then-s-at : goal.returns-then-s-at
+returns-then-s-at c = let a = c.args in let v = c.entries in sym (at_end a.s.now v.at a.present v.new v.count v.invariant.1.fuel c.if-s-at.true) ∙ v.invariant.1.same
+
+pub returns-in-Malformed : goal.returns-in-Malformed
+returns-in-Malformed c =
+    let a = c.args in let s = a.s.now in let v = c.entries in
+    turn s v.at a.present v.new v.count _ v.invariant.1 c.if-s-at.false _
+    (λ k. malformed s v.at a.present v.new v.count k c.if-s-at.false _ (sym c.entry_at-entry.ensures ∙ c.in-Malformed.is))
+
+pub returns-in-TaskEntry : goal.returns-in-TaskEntry
+returns-in-TaskEntry c =
+    let a = c.args in let s = a.s.now in let v = c.entries in
+    turn s v.at a.present v.new v.count _ v.invariant.1 c.if-s-at.false _ (λ k. task_late s v.at a.present v.new v.count k c.if-s-at.false _ (sym c.entry_at-entry.ensures ∙ c.in-TaskEntry.is))
+
+pub returns-in-SpacingEntry : goal.returns-in-SpacingEntry
+returns-in-SpacingEntry c =
+    let a = c.args in let s = a.s.now in let v = c.entries in
+    turn s v.at a.present v.new v.count _ v.invariant.1 c.if-s-at.false _ (λ k. spacing_late s v.at a.present v.new v.count k c.if-s-at.false _ (sym c.entry_at-entry.ensures ∙ c.in-SpacingEntry.is))
+
+pub returns-then-n-ne0 : goal.returns-then-n-ne0
+returns-then-n-ne0 c =
+    let a = c.args in let s = a.s.now in let v = c.entries in
+    let r = sym c.entry_at-entry.ensures ∙ c.in-ReleaseEntry.is in
+    turn s v.at a.present v.new v.count _ v.invariant.1 c.if-s-at.false _
+    (λ k. refuses s v.at a.present v.new v.count k c.if-s-at.false _ _ r (sym c.release_refusal-n.ensures) c.if-n-ne0.true)

@@ -1,0 +1,16 @@
+use Prim.Native.Nat.{◌≤◌, ◌-◌}
+use mathlib.Core.Path.{refl, sym, ◌∙◌}
+use native.Mathlib.Omega.{arith}
+use borrow.Author.Rules.{rules}
+use lib.ListN.{length}
+use Rattle.run.specs.Types.{NoneBefore}
+use Rattle.run.specs.Files.{refusal_of, releases_from}
+use Rattle.run.proofs.Checking.{Rest, release_whole, few, at_end, malformed, task_late, spacing_late, refuses, turn, turn_on}
+use Rattle.run.proofs.check.check_releases.Given as goal
+
+abbrev pub invariant-entries : goal.invariant-entries
+invariant-entries l =
+    (l.count ≤ 4096) × Rest l.s l.at l.present l.last l.count (refusal_of (releases_from (length l.s) l.s l.start l.present NoneBefore 0))
+
+abbrev pub decreases-entries : goal.decreases-entries
+decreases-entries l = length l.s - l.at

@@ -1,0 +1,6 @@
+-- `table::refused` meets its contract: field by field. Assumes nothing.
+use borrow.Author.Rules.{rules}
+use Rattle.table.proofs.refused.Goals as goal
+
+pub returns : goal.returns
+returns c = simp c.no_table.ensures

@@ -1,0 +1,9 @@
+-- `views::show_phase` meets its contract: by whether it is under way. Assumes nothing.
+use borrow.Author.Rules.{rules}
+use Rattle.views.proofs.show_phase.Goals as goal
+
+pub returns-then-under_way : goal.returns-then-under_way
+returns-then-under_way c = (rw c.if-under_way.true, rw c.if-under_way.true)
+
+pub returns-else-under_way : goal.returns-else-under_way
+returns-else-under_way c = (rw c.if-under_way.false, rw c.if-under_way.false)

@@ -1,0 +1,35 @@
+-- `waves::put_mark` meets its contract: the sign, the number, the newline. Assumes nothing.
+use native.Mathlib.Omega.{arith}
+use mathlib.Core.List.{◌++◌}
+use Rattle.lines.specs.Lines.{decimal, newline}
+use Rattle.waves.specs.Dump.{mark}
+use Rattle.waves.proofs.Laying.{◌then◌, first_room, next_room, mark_size}
+use borrow.Author.Rules.{rules}
+use Rattle.waves.proofs.printing.put_mark.Reads as reads
+use Rattle.waves.proofs.printing.put_mark.Lts as lts
+use Rattle.waves.proofs.printing.put_byte.Reads as put-byte-reads
+use Rattle.waves.proofs.printing.put_number.Reads as put-number-reads
+use Rattle.waves.proofs.printing.put_mark.Goals as goal
+
+-- src/printing.rt:59:9
+-- src/printing.rt:60:9
+-- src/printing.rt:61:5
+-- src/printing.rt:55:1
+-- src/printing.rt:55:1
+
+pub put_byte-number-requires : goal.put_byte-number-requires
+put_byte-number-requires c = omega (arith, c.requires.fits, mark_size c.args.t)
+
+pub put_number-end-requires : goal.put_number-end-requires
+unfolding mark
+put_number-end-requires c = first_room (decimal c.args.t) newline (next_room (decimal c.args.t ++ newline) c.put_byte-number.ensures c.requires)
+
+pub put_byte-requires : goal.put_byte-requires
+unfolding mark
+put_byte-requires c =
+    let r = next_room (decimal c.args.t ++ newline) c.put_byte-number.ensures c.requires in
+    omega (arith, (next_room newline c.put_number-end.ensures r).fits)
+
+pub returns : goal.returns
+unfolding mark
+returns c = c.put_byte-number.ensures then c.put_number-end.ensures then c.put_byte.ensures

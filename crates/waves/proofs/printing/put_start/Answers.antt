@@ -1,0 +1,68 @@
+-- `waves::put_start` meets its contract: the mark, and the four values. Assumes nothing.
+use mathlib.Core.List.{◌++◌}
+use native.Mathlib.Omega.{arith}
+use Rattle.waves.specs.Dump.{mark, wires, wire, all}
+use Rattle.waves.proofs.Laying.{◌then◌, first_room, next_room, wires_size, wire_size}
+use borrow.Author.Rules.{rules}
+use Rattle.waves.proofs.printing.put_start.Reads as reads
+use Rattle.waves.proofs.printing.put_start.Lts as lts
+use Rattle.waves.proofs.printing.put_mark.Reads as put-mark-reads
+use Rattle.waves.proofs.printing.put_wire.Reads as put-wire-reads
+use Rattle.waves.proofs.printing.put_wires.Reads as put-wires-reads
+use Rattle.waves.proofs.printing.put_start.Goals as goal
+
+-- src/printing.rt:108:9
+-- src/printing.rt:109:9
+-- src/printing.rt:110:9
+-- src/printing.rt:111:9
+-- src/printing.rt:112:5
+-- src/printing.rt:103:1
+-- src/printing.rt:103:1
+
+pub put_mark-a-requires : goal.put_mark-a-requires
+put_mark-a-requires c = first_room (mark 0) (all c.args.w) c.requires.1
+
+pub put_wires-b-requires : goal.put_wires-b-requires
+unfolding all
+put_wires-b-requires c = omega (arith, (first_room (wires 97 c.args.w.processor) (wires 98 c.args.w.copyin ++ (wires 99 c.args.w.copyout ++ wire 100 c.args.w.half)) (next_room (all c.args.w) c.put_mark-a.ensures c.requires.1)).fits, wires_size 97 c.args.w.processor)
+
+pub put_wires-c-requires : goal.put_wires-c-requires
+unfolding all
+put_wires-c-requires c =
+    let r = next_room (all c.args.w) c.put_mark-a.ensures c.requires.1 in
+    omega (
+      arith,
+      (first_room (wires 98 c.args.w.copyin) (wires 99 c.args.w.copyout ++ wire 100 c.args.w.half)
+          (next_room (wires 98 c.args.w.copyin ++ (wires 99 c.args.w.copyout ++ wire 100 c.args.w.half)) c.put_wires-b.ensures r)).fits,
+      wires_size 98 c.args.w.copyin,
+    )
+
+pub put_wires-d-requires : goal.put_wires-d-requires
+unfolding all
+put_wires-d-requires c =
+    let r = next_room (all c.args.w) c.put_mark-a.ensures c.requires.1 in
+    omega (
+      arith,
+      (first_room (wires 99 c.args.w.copyout) (wire 100 c.args.w.half)
+          (next_room (wires 99 c.args.w.copyout ++ wire 100 c.args.w.half) c.put_wires-c.ensures
+          (next_room (wires 98 c.args.w.copyin ++ (wires 99 c.args.w.copyout ++ wire 100 c.args.w.half)) c.put_wires-b.ensures r))).fits,
+      wires_size 99 c.args.w.copyout,
+    )
+
+pub put_wire-requires : goal.put_wire-requires
+unfolding all
+put_wire-requires c =
+    let r = next_room (all c.args.w) c.put_mark-a.ensures c.requires.1 in (
+      c.requires.0,
+      omega (
+        arith,
+        (next_room (wire 100 c.args.w.half) c.put_wires-d.ensures
+            (next_room (wires 99 c.args.w.copyout ++ wire 100 c.args.w.half) c.put_wires-c.ensures
+            (next_room (wires 98 c.args.w.copyin ++ (wires 99 c.args.w.copyout ++ wire 100 c.args.w.half)) c.put_wires-b.ensures r))).fits,
+        wire_size 100 c.args.w.half,
+      ),
+    )
+
+pub returns : goal.returns
+unfolding all
+returns c = c.put_mark-a.ensures then c.put_wires-b.ensures then c.put_wires-c.ensures then c.put_wires-d.ensures then c.put_wire.ensures

@@ -1,0 +1,55 @@
+-- `waves::put_turn` meets its contract: by whether an instant came before, and by the time. Assumes nothing.
+use mathlib.Core.Path.{subst}
+use borrow.Author.Tests.{eq-eqb, ne_eqb}
+use Rattle.waves.specs.Dump.{change}
+use Rattle.waves.specs.Printing.{Room}
+use Rattle.waves.specs.Drawing.{start, turn}
+use Rattle.waves.proofs.Laying.{◌then◌, first_room, next_room}
+use Rattle.waves.proofs.Drawing.{adds_change, adds_start, adds_both}
+use borrow.Author.Rules.{rules}
+use Rattle.waves.proofs.writing.put_turn.Reads as reads
+use Rattle.waves.proofs.writing.put_turn.Lts as lts
+use Rattle.waves.proofs.printing.put_change.Reads as put-change-reads
+use Rattle.waves.proofs.printing.put_start.Reads as put-start-reads
+use Rattle.waves.proofs.writing.put_turn.Goals as goal
+
+-- src/writing.rt:53:9
+-- src/writing.rt:53:9
+-- src/writing.rt:53:9
+-- src/writing.rt:56:9
+-- src/writing.rt:56:9
+-- src/writing.rt:56:9
+-- src/writing.rt:58:9
+-- src/writing.rt:59:5
+-- src/writing.rt:46:1
+-- src/writing.rt:46:1
+
+pub put_change-requires : goal.put_change-requires
+put_change-requires c = (c.requires.1.0, subst (λ l. Room c.args.at l c.args.out.now) (adds_change c.args.begun c.args.v (record { time = c.args.t; shown = c.args.w }) c.if-begun.true) c.requires.1.1)
+
+pub returns-then-begun : goal.returns-then-begun
+unfolding turn
+returns-then-begun c = rw c.if-begun.true c.put_change.ensures
+
+pub put_start-requires : goal.put_start-requires
+put_start-requires c = (c.requires.1.0, subst (λ l. Room c.args.at l c.args.out.now) (adds_start c.args.begun c.args.v (record { time = c.args.t; shown = c.args.w }) c.if-begun.false c.if-t-eq0.true) c.requires.1.1)
+
+pub returns-then-t-eq0 : goal.returns-then-t-eq0
+unfolding turn
+returns-then-t-eq0 c = rw (c.if-begun.false, eq-eqb c.args.t 0 c.if-t-eq0.true) c.put_start.ensures
+
+pub put_start-next-requires : goal.put_start-next-requires
+put_start-next-requires c =
+    let e = adds_both c.args.begun c.args.v (record { time = c.args.t; shown = c.args.w }) c.if-begun.false c.if-t-eq0.false in
+    (c.requires.0, first_room (start c.args.v) (change c.args.v (record { time = c.args.t; shown = c.args.w })) (subst (λ l. Room c.args.at l c.args.out.now) (e) c.requires.1.1))
+
+pub put_change-requires-2 : goal.put_change-requires-2
+put_change-requires-2 c =
+    let e = adds_both c.args.begun c.args.v (record { time = c.args.t; shown = c.args.w }) c.if-begun.false c.if-t-eq0.false in
+    (c.requires.1.0, next_room (change c.args.v (record { time = c.args.t; shown = c.args.w })) c.put_start-next.ensures (subst (λ l. Room c.args.at l c.args.out.now) (e) c.requires.1.1))
+
+pub returns : goal.returns
+unfolding turn
+returns c =
+    rw (c.if-begun.false, ne_eqb c.args.t 0 c.if-t-eq0.false)
+    (c.put_start-next.ensures then c.put_change-2.ensures)

@@ -1,0 +1,6 @@
+-- `waves::writing::shown_by` meets its contract: field by field. Assumes nothing.
+use borrow.Author.Rules.{rules}
+use Rattle.waves.proofs.writing.shown_by.Goals as goal
+
+pub returns : goal.returns
+returns c = (rw c.wire_of.ensures.0, c.wire_of.ensures.1)
