@@ -6,15 +6,15 @@ use Rattle.lines.proofs.Text.+number.Goals as goal
 
 pub byte-requires : goal.byte-requires
 byte-requires t c =
-    let one = one_digit c.args.n c.if-n-lt10.true in omega (arith, c.requires.1, ap length one)
+    let one = one_digit c.args.n c.if-n-lt10.true in omega (arith, c.requires, ap length one)
 
 pub number-requires : goal.number-requires
 number-requires t c =
-    let more = more_digits c.args.n c.if-n-lt10.false in (omega (arith, c.requires.0), omega (arith, c.requires.1))
+    let more = more_digits c.args.n c.if-n-lt10.false in (omega arith, omega (arith, c.requires))
 
 pub byte-requires-2 : goal.byte-requires-2
 byte-requires-2 t c =
-    let more = more_digits c.args.n c.if-n-lt10.false in omega (arith, c.requires.1, c.number.ensures.fits)
+    let more = more_digits c.args.n c.if-n-lt10.false in omega (arith, c.requires, c.number.ensures.fits)
 
 pub returns-then-n-lt10 : goal.returns-then-n-lt10
 returns-then-n-lt10 t c = rw (one_digit c.args.n c.if-n-lt10.true) c.byte.ensures
