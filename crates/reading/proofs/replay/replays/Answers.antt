@@ -42,12 +42,12 @@ pub overflow_add-size : goal.overflow_add-size
 overflow_add-size c =
     let v = c.loop-left in
     let same = c.goes_on_with.ensures.same (not-false _ (ap not c.if-not-goes_on_with.false)) in
-    omega (arith, reaches v.d v.invariant.0 c.next_piece-x.ensures same, c.well-formed.1.1.1.0.0)
+    omega (arith, reaches v.d v.invariant.0 c.next_piece-x.ensures same)
 
 pub overflow_add-at : goal.overflow_add-at
 overflow_add-at c =
     let v = c.loop-left in
-    omega (arith, within c.args.s.now v.at v.d c.next_piece-x.ensures v.invariant.0.served, c.well-formed.0.0)
+    omega (arith, within c.args.s.now v.at v.d c.next_piece-x.ensures v.invariant.0.served)
 
 pub loop-left-smaller : goal.loop-left-smaller
 loop-left-smaller c =

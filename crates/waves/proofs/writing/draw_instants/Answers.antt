@@ -36,7 +36,7 @@ add_turn-size-requires c =
     )
 
 pub overflow_add-at : goal.overflow_add-at
-overflow_add-at c = omega (arith, reads_on c.loop-left.invariant c.advance-x.ensures c.if-x.false, c.well-formed.0.0)
+overflow_add-at c = omega (arith, reads_on c.loop-left.invariant c.advance-x.ensures c.if-x.false)
 
 pub overflow_sub-left : goal.overflow_sub-left
 overflow_sub-left c = omega (arith, c.loop-left-test.true)
