@@ -29,7 +29,7 @@ pub slice_bounds-goes_on_with-end : goal.slice_bounds-goes_on_with-end
 slice_bounds-goes_on_with-end c = sym (same_slice c.next_piece-x.ensures ∙ c.loop-left.invariant.1)
 
 pub goes_on_with-requires : goal.goes_on_with-requires
-goes_on_with-requires c = let v = c.loop-left in (v.invariant.0.within, whole_piece v.d v.invariant.0 c.next_piece-x.ensures)
+goes_on_with-requires c = let v = c.loop-left in record { at_in_bounds = v.invariant.0.within; n_in_bounds = whole_piece v.d v.invariant.0 c.next_piece-x.ensures; }
 
 pub returns-then-not-goes_on_with : goal.returns-then-not-goes_on_with
 returns-then-not-goes_on_with c =

@@ -5,11 +5,6 @@ use Rattle.waves.specs.Samples.{seen}
 use Rattle.waves.specs.Drawing.{run_rest}
 use Rattle.waves.proofs.Drawing.{Drawing, begins, ends, spent, at_the_end, half_before, half_now, reads_on, room, moves}
 use borrow.Author.Rules.{rules}
-use Rattle.waves.proofs.writing.draw_instants.Reads as reads
-use Rattle.waves.proofs.writing.draw_instants.Lts as lts
-use Rattle.run.proofs.advance.Reads as advance-reads
-use Rattle.waves.proofs.writing.add_turn.Reads as add-turn-reads
-use Rattle.waves.proofs.writing.shown.Reads as shown-reads
 use Rattle.waves.proofs.writing.draw_instants.Given as goal
 
 abbrev pub invariant-loop-left : goal.invariant-loop-left
