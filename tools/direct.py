@@ -228,12 +228,10 @@ CALLS = (
     Call("say(dispatcher::raised(4294967296 * a as u64 + b as u64))", raised, halves_of_a_ticket),
 )
 
-NEEDS = ("dispatcher", "entries", "guarantees", "record_lines", "rules", "run", "sets", "words", "io", "libc")
+NEEDS = ("dispatcher", "entries", "guarantees", "record_lines", "rules", "run", "sets", "words", "streams")
 
 SOURCE = """
 use entries::Entry;
-use libc::STDIN_FILENO;
-use libc::STDOUT_FILENO;
 use entries::RecordEntry;
 use record_lines::Filled;
 
@@ -271,11 +269,11 @@ fn read(s: &[u8], at: usize) -> u32 {
     low + 65536 * (s[at + 2] as u32 + 256 * s[at + 3] as u32)
 }
 
-fn write(bytes: &[u8]) {
-    io::write_all(STDOUT_FILENO, bytes);
+fn write(rt: HostRuntime, bytes: &[u8]) {
+    streams::write(rt, b"direct", bytes);
 }
 
-fn say(n: u64) {
+fn say(rt: HostRuntime, n: u64) {
     let mut out = [0u8; 8];
     let mut left = n;
     let mut i = 0;
@@ -284,33 +282,33 @@ fn say(n: u64) {
         left /= 256;
         i += 1;
     }
-    write(&out);
+    write(rt, &out);
 }
 
-fn say_record_entry(entry: RecordEntry) {
+fn say_record_entry(rt: HostRuntime, entry: RecordEntry) {
     match entry {
-        RecordEntry::MalformedRecord(number) => say(number as u64),
-        RecordEntry::JobDone(_) => say(0),
-        RecordEntry::IntervalEnded(_) => say(0),
-        RecordEntry::ReleaseSkipped(_) => say(0),
+        RecordEntry::MalformedRecord(number) => say(rt, number as u64),
+        RecordEntry::JobDone(_) => say(rt, 0),
+        RecordEntry::IntervalEnded(_) => say(rt, 0),
+        RecordEntry::ReleaseSkipped(_) => say(rt, 0),
     }
 }
 
-fn say_entry(entry: Entry) {
+fn say_entry(rt: HostRuntime, entry: Entry) {
     match entry {
-        Entry::Malformed(number) => say(number as u64),
-        Entry::TaskEntry(_) => say(0),
-        Entry::SpacingEntry(_) => say(0),
-        Entry::ReleaseEntry(_) => say(0),
+        Entry::Malformed(number) => say(rt, number as u64),
+        Entry::TaskEntry(_) => say(rt, 0),
+        Entry::SpacingEntry(_) => say(rt, 0),
+        Entry::ReleaseEntry(_) => say(rt, 0),
     }
 }
 
-fn say_filled(filled: Filled) {
-    say(filled.len as u64);
-    say(filled.next as u64);
+fn say_filled(rt: HostRuntime, filled: Filled) {
+    say(rt, filled.len as u64);
+    say(rt, filled.next as u64);
 }
 
-fn call(which: u8, a: u32, b: u32, s: &[u8], lent: &mut [u8]) {
+fn call(rt: HostRuntime, which: u8, a: u32, b: u32, s: &[u8], lent: &mut [u8]) {
     let task = (b % 256) as u8;
     let at = b as usize;
     let room = a as usize;
@@ -318,19 +316,19 @@ fn call(which: u8, a: u32, b: u32, s: &[u8], lent: &mut [u8]) {
 ARMS
         _ => {}
     }
-    write(lent);
+    write(rt, lent);
 }
 
-fn main() {
+fn main(rt: HostRuntime) {
     let mut input = [0u8; 1024];
     let mut lent = [FILLu8; MOST_LENT];
-    let count = io::read_full(STDIN_FILENO, &mut input);
+    let count = streams::fill(rt, b"direct", &mut input, 0).count;
     let a = read(&input, 1);
     let b = read(&input, 5);
-    call(input[0], a, b, &input[9..count], &mut lent);
+    call(rt, input[0], a, b, &input[9..count], &mut lent);
 }
 """
-ARMS = "\n".join(f"        {which} => {call.rattle}," for which, call in enumerate(CALLS))
+ARMS = "\n".join(f"        {which} => {call.rattle.replace('(', '(rt, ', 1)}," for which, call in enumerate(CALLS))
 SOURCE = SOURCE.replace("ARMS", ARMS).replace("FILL", str(FILL)).replace("MOST_LENT", str(MOST_LENT))
 
 

@@ -8,8 +8,8 @@ reads the same files and passes over what it does not know.
 import re
 from typing import NamedTuple, Optional
 
-# What only the prover reads of a source file: contracts, each up to its matching brace, and the names that they use.
-CONTRACT = re.compile(r"\b(?:requires|ensures)\s*\{")
+# What only the prover reads of a source file: contracts, each with its name up to its matching brace, and the names that they use.
+CONTRACT = re.compile(r"\b(?:requires|ensures)(?:\s+\w+)?\s*\{")
 GHOST_ITEM = re.compile(r"^\s*ghost use [^;]*;\n", re.MULTILINE)
 BRACE = re.compile(r"[{}]")
 

@@ -3,7 +3,7 @@
     python3 -m tools.measure [NAME..]        NAME is a crate, or an edit as CRATE/LABEL
     python3 -m tools.measure --gate          those that the gate tries
 
-Each edit of code is made to a copy of the sources, the programs are built with no proof, and what those that reach the edit's crate
+Each edit of code is made to a copy of the sources, and the programs are run with no proof (tools/unproved.py): what those that reach the edit's crate
 write is compared with the simulator: on random and damaged inputs, on inputs at the limits, and for some functions in direct calls. An
 edit with no result that differs needs a line `why:` in its file, which says why the promise that it breaks is for other states than
 those that inputs and calls make. An edit of a statement changes no program: the statement is tried on the simulator's histories, and one
@@ -12,10 +12,14 @@ that no run breaks needs such a line too (tools/statements.py).
 
 import argparse
 import functools
+import os
 import pathlib
-import subprocess
+import queue
+import random
 import sys
 import tempfile
+import threading
+from concurrent.futures import ThreadPoolExecutor
 from typing import NamedTuple
 
 from sim.compare import EXPECTED, inputs
@@ -25,16 +29,15 @@ from sim.lines import refusal_line
 from sim.reading import read
 from sim.waveform import dump
 from tools import direct, edits, limits, statements
+from tools.harness import BEHIND
 from tools.unproved import RUNS, NotBuilt, Workshop
 
 ROOT = pathlib.Path(__file__).resolve().parents[1]
 
 SEED = 1
 
-# As in the driver: what it lays into the lent slice, how many bytes behind the slice it shows, and after how many late runs it stops.
+# What is laid into the lent slice.
 FILL = b"\xa5"
-BEHIND = 64
-MOST_LATE = 3
 
 # By how many bytes the lent slices are longer than the record that is to go into them.
 SPARE = (-1, 0, 1, 400)
@@ -58,7 +61,7 @@ def dump_of(data):
 
 
 def told(write, room):
-    """What the driver writes for a function for C: its number, the value that it tells, and the lent bytes."""
+    """What is written for a function for C: its number, the value that it tells, and the lent bytes."""
     memory = FILL * (room + BEHIND)
     try:
         written = write(room)
@@ -68,7 +71,7 @@ def told(write, room):
 
 
 def lent(write, spare):
-    """A slice about as long as what a function writes, and what the driver writes for it."""
+    """A slice about as long as what a function writes, and what is written for it."""
     try:
         room = max(0, len(write()) + spare)
     except Refused:
@@ -130,38 +133,40 @@ class Results(NamedTuple):
     late: int
 
 
-def ended_early(text):
-    """The driver's lines: which runs a signal ended, and how."""
-    return {int(number): how for number, how in (line.split() for line in text.splitlines())}
-
-
-def tally(program, expected, early, output):
-    """The results of a program's runs; `output` gives what a run wrote."""
-    late = sum(how == "late" for how in early.values())
-    made = max(early) + 1 if late == MOST_LATE else len(expected)
-    differ = sum(number in early or output(number) != expected[number] for number in range(made))
-    return Results(program, made, differ, len(early) - late, late)
+def tally(runs):
+    """The results of each program, of runs as (program, number, how it went)."""
+    counts = {}
+    for program, _, how in runs:
+        made, differ, crashed, late = counts.get(program, (0, 0, 0, 0))
+        counts[program] = (made + 1, differ + (how != "expected"), crashed + (how == "crashed"), late + (how == "late"))
+    return [Results(program, *counts[program]) for program in RUNS if program in counts]
 
 
 class Bench:
-    """The programs' inputs in a folder, and what is expected for each."""
+    """The programs' inputs in a folder, with what is expected for each, in an order in which those of all programs are mixed."""
 
     def __init__(self, folder, count):
-        self.folder, self.expected = folder, {}
-        (folder / "outputs").mkdir()
-        for program in RUNS:
-            (folder / program).mkdir()
-            found = cases(program, count)
-            for number, (data, _) in enumerate(found):
-                (folder / program / str(number)).write_bytes(data)
-            self.expected[program] = [expected for _, expected in found]
+        self.folder, self.made, self.lock = folder, {}, threading.Lock()
+        found = [(program, number, *case) for program in RUNS for number, case in enumerate(cases(program, count))]
+        random.Random(SEED).shuffle(found)
+        self.names = {program: [] for program in RUNS}
+        (folder / "all").mkdir()
+        for rank, (program, number, data, expected) in enumerate(found):
+            path = folder / "all" / f"{rank:06}-{program}-{number}"
+            for ending, text in (("", data), (".args", f"{program}\n".encode()), (".stdout", expected)):
+                path.with_name(path.name + ending).write_bytes(text)
+                self.names[program].append(path.name + ending)
 
-    def run(self, driver, program):
-        """Run a program on its inputs and compare."""
-        expected, outputs = self.expected[program], self.folder / "outputs"
-        command = [driver, program, self.folder / program, outputs, str(len(expected))]
-        done = subprocess.run(command, stdout=subprocess.PIPE, check=True, text=True)
-        return tally(program, expected, ended_early(done.stdout), lambda number: (outputs / str(number)).read_bytes())
+    def cases(self, programs):
+        """A folder with the cases of some programs."""
+        with self.lock:
+            folder = self.folder / "-".join(programs)
+            if folder not in self.made:
+                folder.mkdir()
+                for name in (name for program in programs for name in self.names[program]):
+                    os.link(self.folder / "all" / name, folder / name)
+                self.made[folder] = True
+            return folder
 
 
 # What is said of each edit.
@@ -185,40 +190,58 @@ def judged(all_results, why):
 
 
 def measured(edit, workshop, bench, briefly=False):
-    """Build what an edit makes of the programs, and run those that it may change, or only as many as it takes to see that it is wrong."""
+    """Run what an edit makes of the programs that it may change, or only as many runs as it takes to see that it is wrong."""
     files = edits.edited_files(edit, lambda file: workshop.original(edit.crate, file))
+    programs = workshop.reached(edit.crate)
+    if not programs:
+        return []
     workshop.put(edit.crate, files)
     try:
-        driver = workshop.build()
+        return tally(workshop.run(bench.cases(programs), briefly))
     finally:
         workshop.put(edit.crate, {file: workshop.original(edit.crate, file) for file in files})
-    all_results = []
-    for program in workshop.reached(edit.crate):
-        all_results.append(bench.run(driver, program))
-        if briefly and all_results[-1].differ:
-            break
-    return all_results
 
 
-def of_edit(crate, label, text, workshop, bench, briefly=False):
-    """The kind of an edit and what is said of it."""
+def of_program(edit, workshops, bench, briefly):
+    """The kind of an edit of code and what is said of it. One workshop is taken for it, and put back."""
+    workshop = workshops.get()
     try:
-        edit = edits.parse(crate, label, text)
-        if edits.is_statement(edit, lambda file: workshop.original(crate, file)):
-            return statements.judged(edit, edits.edited_files(edit, lambda file: workshop.original(crate, file)), workshop.original)
         return judged(measured(edit, workshop, bench, briefly), edit.why)
     except edits.BadEdit as bad:
         return "error", f"BAD EDIT: {bad}"
     except NotBuilt as bad:
         return "error", f"DOES NOT BUILD: {bad}"
+    finally:
+        workshops.put(workshop)
+
+
+def of_statement(edit, original):
+    """The kind of an edit of a statement and what is said of it."""
+    return statements.judged(edit, edits.edited_files(edit, lambda file: original(edit.crate, file)), original)
+
+
+def of_edits(found, workshops, bench, briefly, original):
+    """The name of each edit, its kind and what is said of it. Those of code are run beside each other."""
+    with ThreadPoolExecutor(workshops.qsize()) as pool:
+        waiting = []
+        for crate, label, text in found:
+            try:
+                edit = edits.parse(crate, label, text)
+                is_statement = edits.is_statement(edit, lambda file, crate=crate: original(crate, file))
+                made = functools.partial(of_statement, edit, original) if is_statement else pool.submit(of_program, edit, workshops, bench, briefly).result
+            except edits.BadEdit as bad:
+                made = functools.partial(lambda bad: ("error", f"BAD EDIT: {bad}"), bad)
+            waiting.append((f"{crate}/{label}", made))
+        for name, made in waiting:
+            yield name, *made()
 
 
 def as_they_stand(workshop, bench):
     """Hold the programs and the claim as they stand to the simulator: what differs there is no edit's doing."""
-    driver = workshop.build()
-    all_results = [bench.run(driver, program) for program in RUNS]
+    all_results = tally(workshop.run(bench.cases(RUNS)))
     print(f"the programs as they stand: {summed(all_results).strip()}", flush=True)
-    return statements.as_they_stand(workshop.original) and all(results.differ == 0 for results in all_results)
+    good = all(results.differ == 0 for results in all_results) and len(all_results) == len(RUNS)
+    return statements.as_they_stand(workshop.original) and good
 
 
 def chosen_edits(names):
@@ -229,14 +252,13 @@ def chosen_edits(names):
     return list(edits.find(ROOT / "crates", names))
 
 
-def measure_all(found, workshop, bench, briefly):
+def measure_all(found, workshops, bench, briefly, original):
     """Print a line for each edit and a summary, and answer whether all is as it should be."""
     width = max((len(f"{crate}/{label}") for crate, label, _ in found), default=0)
     kinds = []
-    for crate, label, text in found:
-        kind, said = of_edit(crate, label, text, workshop, bench, briefly)
+    for name, kind, said in of_edits(found, workshops, bench, briefly, original):
         kinds.append(kind)
-        print(f"{f'{crate}/{label}':{width}}  {said}", flush=True)
+        print(f"{name:{width}}  {said}", flush=True)
     counts = {kind: kinds.count(kind) for kind in ("differs", "reason", "statement", "error")}
     print(f"{counts['differs']} wrong programs differ, {counts['reason']} with a reason why none does, "
           f"{counts['statement']} statements broken, {counts['error']} errors")
@@ -252,12 +274,14 @@ def main(arguments=None):
     chosen = parser.parse_args(arguments)
     found = list(edits.find(ROOT / "crates", folders=("must-fail",))) if chosen.gate else chosen_edits(chosen.names)
     with tempfile.TemporaryDirectory() as folder:
-        for name in ("sources", "runs"):
-            (pathlib.Path(folder) / name).mkdir()
+        (pathlib.Path(folder) / "runs").mkdir()
         try:
-            workshop = Workshop(ROOT, pathlib.Path(folder) / "sources")
+            workshops = queue.SimpleQueue()
+            made = [Workshop(ROOT, pathlib.Path(folder) / f"sources{number}") for number in range(os.cpu_count() or 1)]
+            for workshop in made:
+                workshops.put(workshop)
             bench = Bench(pathlib.Path(folder) / "runs", chosen.count)
-            good = as_they_stand(workshop, bench) and measure_all(found, workshop, bench, chosen.gate or chosen.briefly)
+            good = as_they_stand(made[0], bench) and measure_all(found, workshops, bench, chosen.gate or chosen.briefly, made[0].original)
         except NotBuilt as bad:
             sys.exit(f"the programs cannot be built: {bad}")
     return 0 if good else 1

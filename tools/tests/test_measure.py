@@ -10,14 +10,14 @@ from sim.files import record
 from sim.sessions import session_lines
 from tools import direct, limits
 from tools.edits import BadEdit, Change, code, edited_files, find, is_statement, parse
-from tools.measure import BEHIND, FILL, Results, dump_of, ended_early, exported, judged, lent, list_of, record_of, summed, tally, told, waveform
-from tools.unproved import NotBuilt, as_module, dependencies, ground_up, set_apart
+from tools.measure import BEHIND, FILL, Results, dump_of, exported, judged, lent, list_of, record_of, summed, tally, told, waveform
+from tools.unproved import NotBuilt, as_module, dependencies, ground_up, runs_of, until
 
 SOURCE = """ghost use a.{b};
 // A comment.
 pub fn f(x: u8) -> u8
-    requires { ⌜ x ≤ {1} ⌝ }
-    ensures { λ r. ⌜ r ≡ x ⌝ }
+    requires low { x ≤ {1} }
+    ensures { result ≡ x }
 {
     if x == 1 { 1 } else { x }
 }
@@ -82,8 +82,8 @@ class Statements(unittest.TestCase):
         self.assertEqual(code(SOURCE).split(), "// A comment. pub fn f(x: u8) -> u8 { if x == 1 { 1 } else { x } }".split())
 
     def test_definitions_and_contracts_are_statements(self):
-        self.assertTrue(self.statement("specs/Lib.antt", "r ≡ x", "r ≡ 1"))
-        self.assertTrue(self.statement("src/lib.rt", "r ≡ x", "r ≡ 1"))
+        self.assertTrue(self.statement("specs/Lib.antt", "result ≡ x", "result ≡ 1"))
+        self.assertTrue(self.statement("src/lib.rt", "result ≡ x", "result ≡ 1"))
         self.assertFalse(self.statement("src/lib.rt", "x == 1", "x == 2"))
 
     def test_the_old_text_stands_there_once(self):
@@ -98,28 +98,34 @@ class Building(unittest.TestCase):
         self.assertEqual(needs, {"a": [], "b": ["a"], "c": ["b", "a"]})
         self.assertEqual(ground_up(["c"], needs), ["a", "b", "c"])
 
-    def test_a_program_exports_its_main(self):
-        self.assertEqual(as_module("fn main() {\n}\n", "p"), '#[no_mangle]\npub extern "C" fn p_main() {\n}\n')
+    def test_a_static_library_is_named_by_its_first_word(self):
+        self.assertEqual(dependencies("c staticlib: a\n"), {"c": ["a"]})
+
+    def test_a_program_is_a_module_with_its_main(self):
+        self.assertEqual(as_module("#![tactic(auto)]\nfn main(rt: HostRuntime) {\n}\n", "p"), "pub fn main_of_p(rt: HostRuntime) {\n}\n")
         with self.assertRaises(NotBuilt):
             as_module("fn start() {\n}\n", "p")
 
-    def test_a_module_with_the_name_of_a_library_is_called_otherwise(self):
-        lib = "mod lines;\nmod lines_of;\npub use lines::put;\n"
-        self.assertEqual(set_apart("src/lib.rt", lib, ["lines"]), ("src/lib.rt", "mod lines_inside;\nmod lines_of;\npub use lines_inside::put;\n"))
-        # elsewhere the bare name is the library's
-        self.assertEqual(set_apart("src/lines.rt", "use lines::Text;\nuse crate::lines::put;\n", ["lines"]),
-                         ("src/lines_inside.rt", "use lines::Text;\nuse crate::lines_inside::put;\n"))
-        self.assertEqual(set_apart("src/lib.rt", lib, []), ("src/lib.rt", lib))
+    def test_the_lines_that_tell_of_runs(self):
+        lines, said = ["case=000000-p-12 run=ended status=0 runners=1 output=expected proved=no\n", "warning\n",
+                       "case=000001-q-3 run=ended status=0 runners=1 output=differs proved=no\n", "case=000002-p-0 run=fault at src/lib.rt:1:1 proved=no\n",
+                       "case=000003-p-1 run=no-answer proved=no\n"], []
+        self.assertEqual(list(runs_of(lines, said)), [("p", 12, "expected"), ("q", 3, "differs"), ("p", 0, "crashed"), ("p", 1, "late")])
+        self.assertEqual(said, ["warning\n"])
 
 
 class Counting(unittest.TestCase):
     def test_runs_that_differ_or_crash_count(self):
-        early = ended_early("1 crashed\n")
-        self.assertEqual(tally("p", [b"0", b"1", b"2"], early, {0: b"0", 2: b"3"}.get), Results("p", 3, 2, 1, 0))
+        runs = [("reader", 0, "expected"), ("reader", 1, "crashed"), ("gateway", 0, "expected"), ("reader", 2, "differs")]
+        self.assertEqual(tally(runs), [Results("gateway", 1, 0, 0, 0), Results("reader", 3, 2, 1, 0)])
 
-    def test_the_driver_stops_at_the_third_late_run(self):
-        early = ended_early("0 late\n2 late\n3 late\n")
-        self.assertEqual(tally("p", [b""] * 9, early, {1: b""}.get), Results("p", 4, 3, 0, 3))
+    def test_nothing_is_run_behind_the_third_late_run(self):
+        runs = [("reader", number, how) for number, how in enumerate(("late", "expected", "late", "late", "expected"))]
+        self.assertEqual(tally(until(runs, False)), [Results("reader", 4, 3, 0, 3)])
+
+    def test_briefly_is_up_to_the_first_that_differs(self):
+        runs = [("reader", number, how) for number, how in enumerate(("expected", "differs", "expected"))]
+        self.assertEqual(list(until(runs, True)), runs[:2])
 
     def test_a_line_says_where_results_differ(self):
         all_results = [Results("gateway", 10, 2, 1, 0), Results("session", 10, 0, 0, 0), Results("direct", 3, 3, 0, 3)]
