@@ -123,7 +123,7 @@ for command in copy-in break-off copy-out run copy-in-and-run again; do
 done
 
 # the drivers, in C and in Rust: what each core printed is what `gateway` prints for its releases
-[ -x target/bin/gateway ] || rt check gateway >"$inputs/log" 2>&1 || {
+[ -x target/bin/gateway ] || ./gateway build >"$inputs/log" 2>&1 || {
     cat "$inputs/log"
     exit 1
 }
