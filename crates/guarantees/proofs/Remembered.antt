@@ -19,7 +19,6 @@ use Rattle.rules.specs.Calls.{refusal, served, instant, opened}
 use Rattle.guarantees.proofs.Cases.{held_at}
 use Rattle.guarantees.proofs.Steps.{Sub}
 use Rattle.guarantees.proofs.Releases.{taken_not_pending, passed}
-use Rattle.guarantees.proofs.Waiting.{runs}
 use Rattle.guarantees.proofs.Blocking.{Bounded, bounded_a, bounded_e, bounded_g, bounded_opened, bounded_quiet}
 use Rattle.guarantees.proofs.Places.{Parted, b_moves, to_b, to_e}
 use Rattle.guarantees.proofs.Closings.{done_so}

@@ -4,7 +4,6 @@ use Rattle.guarantees.specs.Types.{◌≡◌, refl, sym, ap, ◌∙◌, subst, B
 use native.Mathlib.Omega.{arith}
 use borrow.Author.Tests.{eqb-false}
 use lib.Dec.{eqb}
-use lib.ListN.{get_or}
 use Rattle.table.specs.Table.{copyin_length, execution_length, copyout_length}
 use Rattle.sets.specs.Sets.{member, union, intersection, bit}
 use Rattle.sets.proofs.Laws.{united, none, by-test, clash, intersection_left, empty, union_small}

@@ -9,7 +9,7 @@ use lib.Dec.{eqb}
 use lib.ListN.{get_or}
 use Rattle.table.specs.Table.{copyin_length}
 use Rattle.sets.specs.Sets.{member, union, intersection, insert, remove}
-use Rattle.sets.proofs.Laws.{none, by-test, clash, union_left, intersection_in, intersection_left, intersection_right, insert_same, insert_other, remove_in}
+use Rattle.sets.proofs.Laws.{by-test, clash, union_left, intersection_in, intersection_left, intersection_right, insert_same, insert_other, remove_in}
 use Rattle.guarantees.proofs.Highest.{Best}
 use Rattle.guarantees.proofs.Walk.{walk}
 use Rattle.guarantees.specs.History.{history, Event, begin_events, happens}

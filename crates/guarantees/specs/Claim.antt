@@ -12,7 +12,7 @@ use Rattle.guarantees.specs.Releases.{Spaced}
 use Rattle.guarantees.specs.Intervals.{Proceeds, came, Cause}
 use Rattle.guarantees.specs.Copying.{Copies}
 use Rattle.guarantees.specs.Entries.{EntriesTell}
-use Rattle.guarantees.specs.Figure.{PlainFigure, Figure}
+use Rattle.guarantees.specs.Figure.{Figure}
 use Rattle.guarantees.specs.Counting.{CountsRise}
 use Rattle.guarantees.specs.Choosing.{FirstCome}
 use Rattle.guarantees.specs.States.{PlainState}

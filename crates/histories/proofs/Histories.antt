@@ -1,7 +1,7 @@
 -- The claim accepts the plans' histories, since the theorem gives it of their calls; and each wrong history goes against a line of it.
 use Prim.Native.Nat.{◌+◌, ◌*◌, ℕ, ◌≤◌, ◌<◌}
 use mathlib.Core.Path.{◌≡◌, refl, sym, ap, ◌∙◌, subst}
-use mathlib.Core.Bool.{Bool, true, false, cond, ◌&&◌, ◌||◌, true≢false, false≢true}
+use mathlib.Core.Bool.{Bool, true, false, cond, ◌&&◌, true≢false, false≢true}
 use mathlib.Core.List.{List, [], ◌∷◌, ◌++◌}
 use Rattle.table.specs.declared.Table.{Table}
 use Rattle.entries.specs.declared.JobEntry.{JobEntry}

@@ -1,5 +1,5 @@
 -- What the functions within promise: the releases that a record tells, noted as numbers in a lent slice, and the input that they make.
-use Rattle.std.specs.Prelude.{◌≡◌, ◌⊎◌, ◌+◌, ◌*◌, ◌/◌, ◌%◌, ◌^◌, ◌≤◌, ◌<◌, length, take, drop}
+use Rattle.std.specs.Prelude.{◌≡◌, ◌⊎◌, ◌+◌, ◌*◌, ◌/◌, ◌%◌, ◌^◌, ◌≤◌, ◌<◌, length, take}
 use Rattle.entries.specs.Entries.{size}
 use Rattle.entries.specs.Limits as limits
 use Rattle.table.specs.declared.Head.{Head}

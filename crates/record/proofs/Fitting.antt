@@ -13,7 +13,7 @@ use Rattle.rules.specs.Calls.{opened}
 use Rattle.guarantees.proofs.Highest.{Best, best}
 use Rattle.guarantees.proofs.Cases.{held_at, copyin_cases, copyout_cases, processor_cases, d_cases, e_cases, g_cases}
 use Rattle.entries.specs.RoundTrip.{TaskFits, JobFits, IntervalFits, EntryFits}
-use Rattle.record.specs.Types.{cond, ◌++◌, Release, RecordEntry, ReleaseSkipped, Done, NoJob, Job, Closing, Unclosed, BeforeReleases, AfterReleases}
+use Rattle.record.specs.Types.{cond, ◌++◌, RecordEntry, ReleaseSkipped, Done, NoJob, Job, Closing, Unclosed, BeforeReleases, AfterReleases}
 use Rattle.record.specs.Fits.{EntriesFit}
 
 -- ---- What fits

@@ -8,7 +8,7 @@ use Rattle.table.specs.Head.{head_of}
 use Rattle.rules.specs.Instant.{due, sooner}
 use Rattle.rules.specs.Calls.{opened, opening, row, serves, after_call}
 use Rattle.rules.specs.declared.Call.{Call}
-use Rattle.rules.specs.declared.Call.TheVariants.{Instant, Mark}
+use Rattle.rules.specs.declared.Call.TheVariants.{Instant}
 use Rattle.guarantees.specs.History.{after_calls, history}
 use Rattle.guarantees.specs.Queries.{total, is_take}
 use Rattle.guarantees.specs.Releases.{Balance}

@@ -3,7 +3,7 @@ use mathlib.Core.Path.{◌≡◌, refl}
 use Prim.Native.String.{String}
 use Rattle.lines.specs.Lines.{digits, decimal}
 use Rattle.waves.specs.Types.{List, [], ◌∷◌, ◌++◌, ℕ}
-use Rattle.waves.specs.Dump.{Sample, ascii, line, header, wires, wire, all, changed, mark, change, changes, dump}
+use Rattle.waves.specs.Dump.{ascii, line, header, wires, wire, all, changed, mark, change, changes, dump}
 
 unfoldable lines : List String → List ℕ
 lines [] = []

@@ -1,6 +1,5 @@
 -- `exports::gateway_record` meets its contract: what `record::write` answers, as two numbers. Assumes nothing.
 use mathlib.Core.Path.{◌∙◌}
-use borrow.Author.Rules.{rules}
 use Rattle.exports.proofs.gateway_record.Goals as goal
 
 pub returns : goal.returns

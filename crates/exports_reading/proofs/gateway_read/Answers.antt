@@ -4,7 +4,6 @@ use mathlib.Core.List.{List}
 use Prim.Native.Nat.{ℕ}
 use Rattle.record.specs.declared.Outcome.{Outcome}
 use Rattle.reading.specs.Acceptance.{Accepts}
-use borrow.Author.Rules.{rules}
 use Rattle.record.specs.Writing.{outcome_number, outcome_value}
 use Rattle.exports_reading.proofs.gateway_read.Goals as goal
 

@@ -1,6 +1,5 @@
 -- `exports_waves::gateway_waveform` meets its contract: what `waves::write` answers, as two numbers. Assumes nothing.
 use mathlib.Core.Path.{◌∙◌}
-use borrow.Author.Rules.{rules}
 use Rattle.exports_waves.proofs.gateway_waveform.Goals as goal
 
 pub returns : goal.returns

@@ -3,7 +3,6 @@ use Rattle.guarantees.specs.Types.{◌≡◌, ℕ, ◌+◌, ◌-◌, ◌*◌, �
 use Prim.Native.Nat.{◌/◌}
 use native.Mathlib.Omega.{arith}
 use native.Mathlib.Nat.{mul-zero, le-div_iff_mul-le, div-lt_iff_lt-mul}
-use borrow.Author.Rules.{rules}
 use Rattle.guarantees.proofs.planning.held.Goals as goal
 
 -- the last number of 64 bits

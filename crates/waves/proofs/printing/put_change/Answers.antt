@@ -4,7 +4,6 @@ use native.Mathlib.Omega.{arith}
 use Rattle.waves.specs.Printing.{Room}
 use Rattle.waves.specs.Dump.{wires, wire, mark, if_new, change, changed}
 use Rattle.waves.proofs.Laying.{nothing, ◌then◌, first_room, next_room, behind_first, behind_second, change_is}
-use borrow.Author.Rules.{rules}
 use Rattle.waves.proofs.printing.put_change.Goals as goal
 
 pub returns-then-same : goal.returns-then-same

@@ -3,7 +3,6 @@ use mathlib.Core.List.{◌++◌}
 use native.Mathlib.Omega.{arith}
 use Rattle.waves.specs.Dump.{mark, wires, wire, all}
 use Rattle.waves.proofs.Laying.{◌then◌, first_room, next_room, wires_size, wire_size}
-use borrow.Author.Rules.{rules}
 use Rattle.waves.proofs.printing.put_start.Goals as goal
 
 pub put_mark-a-requires : goal.put_mark-a-requires

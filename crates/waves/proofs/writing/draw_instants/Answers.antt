@@ -1,11 +1,7 @@
 -- `waves::draw_instants` meets its contract: what is put so far and what is to come make the rest of the dump. Assumes nothing.
 use native.Mathlib.Omega.{arith}
-use Rattle.rules.specs.Kept.{kept, by_task, beside, read}
 use Rattle.dispatcher.specs.Dispatcher.{state_of}
-use Rattle.waves.specs.Samples.{seen}
-use Rattle.waves.specs.Drawing.{run_rest}
-use Rattle.waves.proofs.Drawing.{Drawing, begins, ends, spent, at_the_end, half_before, half_now, reads_on, room, moves}
-use borrow.Author.Rules.{rules}
+use Rattle.waves.proofs.Drawing.{begins, ends, spent, at_the_end, half_before, half_now, reads_on, room, moves}
 use Rattle.waves.proofs.writing.draw_instants.Goals as goal
 
 pub loop-left-init : goal.loop-left-init
