@@ -117,9 +117,6 @@ pub record Holds (table : Table) (history : List Event) : Type 0 where
       (b : ℕ) × (x.begun ≡ Tick b) × (x.ended ≡ Never) × (x.out ≡ Task n) × (c ≡ b + copyout_length table.columns n)
   -- a task has one pending job at a time, each taken, executed, copied out and completed once; 4/13: and one release that waits behind it
   pub each_task : (n : ℕ) → OneAtATime n history
-  -- a release that waits is not taken too: it comes after the last one that was taken or set waiting
-  pub each_deferral : (before after : List Event) (n t u : ℕ) → history ≡ before ++ (Defers n t ∷ after) →
-      last_released n before ≡ Tick u → u < t
   -- 8/13: a task with a spacing has its releases that far apart
   pub each_spacing : (n : ℕ) → n < 32 → member n table.spaced ≡ true → Spaced n table history
   -- what occurs at an instant says its tick
