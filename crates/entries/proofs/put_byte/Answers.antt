@@ -4,4 +4,4 @@ use borrow.Author.Rules.{rules}
 use Rattle.entries.proofs.put_byte.Goals as goal
 
 pub returns : goal.returns
-returns c = put_byte_there c.args.b c.args.at c.args.out.now c.put_u8.new.0 (search rules) (search rules) c.put_u8.ensures.1
+returns c = put_byte_there c.args.b c.args.at c.args.out.now c.put_u8.new.out (search rules) (search rules) c.put_u8.ensures.1

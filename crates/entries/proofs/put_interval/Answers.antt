@@ -16,9 +16,9 @@ unfolding interval_bytes bytes_of choice_bytes
 returns c =
     let a = c.args in
     let old = a.out.now in
-    let f1 = next ([]) old old (17 ∷ []) 0 refl c.put_byte.new.0 c.put_byte.ensures refl in
-    let f2 = next (17 ∷ []) old c.put_byte.new.0 (bytes_of 8 a.e.begin) 1 refl c.put_time.new.0 c.put_time.ensures f1 in
-    let f3 = next ((17 ∷ []) ++ (bytes_of 8 a.e.begin)) old c.put_time.new.0 (bytes_of 8 a.e.end) 9 refl c.put_time-2.new.0 c.put_time-2.ensures f2 in
-    let f4 = next (((17 ∷ []) ++ (bytes_of 8 a.e.begin)) ++ (bytes_of 8 a.e.end)) old c.put_time-2.new.0 (choice_bytes a.e) 17 refl c.put_choices.new.0
+    let f1 = next ([]) old old (17 ∷ []) 0 refl c.put_byte.new.out c.put_byte.ensures refl in
+    let f2 = next (17 ∷ []) old c.put_byte.new.out (bytes_of 8 a.e.begin) 1 refl c.put_time.new.out c.put_time.ensures f1 in
+    let f3 = next ((17 ∷ []) ++ (bytes_of 8 a.e.begin)) old c.put_time.new.out (bytes_of 8 a.e.end) 9 refl c.put_time-2.new.out c.put_time-2.ensures f2 in
+    let f4 = next (((17 ∷ []) ++ (bytes_of 8 a.e.begin)) ++ (bytes_of 8 a.e.end)) old c.put_time-2.new.out (choice_bytes a.e) 17 refl c.put_choices.new.out
     c.put_choices.ensures f3 in
-    fits (interval_bytes a.e) old c.put_choices.new.0 (search rules) f4
+    fits (interval_bytes a.e) old c.put_choices.new.out (search rules) f4

@@ -16,13 +16,13 @@ unfolding job_bytes bytes_of
 returns c =
     let a = c.args in
     let old = a.out.now in
-    let f1 = next ([]) old old (16 ∷ []) 0 refl c.put_byte.new.0 c.put_byte.ensures refl in
-    let f2 = next (16 ∷ []) old c.put_byte.new.0 (a.e.task ∷ []) 1 refl c.put_byte-2.new.0 c.put_byte-2.ensures f1 in
-    let f3 = next ((16 ∷ []) ++ (a.e.task ∷ [])) old c.put_byte-2.new.0 (bytes_of 8 a.e.release) 2 refl c.put_time.new.0 c.put_time.ensures f2 in
-    let f4 = next (((16 ∷ []) ++ (a.e.task ∷ [])) ++ (bytes_of 8 a.e.release)) old c.put_time.new.0 (bytes_of 8 a.e.start) 10 refl c.put_time-2.new.0
+    let f1 = next ([]) old old (16 ∷ []) 0 refl c.put_byte.new.out c.put_byte.ensures refl in
+    let f2 = next (16 ∷ []) old c.put_byte.new.out (a.e.task ∷ []) 1 refl c.put_byte-2.new.out c.put_byte-2.ensures f1 in
+    let f3 = next ((16 ∷ []) ++ (a.e.task ∷ [])) old c.put_byte-2.new.out (bytes_of 8 a.e.release) 2 refl c.put_time.new.out c.put_time.ensures f2 in
+    let f4 = next (((16 ∷ []) ++ (a.e.task ∷ [])) ++ (bytes_of 8 a.e.release)) old c.put_time.new.out (bytes_of 8 a.e.start) 10 refl c.put_time-2.new.out
     c.put_time-2.ensures f3 in
-    let f5 = next ((((16 ∷ []) ++ (a.e.task ∷ [])) ++ (bytes_of 8 a.e.release)) ++ (bytes_of 8 a.e.start)) old c.put_time-2.new.0 (bytes_of 8 a.e.completion) 18
-    refl c.put_time-3.new.0 c.put_time-3.ensures f4 in
-    let f6 = next (((((16 ∷ []) ++ (a.e.task ∷ [])) ++ (bytes_of 8 a.e.release)) ++ (bytes_of 8 a.e.start)) ++ (bytes_of 8 a.e.completion)) old c.put_time-3.new.0
-    (a.e.blocked ∷ []) 26 refl c.put_byte-3.new.0 c.put_byte-3.ensures f5 in
-    fits (job_bytes a.e) old c.put_byte-3.new.0 (search rules) f6
+    let f5 = next ((((16 ∷ []) ++ (a.e.task ∷ [])) ++ (bytes_of 8 a.e.release)) ++ (bytes_of 8 a.e.start)) old c.put_time-2.new.out (bytes_of 8 a.e.completion) 18
+    refl c.put_time-3.new.out c.put_time-3.ensures f4 in
+    let f6 = next (((((16 ∷ []) ++ (a.e.task ∷ [])) ++ (bytes_of 8 a.e.release)) ++ (bytes_of 8 a.e.start)) ++ (bytes_of 8 a.e.completion)) old c.put_time-3.new.out
+    (a.e.blocked ∷ []) 26 refl c.put_byte-3.new.out c.put_byte-3.ensures f5 in
+    fits (job_bytes a.e) old c.put_byte-3.new.out (search rules) f6

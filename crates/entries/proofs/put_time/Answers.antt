@@ -4,4 +4,4 @@ use borrow.Author.Rules.{rules}
 use Rattle.entries.proofs.put_time.Goals as goal
 
 pub returns : goal.returns
-returns c = put_there 8 c.args.v c.args.at c.args.out.now c.put_u64.new.0 (search rules) c.put_u64.ensures.1
+returns c = put_there 8 c.args.v c.args.at c.args.out.now c.put_u64.new.out (search rules) c.put_u64.ensures.1

@@ -15,7 +15,7 @@ unfolding bytes_of
 returns c =
     let a = c.args in
     let old = a.out.now in
-    let f1 = next ([]) old old (a.kind ∷ []) 0 refl c.put_byte.new.0 c.put_byte.ensures refl in
-    let f2 = next (a.kind ∷ []) old c.put_byte.new.0 (a.task ∷ []) 1 refl c.put_byte-2.new.0 c.put_byte-2.ensures f1 in
-    let f3 = next ((a.kind ∷ []) ++ (a.task ∷ [])) old c.put_byte-2.new.0 (bytes_of 8 a.time) 2 refl c.put_time.new.0 c.put_time.ensures f2 in
-    fits (a.kind ∷ a.task ∷ bytes_of 8 a.time) old c.put_time.new.0 (search rules) f3
+    let f1 = next ([]) old old (a.kind ∷ []) 0 refl c.put_byte.new.out c.put_byte.ensures refl in
+    let f2 = next (a.kind ∷ []) old c.put_byte.new.out (a.task ∷ []) 1 refl c.put_byte-2.new.out c.put_byte-2.ensures f1 in
+    let f3 = next ((a.kind ∷ []) ++ (a.task ∷ [])) old c.put_byte-2.new.out (bytes_of 8 a.time) 2 refl c.put_time.new.out c.put_time.ensures f2 in
+    fits (a.kind ∷ a.task ∷ bytes_of 8 a.time) old c.put_time.new.out (search rules) f3

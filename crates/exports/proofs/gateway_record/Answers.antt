@@ -7,4 +7,4 @@ pub returns : goal.returns
 returns c =
     let write = c.write-outcome.ensures in
     let answered = write.answered in
-    (c.number_of_lem.ensures ∙ answered.number, (c.value_of_lem.ensures ∙ answered.value, (answered.wrote.holds, write.claim)))
+    (c.number_of.ensures ∙ answered.number, (c.value_of.ensures ∙ answered.value, (answered.wrote.holds, write.claim)))

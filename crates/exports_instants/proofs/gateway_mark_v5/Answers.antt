@@ -14,4 +14,4 @@ pub returns : goal.returns
 returns c times codes b =
     let a = c.args in
     marked_at (Mark a.task a.mark) (kept times a.sets.now codes) b a.ticket.now (c.mark_refusal-number.ensures times codes b) c.if-number-ne0.false
-    (simp (← c.insert.ensures) (c.Marked-All.ensures times codes b)) c.raised-behind_mark.ensures
+    (simp (← c.insert.ensures) (c.marked_all.ensures times codes b)) c.raised-behind_mark.ensures

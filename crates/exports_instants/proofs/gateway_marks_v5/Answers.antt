@@ -14,4 +14,4 @@ pub returns : goal.returns
 returns c times codes b =
     let a = c.args in
     marked_at (Marks a.set a.mark) (kept times a.sets.now codes) b a.ticket.now (c.marks_refusal-number.ensures times codes b) c.if-number-ne0.false
-    (c.Marked-All.ensures times codes b) c.raised-behind_marks.ensures
+    (c.marked_all.ensures times codes b) c.raised-behind_marks.ensures

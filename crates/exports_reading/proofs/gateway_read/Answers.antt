@@ -15,9 +15,9 @@ pub returns : goal.returns
 returns c =
     let read = c.read-outcome.ensures in
     let wrote = read.read in (
-      c.number_of_lem.ensures ∙ ap outcome_number wrote.outcome_is,
+      c.number_of.ensures ∙ ap outcome_number wrote.outcome_is,
       (
-        c.value_of_lem.ensures ∙ ap outcome_value wrote.outcome_is,
+        c.value_of.ensures ∙ ap outcome_value wrote.outcome_is,
         (wrote.holds, as_read wrote.outcome_is read.accepts),
       ),
     )

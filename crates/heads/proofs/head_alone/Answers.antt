@@ -10,16 +10,16 @@ returns-then-s-eq0 c = simp (eq-eqb _ _ c.if-s-eq0.true, c.refused.ensures)
 
 pub returns-then-head-s : goal.returns-then-head-s
 unfolding head_alone
-returns-then-head-s c = simp (ne_eqb _ _ c.if-s-eq0.false, ← c.head_of-head.ensures, c.enum_told-1.given.1, eq-eqb _ _ c.if-head-s.true)
+returns-then-head-s c = simp (ne_eqb _ _ c.if-s-eq0.false, ← c.head_of-head.ensures, c.in-NoRefusal.is, eq-eqb _ _ c.if-head-s.true)
 
 pub returns-else-head-s : goal.returns-else-head-s
 unfolding head_alone
-returns-else-head-s c = simp (ne_eqb _ _ c.if-s-eq0.false, ← c.head_of-head.ensures, c.enum_told-1.given.1, ne_eqb _ _ c.if-head-s.false, c.refused_at.ensures)
+returns-else-head-s c = simp (ne_eqb _ _ c.if-s-eq0.false, ← c.head_of-head.ensures, c.in-NoRefusal.is, ne_eqb _ _ c.if-head-s.false, c.refused_at.ensures)
 
 pub returns-in-Alone : goal.returns-in-Alone
 unfolding head_alone
-returns-in-Alone c = simp (ne_eqb _ _ c.if-s-eq0.false, ← c.head_of-head.ensures, c.enum_told-in-Alone-1.given.1)
+returns-in-Alone c = simp (ne_eqb _ _ c.if-s-eq0.false, ← c.head_of-head.ensures, c.in-Alone.is)
 
 pub returns-in-AtEntry : goal.returns-in-AtEntry
 unfolding head_alone
-returns-in-AtEntry c = simp (ne_eqb _ _ c.if-s-eq0.false, ← c.head_of-head.ensures, c.enum_told-in-AtEntry-1.given.1)
+returns-in-AtEntry c = simp (ne_eqb _ _ c.if-s-eq0.false, ← c.head_of-head.ensures, c.in-AtEntry.is)

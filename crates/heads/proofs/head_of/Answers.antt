@@ -71,7 +71,7 @@ pub entries-preserved-in-TaskEntry : goal.entries-preserved-in-TaskEntry
 unfolding entry_refusal with_entry marked_with with_task with_lengths
 entries-preserved-in-TaskEntry c =
     let v = c.entries in let s = c.args.s.now in
-    let e = sym c.entry_at-entry.ensures ∙ c.entry-in-TaskEntry-1.given.1 in
+    let e = sym c.entry_at-entry.ensures ∙ c.in-TaskEntry.is in
     let r = sym c.task_refusal-n.ensures ∙ c.if-n-ne0.false in
     let w = is_whole s v.at v.t _ e r in
     let t = c.insert.ensures in (
@@ -102,7 +102,7 @@ pub entries-preserved : goal.entries-preserved
 unfolding entry_refusal with_entry marked_with with_spacing
 entries-preserved c =
     let v = c.entries in let s = c.args.s.now in
-    let e = sym c.entry_at-entry.ensures ∙ c.entry-in-SpacingEntry-1.given.1 in
+    let e = sym c.entry_at-entry.ensures ∙ c.in-SpacingEntry.is in
     let r = sym c.spacing_refusal-n.ensures ∙ c.if-n-ne0-2.false in
     let w = is_whole s v.at v.t _ e r in
     let t = c.insert-in-SpacingEntry.ensures in (
@@ -126,7 +126,7 @@ pub returns-in-Malformed : goal.returns-in-Malformed
 unfolding entry_refusal
 returns-in-Malformed c =
     let v = c.entries in let s = c.args.s.now in
-    let e = sym c.entry_at-entry.ensures ∙ c.entry-1.given.1 in
+    let e = sym c.entry_at-entry.ensures ∙ c.in-Malformed.is in
     c.refused_at.ensures
     ∙ refused s v.at v.t v.marked v.invariant.3 c.if-s-at.false (sym c.is_release.ensures ∙ c.if-is_release.false) _ e _ refl (malformed_number s v.at v.t _ e)
 
@@ -134,7 +134,7 @@ pub returns-in-ReleaseEntry : goal.returns-in-ReleaseEntry
 unfolding entry_refusal
 returns-in-ReleaseEntry c =
     let v = c.entries in let s = c.args.s.now in
-    let e = sym c.entry_at-entry.ensures ∙ c.enum_told-1.given.1 in
+    let e = sym c.entry_at-entry.ensures ∙ c.in-ReleaseEntry.is in
     c.refused_at-in-ReleaseEntry.ensures
     ∙ refused s v.at v.t v.marked v.invariant.3 c.if-s-at.false (sym c.is_release.ensures ∙ c.if-is_release.false) _ e 2 refl (λ h. omega arith)
 
@@ -142,7 +142,7 @@ pub returns-then-n-ne0 : goal.returns-then-n-ne0
 unfolding entry_refusal
 returns-then-n-ne0 c =
     let v = c.entries in let s = c.args.s.now in
-    let e = sym c.entry_at-entry.ensures ∙ c.entry-in-TaskEntry-1.given.1 in
+    let e = sym c.entry_at-entry.ensures ∙ c.in-TaskEntry.is in
     c.refused_at-then-n-ne0.ensures
     ∙ refused s v.at v.t v.marked v.invariant.3 c.if-s-at.false (sym c.is_release.ensures ∙ c.if-is_release.false) _ e _
     (sym c.task_refusal-n.ensures) c.if-n-ne0.true
@@ -151,7 +151,7 @@ pub returns-then-n-ne0-2 : goal.returns-then-n-ne0-2
 unfolding entry_refusal
 returns-then-n-ne0-2 c =
     let v = c.entries in let s = c.args.s.now in
-    let e = sym c.entry_at-entry.ensures ∙ c.entry-in-SpacingEntry-1.given.1 in
+    let e = sym c.entry_at-entry.ensures ∙ c.in-SpacingEntry.is in
     c.refused_at-then-n-ne0-2.ensures
     ∙ refused s v.at v.t v.marked v.invariant.3 c.if-s-at.false (sym c.is_release.ensures ∙ c.if-is_release.false) _ e _
     (sym c.spacing_refusal-n.ensures) c.if-n-ne0-2.true

@@ -3,7 +3,7 @@ use borrow.Author.Rules.{rules}
 use Rattle.lines.proofs.mark_lines.Goals as goal
 
 pub returns-in-MarkRefused : goal.returns-in-MarkRefused
-returns-in-MarkRefused c = rw c.answer-1.given.1 c.refused_call_line.ensures
+returns-in-MarkRefused c = rw c.in-MarkRefused.is c.refused_call_line.ensures
 
 pub returns-in-MarkServed : goal.returns-in-MarkServed
-returns-in-MarkServed c = rw c.enum_told-1.given.1 c.letter_line.ensures
+returns-in-MarkServed c = rw c.in-MarkServed.is c.letter_line.ensures

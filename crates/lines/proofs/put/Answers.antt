@@ -31,7 +31,7 @@ pub loop-i-preserved : goal.loop-i-preserved
 loop-i-preserved c =
     let l = c.loop-i in
     let a = c.args in
-    let b = a.t1.bytes in (
+    let b = a.text.bytes in (
       omega arith,
       l.invariant.1,
       simp length-set l.invariant.2,
@@ -47,5 +47,5 @@ returns c =
     let a = c.args in
     let s = c.shown_len-n in
     let end : l.i ≡ s.result = omega arith in
-    let all = all_copied a.t1 a.out.now s.result s.ensures.0 (omega arith) in
-    (all.0, l.invariant.3 ∙ ap (λ (k : ℕ). take k a.t1.bytes ++ drop k a.out.now) end ∙ all.1)
+    let all = all_copied a.text a.out.now s.result s.ensures.0 (omega arith) in
+    (all.0, l.invariant.3 ∙ ap (λ (k : ℕ). take k a.text.bytes ++ drop k a.out.now) end ∙ all.1)

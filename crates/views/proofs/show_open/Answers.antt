@@ -41,9 +41,9 @@ returns c sets =
       ticks_are =
           three_stored (λ x y z. get_or a.times.now 0 0 ∷ x ∷ y ∷ z ∷ []) 0 1 2 3 (λ x y z n. refl) (λ x y z n. refl) (λ x y z n. refl)
           works.result copies_in copies_out (get_or a.times.now 2 0) (get_or a.times.now 5 0) (get_or a.times.now 4 0)
-          first.0 second.0 third.0;
+          first.ticks_after second.ticks_after third.ticks_after;
       units_are =
           three_stored (λ x y z. 1 ∷ get_or a.codes.now 1 0 ∷ x ∷ y ∷ z ∷ half.result ∷ []) 255 2 3 4 (λ x y z n. refl) (λ x y z n. refl) (λ x y z n. refl)
           works.result copies_in copies_out (get_or a.codes.now 3 0) (get_or a.codes.now 7 0) (get_or a.codes.now 5 0)
-          first.1 second.1 third.1;
+          first.units_after second.units_after third.units_after;
     }

@@ -9,7 +9,7 @@ pub returns-then-number-eq0 : goal.returns-then-number-eq0
 unfolding mark
 returns-then-number-eq0 c =
     let s = c.args in
-    let n = c.mark_refusal-number.ensures s.t1.times s.t1.codes (beside_of s.t1) in
+    let n = c.mark_refusal-number.ensures s.self.times s.self.codes (beside_of s.self) in
     mark_answered _ _ _ _ (simp (← n, eq-eqb _ _ c.if-number-eq0.true, ← c.insert-set.ensures, c.with_marks.ensures.0))
     (simp (← n, eq-eqb _ _ c.if-number-eq0.true, c.with_marks.ensures.1)) (λ f. absurd (f (sym n ∙ c.if-number-eq0.true)))
 
@@ -17,5 +17,5 @@ pub returns : goal.returns
 unfolding mark
 returns c =
     let s = c.args in
-    let n = c.mark_refusal-number.ensures s.t1.times s.t1.codes (beside_of s.t1) in
+    let n = c.mark_refusal-number.ensures s.self.times s.self.codes (beside_of s.self) in
     mark_answered _ _ _ _ (simp (← n, ne_eqb _ _ c.if-number-eq0.false)) (simp (← n, ne_eqb _ _ c.if-number-eq0.false)) (λ f. refl)

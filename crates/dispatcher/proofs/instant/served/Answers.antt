@@ -8,4 +8,4 @@ pub returns : goal.returns
 returns c =
     let s = c.args in
     let x = c.steps.ensures in
-    (is_served (state_of s.t1) s.t s.set x.state (c.occurred_in.ensures ∙ x.reads), c.raised.ensures)
+    (is_served (state_of s.d) s.t s.set x.state (c.occurred_in.ensures ∙ x.reads), c.raised.ensures)

@@ -6,4 +6,4 @@ use Rattle.dispatcher.proofs.mark.with_marks.Goals as goal
 pub returns : goal.returns
 returns c =
     let d = c.args.d in
-    (c.Marked-All.ensures d.times d.codes (beside_of d), c.raised-ticket.ensures)
+    (c.marked_all.ensures d.times d.codes (beside_of d), c.raised-ticket.ensures)

@@ -17,7 +17,7 @@ returns-then-is_over c waits w =
     let x = c.choose.ensures a.blocked.now waits w in
     closes_after (behind a.t x.state
     (closes_with a.t _ b c.is_over.ensures c.promoted-p.result x.whole c.if-is_over.true
-    c.promoted-p.ensures c.count_blocked.ensures refl c.close.ensures)) (c.tell_interval.ensures c.choose.new.1.1.0)
+    c.promoted-p.ensures c.count_blocked.ensures refl c.close.ensures)) (c.tell_interval.ensures c.choose.new.sets)
 
 pub returns-else-is_over : goal.returns-else-is_over
 returns-else-is_over c waits w =

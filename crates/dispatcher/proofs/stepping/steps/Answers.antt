@@ -11,10 +11,10 @@ returns c =
     let at = c.stamp.ensures b in
     let o = c.end_copyout.ensures a.priority.now a.columns.now a.waits.now at.whole in
     let e = c.others_end.ensures a.priority.now _ o.no_more _ o.whole in
-    let s = c.end_Before.ensures a.columns.now a.waits.now e.whole in
+    let s = c.end_before.ensures a.columns.now a.waits.now e.whole in
     let x = c.take_releases.ensures _ a.columns.now s.whole in
     let f = c.end_after.ensures _ x.whole in
     let g = c.begin_interval.ensures _ _ f.whole in
-    composed (kept a.times.now a.sets.now a.codes.now) b a.t a.set a.told.now c.All-words.ensures
+    composed (kept a.times.now a.sets.now a.codes.now) b a.t a.set a.told.now c.all_words.ensures
     c.too_soon-soon.ensures at o e s c.difference-passing.ensures c.released-r.ensures
     c.union.ensures c.tell_skipped.ensures c.held_over-held.ensures x f g c.tell_due.ensures

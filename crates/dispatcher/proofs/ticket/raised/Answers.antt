@@ -5,4 +5,4 @@ use Rattle.dispatcher.proofs.ticket.raised.Goals as goal
 
 pub returns : goal.returns
 unfolding raised
-returns c = c.wrapping_add_u64.ensures
+returns c = c.wrapping_add_u64.ensures.value

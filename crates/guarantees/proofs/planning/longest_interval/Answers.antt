@@ -6,17 +6,10 @@ use borrow.Author.Rules.{rules}
 use Rattle.sets.specs.Sets.{member}
 use Rattle.table.specs.Table.{copyin_length, execution_length, copyout_length}
 use Rattle.guarantees.specs.Figure.{greatest, longest_interval}
+use Rattle.guarantees.proofs.planning.longest_interval.Invariants.{Passed}
 use Rattle.guarantees.proofs.planning.longest_interval.Goals as goal
 
 -- of the tasks below k
-record Passed (columns : List ℕ) (present copyin copyout work k : ℕ) : Type 0 where
-  copyins : copyin ≡ greatest k present (λ n. copyin_length columns n)
-  copyouts : copyout ≡ greatest k present (λ n. copyout_length columns n)
-  works : work ≡ greatest k present (λ n. copyin_length columns n + execution_length columns n)
-  short_copyin : copyin < 2 ^ 32
-  short_copyout : copyout < 2 ^ 32
-  tasks : k ≤ 32
-
 none_passed : (columns : List ℕ) (present : ℕ) → Passed columns present 0 0 0 0
 unfolding greatest
 none_passed columns present = record { copyins = refl; copyouts = refl; works = refl; short_copyin = omega arith; short_copyout = omega arith; tasks = omega arith }

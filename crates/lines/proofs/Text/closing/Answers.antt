@@ -7,10 +7,10 @@ use Rattle.lines.proofs.Text.closing.Goals as goal
 
 pub returns-in-Unclosed : goal.returns-in-Unclosed
 unfolding each
-returns-in-Unclosed c = rw c.enum_told-1.given.1 (nothing c.args.self 72)
+returns-in-Unclosed c = rw c.in-Unclosed.is (nothing c.args.self 72)
 
 pub returns-in-BeforeReleases : goal.returns-in-BeforeReleases
-returns-in-BeforeReleases c = rw c.closed-1.given.1 (one_entry (IntervalEnded _) c.interval.ensures)
+returns-in-BeforeReleases c = rw c.in-BeforeReleases.is (one_entry (IntervalEnded _) c.interval.ensures)
 
 pub returns-in-AfterReleases : goal.returns-in-AfterReleases
-returns-in-AfterReleases c = rw c.closed-in-AfterReleases-1.given.1 (one_entry (IntervalEnded _) c.interval-in-AfterReleases.ensures)
+returns-in-AfterReleases c = rw c.in-AfterReleases.is (one_entry (IntervalEnded _) c.interval-in-AfterReleases.ensures)

@@ -7,7 +7,7 @@ use Rattle.lines.proofs.Text.done.Goals as goal
 
 pub returns-in-NoJob : goal.returns-in-NoJob
 unfolding each
-returns-in-NoJob c = rw c.enum_told-1.given.1 (nothing c.args.self 73)
+returns-in-NoJob c = rw c.in-NoJob.is (nothing c.args.self 73)
 
 pub returns-in-Job : goal.returns-in-Job
-returns-in-Job c = rw c.done-1.given.1 (one_entry (JobDone _) c.job.ensures)
+returns-in-Job c = rw c.in-Job.is (one_entry (JobDone _) c.job.ensures)

@@ -5,7 +5,7 @@ use borrow.Author.Rules.{rules}
 use Rattle.lines.proofs.Text.due_field.Goals as goal
 
 pub returns-in-Never : goal.returns-in-Never
-returns-in-Never c = rw c.enum_told-1.given.1 (at_most 21 (omega arith) c.no_field.ensures)
+returns-in-Never c = rw c.in-Never.is (at_most 21 (omega arith) c.no_field.ensures)
 
 pub returns-in-Tick : goal.returns-in-Tick
-returns-in-Tick c = rw c.due-1.given.1 c.field.ensures
+returns-in-Tick c = rw c.in-Tick.is c.field.ensures

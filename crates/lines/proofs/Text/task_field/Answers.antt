@@ -5,7 +5,7 @@ use borrow.Author.Rules.{rules}
 use Rattle.lines.proofs.Text.task_field.Goals as goal
 
 pub returns-in-NoTask : goal.returns-in-NoTask
-returns-in-NoTask c = rw c.enum_told-1.given.1 (at_most 4 (omega arith) c.no_field.ensures)
+returns-in-NoTask c = rw c.in-NoTask.is (at_most 4 (omega arith) c.no_field.ensures)
 
 pub returns-in-Task : goal.returns-in-Task
-returns-in-Task c = rw c.task-1.given.1 c.byte_field.ensures
+returns-in-Task c = rw c.in-Task.is c.byte_field.ensures

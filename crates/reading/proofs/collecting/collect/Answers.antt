@@ -23,20 +23,20 @@ returns-in_default c =
     let entry = c.record_entry_at-entry in
     let a = c.args in
     subst (λ (n : ℕ). Collects a.stored.now a.before a.keys.now (record { noted = v.noted; refusal = AtEntry n v.at }) v.keys) (sym c.fault_of.ensures)
-    (faulty v.invariant.0 v.invariant.1 c.loop-at-test.true entry.result (sym entry.ensures) (sym c.decode.ensures ∙ c.enum_told-1.given.1))
+    (faulty v.invariant.0 v.invariant.1 c.loop-at-test.true entry.result (sym entry.ensures) (sym c.decode.ensures ∙ c.in_default.is))
 
 pub overflow_add-at : goal.overflow_add-at
 overflow_add-at c =
     let v = c.loop-at in
     let entry = c.record_entry_at-entry in
-    let w = whole_size entry.result c.attested-1.given.0.0 (sym c.decode.ensures ∙ c.attested-1.given.1) in
+    let w = whole_size entry.result c.in-Whole.attested (sym c.decode.ensures ∙ c.in-Whole.is) in
     omega (arith, w.0, w.1, ap record_entry_size entry.ensures, entry_within c.args.stored.now v.at)
 
 pub loop-at-smaller : goal.loop-at-smaller
 loop-at-smaller c =
     let v = c.loop-at in
     let entry = c.record_entry_at-entry in
-    let w = whole_size entry.result c.attested-1.given.0.0 (sym c.decode.ensures ∙ c.attested-1.given.1) in
+    let w = whole_size entry.result c.in-Whole.attested (sym c.decode.ensures ∙ c.in-Whole.is) in
     omega (arith, w.0, w.1, ap record_entry_size entry.ensures, entry_within c.args.stored.now v.at)
 
 pub loop-at-preserved : goal.loop-at-preserved

@@ -10,6 +10,7 @@ use Rattle.record.specs.Cursor.{run_bytes}
 use Rattle.record.proofs.Running.{within}
 use Rattle.reading.proofs.Holding.{Holding, begins, as_started, ended, whole_piece, differs, reaches, goes_on}
 use borrow.Author.Rules.{rules}
+use Rattle.std.proofs.Common.{not}
 use Rattle.reading.proofs.replay.replays.Goals as goal
 
 pub loop-left-init : goal.loop-left-init
@@ -35,12 +36,12 @@ returns-then-not-goes_on_with c =
     let v = c.loop-left in let d = c.opened-d in
     let x = c.goes_on_with in
     as_started c.args.s.now c.args.stored.now c.args.head c.args.budget d.result d.ensures.0
-    (differs v.d v.invariant.0 c.next_piece-x.ensures (λ e. clash x.result (x.ensures.shows e) (not-true _ c.if-not-goes_on_with.true)))
+    (differs v.d v.invariant.0 c.next_piece-x.ensures (λ e. clash x.result (x.ensures.shows e) (not-true _ (ap not c.if-not-goes_on_with.true))))
 
 pub overflow_add-size : goal.overflow_add-size
 overflow_add-size c =
     let v = c.loop-left in
-    let same = c.goes_on_with.ensures.same (not-false _ c.if-not-goes_on_with.false) in
+    let same = c.goes_on_with.ensures.same (not-false _ (ap not c.if-not-goes_on_with.false)) in
     omega (arith, reaches v.d v.invariant.0 c.next_piece-x.ensures same, c.well-formed.1.1.1.0.0)
 
 pub overflow_add-at : goal.overflow_add-at
@@ -57,7 +58,7 @@ pub loop-left-preserved : goal.loop-left-preserved
 loop-left-preserved c =
     let v = c.loop-left in
     let m = c.next_piece-x.ensures in
-    (goes_on v.d v.invariant.0 m (c.goes_on_with.ensures.same (not-false _ c.if-not-goes_on_with.false)), same_slice m ∙ v.invariant.1)
+    (goes_on v.d v.invariant.0 m (c.goes_on_with.ensures.same (not-false _ (ap not c.if-not-goes_on_with.false))), same_slice m ∙ v.invariant.1)
 
 pub returns : goal.returns
 returns c =

@@ -27,33 +27,33 @@ overflow_sub-n c = rw (whole c.args.s.now c.args.head c.requires c.check_behind-
 pub overflow_mul-budget : goal.overflow_mul-budget
 overflow_mul-budget c =
     let is = whole c.args.s.now c.args.head c.requires c.check_behind-checked.ensures in
-    let runs = runs_whole c.args.s.now _ is c.enum_told-1.given.1 in
+    let runs = runs_whole c.args.s.now _ is c.in-NoRefusal.is in
     omega (arith, runs.few)
 
 pub overflow_add-budget : goal.overflow_add-budget
 overflow_add-budget c =
     let is = whole c.args.s.now c.args.head c.requires c.check_behind-checked.ensures in
-    let runs = runs_whole c.args.s.now _ is c.enum_told-1.given.1 in
+    let runs = runs_whole c.args.s.now _ is c.in-NoRefusal.is in
     omega (arith, runs.few)
 
 pub replays-requires : goal.replays-requires
 replays-requires c =
     let is = whole c.args.s.now c.args.head c.requires c.check_behind-checked.ensures in
-    let runs = runs_whole c.args.s.now _ is c.enum_told-1.given.1 in
+    let runs = runs_whole c.args.s.now _ is c.in-NoRefusal.is in
     record { kept = λ e. absurd (false≢true e); few = omega (arith, runs.few); served = runs.served }
 
 pub returns-in-NoRefusal : goal.returns-in-NoRefusal
 returns-in-NoRefusal c =
     let check = c.check_behind-checked in
     let is = whole c.args.s.now c.args.head c.requires check.ensures in
-    c.replays.ensures ∙ yields_accepted c.args.s.now check.result is c.args.stored.now c.enum_told-1.given.1
+    c.replays.ensures ∙ yields_accepted c.args.s.now check.result is c.args.stored.now c.in-NoRefusal.is
 
 pub returns-in-Alone : goal.returns-in-Alone
 returns-in-Alone c =
     let check = c.check_behind-checked in
-    yields_refused c.args.s.now check.result (whole c.args.s.now c.args.head c.requires check.ensures) c.args.stored.now (alone c.enum_told-in-Alone-1.given.1)
+    yields_refused c.args.s.now check.result (whole c.args.s.now c.args.head c.requires check.ensures) c.args.stored.now (alone c.in-Alone.is)
 
 pub returns-in-AtEntry : goal.returns-in-AtEntry
 returns-in-AtEntry c =
     let check = c.check_behind-checked in
-    yields_refused c.args.s.now check.result (whole c.args.s.now c.args.head c.requires check.ensures) c.args.stored.now (at_entry c.enum_told-in-AtEntry-1.given.1)
+    yields_refused c.args.s.now check.result (whole c.args.s.now c.args.head c.requires check.ensures) c.args.stored.now (at_entry c.in-AtEntry.is)

@@ -38,7 +38,7 @@ loop-left-preserved c =
 
 pub returns : goal.returns
 returns c =
-    let s = c.args in (
-      store_end c.loop-left.invariant.0 c.loop-left-test.false ∙ is_stamped s.set (original (waiting-releases s.waiting s.waits.now 0) s.t) 0 s.times.now,
-      store_end c.loop-left.invariant.1 c.loop-left-test.false ∙ is_stamped s.set (λ k. 0) 0 s.counts.now,
-    )
+    let s = c.args in record {
+      times_after = store_end c.loop-left.invariant.0 c.loop-left-test.false ∙ is_stamped s.set (original (waiting-releases s.waiting s.waits.now 0) s.t) 0 s.times.now;
+      counts_after = store_end c.loop-left.invariant.1 c.loop-left-test.false ∙ is_stamped s.set (λ k. 0) 0 s.counts.now;
+    }

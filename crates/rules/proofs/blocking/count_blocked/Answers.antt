@@ -9,6 +9,7 @@ use Rattle.rules.specs.Kept.{kept, beside, registers_in, memory_in}
 use Rattle.rules.proofs.Parts.{waits_loaded, waits}
 use Rattle.rules.proofs.Blocked.{none_idle, none_wait, none_counted, alone_blocks}
 use borrow.Author.Rules.{rules}
+use Rattle.std.proofs.Common.{not}
 use Rattle.rules.proofs.blocking.count_blocked.Goals as goal
 
 pub returns-then-codes-eq-IDLE : goal.returns-then-codes-eq-IDLE
@@ -23,7 +24,7 @@ returns-then-not-outranks c times columns o h =
     let a = c.args in
     let k = kept times a.sets.now a.codes.now in
     let m = memory_in k (beside a.priority.now columns o) in
-    let low = sym (c.outranks.ensures (state_in m (registers_in k)) refl) ∙ not-true c.outranks.result c.if-not-outranks.true in
+    let low = sym (c.outranks.ensures (state_in m (registers_in k)) refl) ∙ not-true c.outranks.result (ap not c.if-not-outranks.true) in
     sym (none_counted a.blocked.now)
     ∙ ap (λ x. counted x 0 a.blocked.now)
     (alone_blocks m (registers_in k) (get_or a.codes.now 7 0) low (ne_eqb _ _ c.if-codes-eq-IDLE.false)

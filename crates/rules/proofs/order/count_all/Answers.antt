@@ -11,6 +11,7 @@ use Rattle.sets.proofs.Laws.{by-test, collected}
 use Rattle.rules.specs.Instant.{counted}
 use Rattle.rules.specs.Steps.{marked_in}
 use Rattle.rules.proofs.ByTask.{each, each_length, each_at}
+use Rattle.rules.proofs.order.count_all.Invariants.{counts_at, Made}
 use Rattle.rules.proofs.order.count_all.Goals as goal
 
 -- one more, held at 255
@@ -23,15 +24,7 @@ is_counted s k [] = refl
 is_counted s k (x ∷ xs) = rw (is_counted s (suc k) xs)
 
 -- whether task j is both in the set and marked
-abbrev counts_at : ℕ → List ℕ → ℕ → Bool
-counts_at s marks j = member j s && eqb (get_or marks j 0) 1
-
 -- of the tasks below k the new counts are made
-record Made (s : ℕ) (marks counts next : List ℕ) (k : ℕ) : Type 0 where
-  long : length next ≡ 32
-  passed : k ≤ 32
-  at : (j : ℕ) → j < k → get_or next j 0 ≡ cond (counts_at s marks j) (min (get_or counts j 0 + 1) 255) (get_or counts j 0)
-
 module _ {s : ℕ} {marks counts : List ℕ} where
   start : Made s marks counts (replicate 32 0) 0
   start = record { long = refl; passed = omega arith; at = λ j l. absurd (omega arith) }

@@ -12,6 +12,7 @@ use Rattle.rules.specs.Order.{better, highest_below, highest}
 use Rattle.rules.specs.Registers.{as_task}
 use Rattle.rules.proofs.Members.{Left, Turn, start, turn, is_task_left, falls}
 use Rattle.rules.proofs.order.first.Goals as goal
+use Rattle.rules.proofs.order.first.Goals.{then-goes_before, else-goes_before}
 
 -- task n beside the best so far, by what the test of their priorities and times says
 module _ (ps : List ℕ) (since : ℕ → ℕ) (n : ℕ) where
@@ -90,10 +91,12 @@ loop-left-preserved c =
     let p = c.wide-p.ensures in
     let g = c.goes_before.ensures in
     let on = at_turn ps since s.set t ∙ ap (λ (r : MaybeTask). better ps since r n) w.invariant.3 in
-    ⊎_elim
-    (λ a. rw (a.1, a.2) (t.next, t.task, p.0, on ∙ beside ps since n w.best true w.invariant.2 p.0 (sym g ∙ a.0.taken)))
-    (λ a. rw (a.1, a.2) (t.next, w.invariant.1, w.invariant.2, on ∙ beside ps since n w.best false w.invariant.2 p.0 (sym g ∙ a.0.left)))
-    c.if-goes_before.branch
+    elim c.if-goes_before.branch [
+      then-goes_before a ↦
+        rw (a.best-is, a.least-is) (t.next, t.task, p.0, on ∙ beside ps since n w.best true w.invariant.2 p.0 (sym g ∙ a.if-goes_before.true))
+      | else-goes_before a ↦
+        rw (a.best-is, a.least-is) (t.next, w.invariant.1, w.invariant.2, on ∙ beside ps since n w.best false w.invariant.2 p.0 (sym g ∙ a.if-goes_before.false))
+    ]
 
 pub returns : goal.returns
 returns c =

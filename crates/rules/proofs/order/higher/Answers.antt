@@ -8,14 +8,11 @@ use lib.ListN.{length, get_or, set, length-set, replicate, get_or-replicate}
 use lib.Seq.{get_or-set_same, get_or-set_other}
 use Rattle.sets.proofs.Laws.{by-test}
 use Rattle.rules.specs.Steps.{Above}
+use Rattle.rules.proofs.order.higher.Invariants.{Found}
 use Rattle.rules.proofs.order.higher.Goals as goal
+use Rattle.rules.proofs.order.higher.Goals.{then-priority-k, else-priority-k}
 
 -- of the tasks below k, those with a smaller number than the limit are marked
-record Found (priority : List ℕ) (limit : ℕ) (found : List ℕ) (k : ℕ) : Type 0 where
-  long : length found ≡ 32
-  passed : k ≤ 32
-  marks : (j : ℕ) → j < 32 → get_or found j 0 ≡ cond (ltb j k && ltb (get_or priority j 0) limit) 1 0
-
 module _ (priority : List ℕ) (limit : ℕ) where
   start : Found priority limit (replicate 32 0) 0
   start = record { long = refl; passed = omega arith; marks = λ j l. get_or-replicate 32 j 0 0 l ∙ rw (le-ltb j 0 (omega arith)) }
@@ -80,10 +77,10 @@ pub loop-k-preserved : goal.loop-k-preserved
 loop-k-preserved c =
     let w = c.loop-k in
     let l = c.loop-k-test.true in
-    ⊎_elim
-    (λ a. rw a.1 (find _ _ w.invariant l a.0.taken))
-    (λ a. rw a.1 (pass _ _ w.invariant l a.0.left))
-    c.if-priority-k.branch
+    elim c.if-priority-k.branch [
+      then-priority-k a ↦ rw a.found-is (find _ _ w.invariant l a.if-priority-k.true)
+      | else-priority-k a ↦ rw a.found-is (pass _ _ w.invariant l a.if-priority-k.false)
+    ]
 
 pub returns : goal.returns
 returns c = all_found c.args.n c.loop-k.invariant c.loop-k-test.false c.byte_of-limit.ensures

@@ -12,14 +12,11 @@ use Rattle.rules.specs.Instant.{previous_release, comes_sooner, too_soon}
 use Rattle.rules.specs.Registers.{state_in}
 use Rattle.rules.specs.Kept.{kept, by_task, beside, read}
 use Rattle.rules.proofs.Members.{Left, passed, Turn, start, turn, falls, at_start, at_end, gathers_one, gathers_none}
+use Rattle.rules.proofs.spacing.too_soon.Invariants.{Gathered, soon_by}
 use Rattle.rules.proofs.spacing.too_soon.Goals as goal
+use Rattle.rules.proofs.spacing.too_soon.Goals.{then-is_too_soon, else-is_too_soon}
 
 -- of the tasks that the loop has passed, those that meet a test are gathered
-record Gathered (test : ℕ → Bool) (all left soon : ℕ) : Type 0 where
-  tasks : Left all left
-  small : soon < 2 ^ 32
-  members : (j : ℕ) → j < 32 → member j soon ≡ (passed all left j && test j)
-
 module _ (test : ℕ → Bool) where
   begun : {all : ℕ} → all < 2 ^ 32 → Gathered test all all 0
   begun {all} l = record { tasks = start l; small = omega arith; members = λ j m. none j ∙ sym (ap (λ (b : Bool). b && test j) (at_start all j)) }
@@ -48,11 +45,6 @@ module _ (test : ℕ → Bool) where
     }
 
 -- whether the release of a task comes too soon, by the numbers that are lent
-abbrev soon_by : ℕ → List ℕ → List ℕ → List ℕ → List ℕ → ℕ → Bool
-soon_by t sets columns release waits n =
-    comes_sooner t (spacing columns n)
-    (cond (member n (get_or sets 5 0)) (Tick (get_or waits n 0)) (cond (member n (get_or sets 7 0)) (Tick (get_or release n 0)) Never))
-
 all_gathered : (t set : ℕ) (times sets codes priority columns release blocked waits : List ℕ) (all left soon : ℕ) → all ≡ intersection set (get_or sets 6 0)
     → Gathered (soon_by t sets columns release waits) all left soon → left ≡ 0
     → soon ≡ too_soon (read (kept times sets codes) (beside priority columns (by_task release blocked waits))) t set
@@ -84,10 +76,10 @@ loop-left-preserved c =
     let w = c.loop-left in
     let u = turn w.invariant.tasks c.loop-left-test.true c.lowest-n.ensures c.rest-left.ensures in
     let is = c.is_too_soon.ensures [] [] [] [] in
-    ⊎_elim
-    (λ a. rw a.2 (gathers _ u w.invariant (sym is ∙ a.0.taken) a.1.ensures))
-    (λ a. rw a.1 (passes _ u w.invariant (sym is ∙ a.0.left)))
-    c.if-is_too_soon.branch
+    elim c.if-is_too_soon.branch [
+      then-is_too_soon a ↦ rw a.soon-is (gathers _ u w.invariant (sym is ∙ a.if-is_too_soon.true) a.insert-soon.ensures)
+      | else-is_too_soon a ↦ rw a.soon-is (passes _ u w.invariant (sym is ∙ a.if-is_too_soon.false))
+    ]
 
 pub returns : goal.returns
 returns c times codes priority blocked =

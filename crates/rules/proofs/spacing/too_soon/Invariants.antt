@@ -13,6 +13,16 @@ use Rattle.rules.specs.Kept.{kept, by_task, beside, read}
 use Rattle.rules.proofs.Members.{Left, passed, Turn, start, turn, falls, at_start, at_end, gathers_one, gathers_none}
 use Rattle.rules.proofs.spacing.too_soon.Given as goal
 
+pub record Gathered (test : ℕ → Bool) (all left soon : ℕ) : Type 0 where
+  pub tasks : Left all left
+  pub small : soon < 2 ^ 32
+  pub members : (j : ℕ) → j < 32 → member j soon ≡ (passed all left j && test j)
+
+abbrev pub soon_by : ℕ → List ℕ → List ℕ → List ℕ → List ℕ → ℕ → Bool
+soon_by t sets columns release waits n =
+    comes_sooner t (spacing columns n)
+    (cond (member n (get_or sets 5 0)) (Tick (get_or waits n 0)) (cond (member n (get_or sets 7 0)) (Tick (get_or release n 0)) Never))
+
 abbrev pub invariant-loop-left : goal.invariant-loop-left
 invariant-loop-left l = Gathered (soon_by l.t l.sets l.columns l.release l.waits) l.initial.left l.left l.soon
 

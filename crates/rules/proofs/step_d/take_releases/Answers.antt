@@ -27,5 +27,5 @@ returns c times columns w =
     let m = releases_taken a.priority.now columns (by_task a.release.now a.blocked.now a.waits.now) _ a.t a.r.taken a.r.deferred
     c.difference.result c.union-2.result c.union-3.result c.union-4.result c.union-5.result c.intersection.result c.union-6.result
     (kept times a.sets.now a.codes.now) w c.difference.ensures c.union-2.ensures c.union-3.ensures c.union-4.ensures c.union-5.ensures c.intersection.ensures c.union-6.ensures
-    c.take.ensures.0 c.take.ensures.1 c.defer.ensures in
+    c.take.ensures.times_after c.take.ensures.counts_after c.defer.ensures in
     both m (c.give_way.ensures times columns _ _ m.whole)

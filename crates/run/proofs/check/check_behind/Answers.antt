@@ -5,14 +5,14 @@ use borrow.Author.Rules.{rules}
 use Rattle.run.proofs.check.check_behind.Goals as goal
 
 pub returns-in-NoRefusal : goal.returns-in-NoRefusal
-returns-in-NoRefusal c = let a = c.args in sym (ap (head_unless a.head) (sym c.check_releases-refusal.ensures ∙ c.enum_told-1.given.1))
+returns-in-NoRefusal c = let a = c.args in sym (ap (head_unless a.head) (sym c.check_releases-refusal.ensures ∙ c.in-NoRefusal.is))
 
 pub returns-in-Alone : goal.returns-in-Alone
 returns-in-Alone c =
     let a = c.args in
-    c.refused.ensures ∙ rw c.enum_told-in-Alone-1.given.1 (sym (ap (head_unless a.head) (sym c.check_releases-refusal.ensures ∙ c.enum_told-in-Alone-1.given.1)))
+    c.refused.ensures ∙ rw c.in-Alone.is (sym (ap (head_unless a.head) (sym c.check_releases-refusal.ensures ∙ c.in-Alone.is)))
 
 pub returns-in-AtEntry : goal.returns-in-AtEntry
 returns-in-AtEntry c =
     let a = c.args in
-    c.refused-in-AtEntry.ensures ∙ rw c.enum_told-in-AtEntry-1.given.1 (sym (ap (head_unless a.head) (sym c.check_releases-refusal.ensures ∙ c.enum_told-in-AtEntry-1.given.1)))
+    c.refused-in-AtEntry.ensures ∙ rw c.in-AtEntry.is (sym (ap (head_unless a.head) (sym c.check_releases-refusal.ensures ∙ c.in-AtEntry.is)))

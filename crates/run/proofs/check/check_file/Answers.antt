@@ -12,18 +12,18 @@ pub returns-in-NoRefusal : goal.returns-in-NoRefusal
 returns-in-NoRefusal c =
     let s = c.args.s.now in
     let read = c.head_of-head in
-    c.check_behind.ensures ∙ file_behind s read.result c.if-s-eq0.false read.ensures c.enum_told-1.given.1
+    c.check_behind.ensures ∙ file_behind s read.result c.if-s-eq0.false read.ensures c.in-NoRefusal.is
 
 pub returns-in-Alone : goal.returns-in-Alone
 returns-in-Alone c =
     let s = c.args.s.now in
     let read = c.head_of-head in
-    let e = c.enum_told-in-Alone-1.given.1 in
+    let e = c.in-Alone.is in
     c.refused-in-Alone.ensures ∙ rw e (file_refused s read.result c.if-s-eq0.false read.ensures _ e (alone e))
 
 pub returns-in-AtEntry : goal.returns-in-AtEntry
 returns-in-AtEntry c =
     let s = c.args.s.now in
     let read = c.head_of-head in
-    let e = c.enum_told-in-AtEntry-1.given.1 in
+    let e = c.in-AtEntry.is in
     c.refused-in-AtEntry.ensures ∙ rw e (file_refused s read.result c.if-s-eq0.false read.ensures _ e (at_entry e))

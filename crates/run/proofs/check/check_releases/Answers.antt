@@ -15,42 +15,42 @@ entries-init c = let a = c.args in (search rules, record { fuel = length a.s.now
 pub overflow_add-at : goal.overflow_add-at
 overflow_add-at c =
     let s = c.args.s.now in
-    omega (arith, release_whole s c.entries.at _ (sym c.entry_at-entry.ensures ∙ c.entry-in-ReleaseEntry-1.given.1))
+    omega (arith, release_whole s c.entries.at _ (sym c.entry_at-entry.ensures ∙ c.in-ReleaseEntry.is))
 
 pub entries-smaller : goal.entries-smaller
 entries-smaller c =
     let s = c.args.s.now in
-    omega (arith, release_whole s c.entries.at _ (sym c.entry_at-entry.ensures ∙ c.entry-in-ReleaseEntry-1.given.1))
+    omega (arith, release_whole s c.entries.at _ (sym c.entry_at-entry.ensures ∙ c.in-ReleaseEntry.is))
 
 pub entries-preserved : goal.entries-preserved
 entries-preserved c =
     let a = c.args in let s = a.s.now in let v = c.entries in
     let e = sym c.release_refusal-n.ensures ∙ c.if-n-ne0.false in
-    let r = sym c.entry_at-entry.ensures ∙ c.entry-in-ReleaseEntry-1.given.1 in
-    (omega (arith, few a.present v.new v.count _ e), turn_on s v.at a.present v.new v.count _ v.invariant.1 c.if-s-at.false _ r e)
+    let r = sym c.entry_at-entry.ensures ∙ c.in-ReleaseEntry.is in
+    (omega (arith, few a.present v.last v.count _ e), turn_on s v.at a.present v.last v.count _ v.invariant.1 c.if-s-at.false _ r e)
 
 pub returns-then-s-at : goal.returns-then-s-at
-returns-then-s-at c = let a = c.args in let v = c.entries in sym (at_end a.s.now v.at a.present v.new v.count v.invariant.1.fuel c.if-s-at.true) ∙ v.invariant.1.same
+returns-then-s-at c = let a = c.args in let v = c.entries in sym (at_end a.s.now v.at a.present v.last v.count v.invariant.1.fuel c.if-s-at.true) ∙ v.invariant.1.same
 
 pub returns-in-Malformed : goal.returns-in-Malformed
 returns-in-Malformed c =
     let a = c.args in let s = a.s.now in let v = c.entries in
-    turn s v.at a.present v.new v.count _ v.invariant.1 c.if-s-at.false _
-    (λ k. malformed s v.at a.present v.new v.count k c.if-s-at.false _ (sym c.entry_at-entry.ensures ∙ c.entry-1.given.1))
+    turn s v.at a.present v.last v.count _ v.invariant.1 c.if-s-at.false _
+    (λ k. malformed s v.at a.present v.last v.count k c.if-s-at.false _ (sym c.entry_at-entry.ensures ∙ c.in-Malformed.is))
 
 pub returns-in-TaskEntry : goal.returns-in-TaskEntry
 returns-in-TaskEntry c =
     let a = c.args in let s = a.s.now in let v = c.entries in
-    turn s v.at a.present v.new v.count _ v.invariant.1 c.if-s-at.false _ (λ k. task_late s v.at a.present v.new v.count k c.if-s-at.false _ (sym c.entry_at-entry.ensures ∙ c.enum_told-1.given.1))
+    turn s v.at a.present v.last v.count _ v.invariant.1 c.if-s-at.false _ (λ k. task_late s v.at a.present v.last v.count k c.if-s-at.false _ (sym c.entry_at-entry.ensures ∙ c.in-TaskEntry.is))
 
 pub returns-in-SpacingEntry : goal.returns-in-SpacingEntry
 returns-in-SpacingEntry c =
     let a = c.args in let s = a.s.now in let v = c.entries in
-    turn s v.at a.present v.new v.count _ v.invariant.1 c.if-s-at.false _ (λ k. spacing_late s v.at a.present v.new v.count k c.if-s-at.false _ (sym c.entry_at-entry.ensures ∙ c.enum_told-in-SpacingEntry-1.given.1))
+    turn s v.at a.present v.last v.count _ v.invariant.1 c.if-s-at.false _ (λ k. spacing_late s v.at a.present v.last v.count k c.if-s-at.false _ (sym c.entry_at-entry.ensures ∙ c.in-SpacingEntry.is))
 
 pub returns-then-n-ne0 : goal.returns-then-n-ne0
 returns-then-n-ne0 c =
     let a = c.args in let s = a.s.now in let v = c.entries in
-    let r = sym c.entry_at-entry.ensures ∙ c.entry-in-ReleaseEntry-1.given.1 in
-    turn s v.at a.present v.new v.count _ v.invariant.1 c.if-s-at.false _
-    (λ k. refuses s v.at a.present v.new v.count k c.if-s-at.false _ _ r (sym c.release_refusal-n.ensures) c.if-n-ne0.true)
+    let r = sym c.entry_at-entry.ensures ∙ c.in-ReleaseEntry.is in
+    turn s v.at a.present v.last v.count _ v.invariant.1 c.if-s-at.false _
+    (λ k. refuses s v.at a.present v.last v.count k c.if-s-at.false _ _ r (sym c.release_refusal-n.ensures) c.if-n-ne0.true)

@@ -31,7 +31,7 @@ skips_at-skipped-requires c =
     let at = c.stamp.ensures (beside [] [] (by_task [] [] [])) in
     let o = c.end_copyout-done.ensures [] [] [] at.whole in
     let a = c.others_end.ensures [] _ o.copies.no_more (by_task [] [] []) o.copies.whole in
-    let b = c.end_Before.ensures [] [] a.whole in
+    let b = c.end_before-first.ensures [] [] a.whole in
     omega (arith, job_most o, span_place b)
 
 pub end_after-size-requires : goal.end_after-size-requires
@@ -39,7 +39,7 @@ end_after-size-requires c =
     let at = c.stamp.ensures (beside [] [] (by_task [] [] [])) in
     let o = c.end_copyout-done.ensures [] [] [] at.whole in
     let a = c.others_end.ensures [] _ o.copies.no_more (by_task [] [] []) o.copies.whole in
-    let b = c.end_Before.ensures [] [] a.whole in
+    let b = c.end_before-first.ensures [] [] a.whole in
     omega (arith, job_most o, span_place b, c.skips_at-skipped.ensures.place_is, skips_most 32 c.union.result c.next_tick-t.result)
 
 pub shape_of-out : goal.shape_of-out
@@ -56,7 +56,7 @@ returns c =
     let at = c.stamp.ensures b in
     let o = c.end_copyout-done.ensures s.priority.now s.columns.now s.waits.now at.whole in
     let a = c.others_end.ensures s.priority.now _ o.copies.no_more _ o.copies.whole in
-    let e = c.end_Before.ensures s.columns.now s.waits.now a.whole in
+    let e = c.end_before-first.ensures s.columns.now s.waits.now a.whole in
     let x = c.take_releases.ensures _ s.columns.now e.whole in
     let f = c.end_after-size.ensures _ x.whole in
     let g = c.begin_interval.ensures _ _ f.whole in

@@ -20,11 +20,6 @@ first_in : (s : List ℕ) (at : ℕ) {x : ℕ} {rs : List Release} → rs ≡ re
 first_in s at {x} e h = subst (λ (rs : List Release). Stands x (first_time rs)) e h
 
 -- whole entries were read
-pub record Read (s : List ℕ) (t at : ℕ) : Type 0 where
-  pub entries : ℕ
-  pub at_is : at ≡ size 2 * entries
-  pub within : at ≤ length s
-  pub after : released_after t (releases_at s at) ≡ released_after t (releases_at s 0)
 
 pub loop-next-init : goal.loop-next-init
 loop-next-init c = (refl, record { entries = 0; at_is = refl; within = omega arith; after = refl })

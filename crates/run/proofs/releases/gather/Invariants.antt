@@ -14,6 +14,12 @@ use Rattle.run.specs.Run.{first_time, released_from, released_at, released_after
 use Rattle.run.proofs.Listing.{here, in_part, how_many, taken, after_taken, stands_here, stops_here}
 use Rattle.run.proofs.releases.gather.Given as goal
 
+pub record Read (s : List ℕ) (t at : ℕ) : Type 0 where
+  pub entries : ℕ
+  pub at_is : at ≡ size 2 * entries
+  pub within : at ≤ length s
+  pub after : released_after t (releases_at s at) ≡ released_after t (releases_at s 0)
+
 abbrev pub invariant-loop-next : goal.invariant-loop-next
 invariant-loop-next l = (released_from l.t l.set (releases_at l.rest l.at) ≡ released_at l.t (releases_at l.rest 0)) × Read l.rest l.t l.at
 

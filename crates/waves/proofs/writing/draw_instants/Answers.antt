@@ -16,7 +16,7 @@ use Rattle.waves.proofs.writing.draw_instants.Goals as goal
 pub loop-left-init : goal.loop-left-init
 loop-left-init c =
     let a = c.args in
-    begins a.s.now a.out.now a.place a.keep (state_of a.t3) a.from _ a.budget c.requires (c.shown-v.ensures _)
+    begins a.s.now a.out.now a.place a.keep (state_of a.d) a.from _ a.budget c.requires (c.shown-v.ensures _)
 
 pub slice_bounds-advance-count : goal.slice_bounds-advance-count
 slice_bounds-advance-count c = omega (arith, c.loop-left.invariant.served.within)

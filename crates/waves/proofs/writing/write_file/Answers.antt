@@ -10,24 +10,24 @@ use Rattle.waves.proofs.writing.write_run.Reads as write-run-reads
 use Rattle.waves.proofs.writing.write_file.Goals as goal
 
 pub write_run-requires : goal.write_run-requires
-write_run-requires c = runs_whole _ _ c.check_file-part.ensures c.enum_told-1.given.1
+write_run-requires c = runs_whole _ _ c.check_file-part.ensures c.in-NoRefusal.is
 
 pub returns-in-NoRefusal : goal.returns-in-NoRefusal
 returns-in-NoRefusal c =
     let check = c.check_file-part in
     let a = c.args in
-    rw (whole_file a.s.now check.result (accepted_whole _ _ check.ensures c.enum_told-1.given.1) a.out.now) c.write_run.ensures
+    rw (whole_file a.s.now check.result (accepted_whole _ _ check.ensures c.in-NoRefusal.is) a.out.now) c.write_run.ensures
 
 pub returns-in-Alone : goal.returns-in-Alone
 returns-in-Alone c =
     let check = c.check_file-part in
     let a = c.args in
     refused a.s.now a.out.now check.result.refusal
-    (refused_whole a.s.now check.result check.ensures a.out.now check.result.refusal refl (alone c.enum_told-in-Alone-1.given.1))
+    (refused_whole a.s.now check.result check.ensures a.out.now check.result.refusal refl (alone c.in-Alone.is))
 
 pub returns-in-AtEntry : goal.returns-in-AtEntry
 returns-in-AtEntry c =
     let check = c.check_file-part in
     let a = c.args in
     refused a.s.now a.out.now check.result.refusal
-    (refused_whole a.s.now check.result check.ensures a.out.now check.result.refusal refl (at_entry c.enum_told-in-AtEntry-1.given.1))
+    (refused_whole a.s.now check.result check.ensures a.out.now check.result.refusal refl (at_entry c.in-AtEntry.is))
