@@ -72,7 +72,7 @@ unfolding Leads
 one_more d rs [] e es t {d'} {rs'} h n x y =
     subst (λ (z : State). Leads z rs (moment e t (released_at t es) ∷ []) d' rs') (sym h.0)
     (subst (λ (z : List Release). Leads e z (moment e t (released_at t es) ∷ []) d' rs') (sym h.1) (n, refl, (x, y)))
-one_more d rs (m ∷ ms) e es t h n x y = (h.0, h.1, one_more _ _ ms e es t h.2 n x y)
+one_more d rs (m ∷ ms) e es t h n x y = (h.0, h.1, one_more m.state (released_after m.time rs) ms e es t h.2 n x y)
 
 -- moments that were made, and then the run from where they lead
 pub along : (d : State) (rs : List Release) (ms : List Moment) (d' : State) (rs' : List Release) → Leads d rs ms d' rs' → (k : ℕ) → run (k + length ms) d rs ≡ ms ++ run k d' rs'

@@ -10,6 +10,7 @@ use Rattle.run.proofs.Slices.{rest_same}
 use Rattle.pieces.proofs.Reaching.{Reached, begins, at_last, reads, puts, moves, same_kept, same_by_task, ends, stops}
 use borrow.Author.Rules.{rules}
 use Rattle.pieces.proofs.next_piece.Goals as goal
+use Rattle.pieces.proofs.next_piece.Goals.{else-loop-left-test, then-loop-left-test+then-out-size-lt-INSTANT_MOST, then-loop-left-test+else-out-size-lt-INSTANT_MOST+then-x}
 
 pub loop-left-init : goal.loop-left-init
 loop-left-init c = (begins _ _ _ _ _, refl)
@@ -30,10 +31,10 @@ pub slice_bounds-advance-start-in-loop-left : goal.slice_bounds-advance-start-in
 slice_bounds-advance-start-in-loop-left c = let v = c.loop-left in omega (arith, v.invariant.0.fits, v.invariant.0.same)
 
 pub overflow_add-read : goal.overflow_add-read
-overflow_add-read c = omega (arith, reads c.loop-left.invariant.0 c.advance-x.ensures c.if-x.false, c.well-formed.0.0)
+overflow_add-read c = omega (arith, reads c.loop-left.invariant.0 c.advance-x.ensures c.if-x.false)
 
 pub overflow_add-size : goal.overflow_add-size
-overflow_add-size c = omega (arith, puts c.loop-left.invariant.0 c.advance-x.ensures c.if-x.false c.if-out-size-lt-INSTANT_MOST.false, c.loop-left.invariant.0.same, c.well-formed.1.1.1.0.0)
+overflow_add-size c = omega (arith, puts c.loop-left.invariant.0 c.advance-x.ensures c.if-x.false c.if-out-size-lt-INSTANT_MOST.false, c.loop-left.invariant.0.same)
 
 pub overflow_sub-left : goal.overflow_sub-left
 overflow_sub-left c = omega (arith, c.loop-left-test.true)
@@ -45,30 +46,24 @@ pub loop-left-preserved : goal.loop-left-preserved
 loop-left-preserved c = let v = c.loop-left in (moves v.invariant.0 c.advance-x.ensures c.if-x.false c.loop-left-test.true c.if-out-size-lt-INSTANT_MOST.false refl, v.invariant.1)
 
 pub shape_of-out : goal.shape_of-out
-shape_of-out c =
-    let v = c.loop-left in
-    ⊎_elim
-    (λ w. ap length w.1 ∙ v.invariant.0.same)
-    (λ u. ⊎_elim
-    (λ w. ap length w.2 ∙ v.invariant.0.same)
-    (λ w. ap length (w.18 ∙ rest_same v.size v.out _ (w.13.ensures.ended w.17.taken).slice_is) ∙ v.invariant.0.same)
-    u)
-    c.loop-left-test.branch
+shape_of-out c = c.loop-left-test.auto.out ∙ c.loop-left.invariant.0.same
 
 pub returns : goal.returns
 returns c =
     let v = c.loop-left in
     let d = c.args.d in
     let others = beside d.priority d.columns in
-    ⊎_elim
-    (λ w. stops d v.invariant.0 (same_kept w.2 w.3 w.4) (ap others (same_by_task w.5 w.6 w.7)) w.1
-    (w.9 ∙ v.invariant.1) w.8 (inl (w.8 ∙ w.0.left)))
-    (λ u. ⊎_elim
-    (λ w. stops d v.invariant.0 (same_kept w.3 w.4 w.5) (ap others (same_by_task w.6 w.7 w.8)) w.2
-    (w.10 ∙ v.invariant.1) w.9 (inr (omega (arith, w.1.taken, v.invariant.0.same, v.invariant.0.fits))))
-    (λ w. let made = w.13.ensures in let stop = made.ended w.17.taken in
-    ends d v.invariant.0 (same_kept w.19 w.20 w.21 ∙ stop.numbers_are) (ap others (same_by_task w.22 w.23 w.24) ∙ stop.beside_is)
-    (w.18 ∙ rest_same v.size v.out _ stop.slice_is)
-    w.26 w.25 (at_last v.invariant.0 made w.17.taken))
-    u)
-    c.loop-left-test.branch
+    elim c.loop-left-test.branch [
+      else-loop-left-test w ↦
+        stops d v.invariant.0 (same_kept w.times-is w.sets-is w.codes-is) (ap others (same_by_task w.release-is w.blocked-is w.waits-is)) w.out-is
+        (w.ended-is ∙ v.invariant.1) w.left-is (inl (w.left-is ∙ w.loop-left-test.false))
+      | then-loop-left-test+then-out-size-lt-INSTANT_MOST w ↦
+        stops d v.invariant.0 (same_kept w.times-is w.sets-is w.codes-is) (ap others (same_by_task w.release-is w.blocked-is w.waits-is)) w.out-is
+        (w.ended-is ∙ v.invariant.1) w.left-is (inr (omega (arith, w.if-out-size-lt-INSTANT_MOST.true, v.invariant.0.same, v.invariant.0.fits)))
+      | then-loop-left-test+else-out-size-lt-INSTANT_MOST+then-x w ↦
+        let made = w.advance-x.ensures in
+        let stop = made.ended w.if-x.true in
+        ends d v.invariant.0 (same_kept w.times-is w.sets-is w.codes-is ∙ stop.numbers_are) (ap others (same_by_task w.release-is w.blocked-is w.waits-is) ∙ stop.beside_is)
+        (w.out-is ∙ rest_same v.size v.out _ stop.slice_is)
+        w.ended-is w.left-is (at_last v.invariant.0 made w.if-x.true)
+    ]
