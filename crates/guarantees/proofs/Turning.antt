@@ -81,6 +81,16 @@ module _ (present : ℕ) (tasks : present < 4294967296) (n : ℕ) (small : n < 3
             )
         go false h = h
 
+    a_done_turning : (d : State) (w : Bool) (p : Phase) (ys : List Event) → d.phase ≡ p → Parted present tasks d p
+        → T (Seen (member n (step_a d t p).state.jobs.pending) w (step_a d t p).state.phase) ys
+        → T (Seen (member n d.jobs.pending) w p) (completion_events (step_a d t p).done ++ ys)
+    unfolding step_a without_done ended completion_events
+    a_done_turning d w (Between next outgoing) ys e h k = subst (λ (q : Phase). T (Seen (member n d.jobs.pending) w q) ys) e k
+    a_done_turning d w (Within i) ys e h k =
+        completes_turning d.jobs i.copyout w (processor_bit n i.processor) (bit (member n d.jobs.ready) + copyin_bit n i.copyin) ys (omega (arith, h.parts n small))
+        (subst (λ (x : ℕ). T (record { now = Tick t; place = bit (member n (after_done d.jobs.pending (completed d.jobs t i.copyout))) + x + 2 * copyout_bit n (copyout_at t i.copyout); held = w }) ys)
+        (a_processor_bit present tasks n d.table t i.processor) k)
+
     a_turning : (d : State) (w : Bool) (p : Phase) (ys : List Event) → d.phase ≡ p → Parted present tasks d p
         → T (Seen (member n (step_a d t p).state.jobs.pending) w (step_a d t p).state.phase) ys
         → T (Seen (member n d.jobs.pending) w p) (processor_events_in t p ++ (finish_events_in t p ++ (completion_events (step_a d t p).done ++ ys)))
@@ -88,16 +98,7 @@ module _ (present : ℕ) (tasks : present < 4294967296) (n : ℕ) (small : n < 3
         let v : View = Seen (member n d.jobs.pending) w p in
         let done : List Event = completion_events (step_a d t p).done in
         by_processor_at (T v) t (λ k es x. unfold Turning in (refl, x)) (λ k es x. unfold Turning in (refl, x)) p (finish_events_in t p ++ (done ++ ys))
-        (by_finishes (T v) (λ k es x. unfold Turning in (tt, x)) t p (done ++ ys) (go p e h k))
-      where
-        go : (p : Phase) → d.phase ≡ p → Parted present tasks d p → T (Seen (member n (step_a d t p).state.jobs.pending) w (step_a d t p).state.phase) ys
-            → T (Seen (member n d.jobs.pending) w p) (completion_events (step_a d t p).done ++ ys)
-        go (Between next outgoing) e h k = unfold step_a completion_events in subst (λ (q : Phase). T (Seen (member n d.jobs.pending) w q) ys) e (unfold step_a in k)
-        go (Within i) e h k =
-            unfold step_a without_done ended in
-            completes_turning d.jobs i.copyout w (processor_bit n i.processor) (bit (member n d.jobs.ready) + copyin_bit n i.copyin) ys (omega (arith, h.parts n small))
-            (subst (λ (x : ℕ). T (record { now = Tick t; place = bit (member n (after_done d.jobs.pending (completed d.jobs t i.copyout))) + x + 2 * copyout_bit n (copyout_at t i.copyout); held = w }) ys)
-            (a_processor_bit present tasks n d.table t i.processor) (unfold step_a without_done ended in k))
+        (by_finishes (T v) (λ k es x. unfold Turning in (tt, x)) t p (done ++ ys) (a_done_turning d w p ys e h k))
 
     -- b, f
     stays_turning : (c w : Bool) (i : Interval) (q : Phase) (ys : List Event) → q ≡ Within i → T (Seen c w q) ys → T (Seen c w (Within i)) (end_events t (Within i) q ++ ys)
