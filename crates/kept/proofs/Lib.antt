@@ -1,3 +1,0 @@
-pub mod Front
-pub mod FrontOfThree
-pub mod Lent

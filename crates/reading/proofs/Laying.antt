@@ -111,12 +111,12 @@ module _ (tasks keys before : List ℕ) (room : length tasks + 10 * length keys 
   enough : leb (length (input_of tasks (releases_in keys))) (length before) ≡ true
   enough = le-leb (length input) (length before) (omega (arith, input_length tasks keys))
 
-  rebuilt : (mid t : List ℕ) → mid ≡ take (length tasks) tasks ++ drop (length tasks) before
+  rebuilt : (mid t : List ℕ) → mid ≡ tasks ++ drop (length tasks) before
       → t ≡ laid 0 (list_bytes (releases_in keys)) (take (length mid - length tasks) (drop (length tasks) mid))
       → Put (input_of tasks (releases_in keys)) before (length tasks + 10 * length keys) (take (length tasks) mid ++ (t ++ drop (length mid - length tasks) (drop (length tasks) mid)))
   rebuilt mid t m e =
       let n : ℕ = length tasks in
-      let front : mid ≡ tasks ++ drop n before = m ∙ ap (λ (x : List ℕ). x ++ drop n before) (take_all n tasks (omega arith)) in
+      let front : mid ≡ tasks ++ drop n before = m in
       let behind : drop n mid ≡ drop n before = ap (drop n) front ∙ drop_at tasks (drop n before) n refl in
       let none : drop (length mid - n) (drop n mid) ≡ [] = drop_of_length-le (drop n mid) {i = length mid - n} (omega (arith, length-drop n mid)) in
       let laid-list : t ≡ list ++ drop (length list) (drop n before) =
@@ -131,7 +131,7 @@ module _ (tasks keys before : List ℕ) (room : length tasks + 10 * length keys 
       }
 
   -- the place behind the task entries, as it was answered
-  pub rebuilt_from : (from : ℕ) → from ≡ length tasks → (mid t : List ℕ) → mid ≡ take (length tasks) tasks ++ drop (length tasks) before
+  pub rebuilt_from : (from : ℕ) → from ≡ length tasks → (mid t : List ℕ) → mid ≡ tasks ++ drop (length tasks) before
       → t ≡ laid 0 (list_bytes (releases_in keys)) (take (length mid - from) (drop from mid))
       → Put (input_of tasks (releases_in keys)) before (from + 10 * length keys) (take from mid ++ (t ++ drop (length mid - from) (drop from mid)))
   rebuilt_from from e mid t m x =

@@ -42,12 +42,12 @@ before i b tail s h =
     ∙ ap (λ (n : ℕ). take i s ++ (b ∷ (tail ++ drop n s))) more
 
 -- bytes copied into the rest of a slice are laid
-pub copied : (bytes : List ℕ) (at : ℕ) (s t : List ℕ) → t ≡ take (length bytes) bytes ++ drop (length bytes) (take (length s - at) (drop at s))
+pub copied : (bytes : List ℕ) (at : ℕ) (s t : List ℕ) → t ≡ bytes ++ drop (length bytes) (take (length s - at) (drop at s))
     → take at s ++ (t ++ drop (length s - at) (drop at s)) ≡ laid at bytes s
 copied bytes at s t e =
     let n : ℕ = length bytes in
     lent (λ (x : List ℕ). bytes ++ drop n x) at s t
-    (e ∙ ap (λ (x : List ℕ). x ++ drop n (take (length s - at) (drop at s))) (take_all n bytes (omega arith)))
+    e
     ∙ ap (λ (x : List ℕ). take at s ++ (bytes ++ x)) (drop-drop n at s)
 
 infixr 20 ◌then◌

@@ -1,7 +1,7 @@
 // Numbers of 1, 4 and 8 bytes, lowest byte first: read at a place of a slice, and written into the front of a lent one.
 #![tactic(auto)]
 
-ghost use Rattle.std.specs.Prelude.{◌≡◌, ◌+◌, ◌^◌, ◌≤◌, ◌<◌, leb, length, take, drop, ◌++◌};
+ghost use Rattle.std.specs.Prelude.{◌≡◌, ◌+◌, ◌^◌, ◌≤◌, ◌<◌, leb, length, drop, ◌++◌};
 ghost use Rattle.words.specs.Words.{number_at, room, written, LeftAt};
 
 fn wide(x: u8) -> u64
@@ -152,7 +152,7 @@ pub fn put_u64(out: &mut [u8], v: u64) -> usize
 pub fn copy(from: &[u8], to: &mut [u8]) -> usize
     requires { length from.now ≤ length to.old }
     ensures count { result ≡ length from.now }
-    ensures after { to.new ≡ take result from.now ++ drop result to.old }
+    ensures after { to.new ≡ from.now ++ drop (length from.now) to.old }
 {
     let n = from.len();
     to[..n].copy_from_slice(from);

@@ -8,15 +8,15 @@ use Rattle.exports_instants.proofs.gateway_open_v5.Goals as goal
 
 pub returns-in-NoRefusal : goal.returns-in-NoRefusal
 returns-in-NoRefusal c =
-    opened_at _ _ _ _ _ _ c.«open».result _ c.«open».ensures c.in-NoRefusal.is
+    opened_at _ _ _ _ _ _ c.open-opening.result _ c.open-opening.ensures c.in-NoRefusal.is
     (ap₂ read c.put_numbers.ensures c.put_tasks.ensures) c.place_of.ensures
 
 pub returns-in-Alone : goal.returns-in-Alone
 returns-in-Alone c =
     let e = c.in-Alone.is in
-    not_opened_at _ _ _ _ c.«open».result _ _ c.«open».ensures (sym (ap refusal_number e)) (is_alone _ e) c.place_of.ensures
+    not_opened_at _ _ _ _ c.open-opening.result _ _ c.open-opening.ensures (sym (ap refusal_number e)) (is_alone _ e) c.place_of.ensures
 
 pub returns-in-AtEntry : goal.returns-in-AtEntry
 returns-in-AtEntry c =
     let e = c.in-AtEntry.is in
-    not_opened_at _ _ _ _ c.«open».result _ _ c.«open».ensures (sym (ap refusal_number e)) (is_at_entry _ _ e) c.place_of.ensures
+    not_opened_at _ _ _ _ c.open-opening.result _ _ c.open-opening.ensures (sym (ap refusal_number e)) (is_at_entry _ _ e) c.place_of.ensures

@@ -43,9 +43,8 @@ pub loop-at-preserved : goal.loop-at-preserved
 loop-at-preserved c =
     let v = c.loop-at in
     let entry = c.record_entry_at-entry in
-    let attested = c.attested-1.given in
-    let is = ap decoded (sym entry.ensures) ∙ sym c.decode.ensures ∙ attested.1 in (
-      goes_on v.invariant.0 v.invariant.1 c.loop-at-test.true attested.0.0 _ _ is c.note-noted.ensures,
+    let is = ap decoded (sym entry.ensures) ∙ sym c.decode.ensures ∙ c.in-Whole.is in (
+      goes_on v.invariant.0 v.invariant.1 c.loop-at-test.true c.in-Whole.attested _ _ is c.note-noted.ensures,
       c.note-noted.ensures.same_length ∙ v.invariant.1,
     )
 

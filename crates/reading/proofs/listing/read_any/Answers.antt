@@ -5,4 +5,4 @@ use borrow.Author.Rules.{rules}
 use Rattle.reading.proofs.listing.read_any.Goals as goal
 
 pub read_record-requires : goal.read_record-requires
-read_record-requires c = (c.requires, record { opens = c.requires.opens; enough = inl (omega arith); room = omega arith })
+read_record-requires c = record { opened = c.requires; lent = record { opens = c.requires.opens; enough = inl (omega arith); room = omega arith }; }

@@ -5,4 +5,4 @@ use borrow.Author.Rules.{rules}
 use Rattle.reading.proofs.listing.read_few.Goals as goal
 
 pub read_record-requires : goal.read_record-requires
-read_record-requires c = (c.requires.0, record { opens = c.requires.0.opens; enough = inr c.requires.1; room = omega arith })
+read_record-requires c = record { opened = c.requires.opened; lent = record { opens = c.requires.opened.opens; enough = inr c.requires.stored_len_bound; room = omega arith }; }

@@ -13,47 +13,47 @@ use Rattle.reading.proofs.listing.read_listed.Goals as goal
 
 pub slice_bounds-yields-end : goal.slice_bounds-yields-end
 slice_bounds-yields-end c =
-    let r = in_room c.args.tasks.now c.args.keys.now c.args.input.now c.requires.1 c.lay_input-end.ensures in
+    let r = in_room c.args.tasks.now c.args.keys.now c.args.input.now c.requires.keys_in_bounds c.lay_input-end.ensures in
     let size = r.size_is ∙ input_length c.args.tasks.now c.args.keys.now in
-    omega (arith, size, r.same_length, c.requires.1)
+    omega (arith, size, r.same_length, c.requires.keys_in_bounds)
 
 pub slice_bounds-yields-end-2 : goal.slice_bounds-yields-end-2
 slice_bounds-yields-end-2 c =
-    let r = in_room c.args.tasks.now c.args.keys.now c.args.input.now c.requires.1 c.lay_input-end.ensures in
+    let r = in_room c.args.tasks.now c.args.keys.now c.args.input.now c.requires.keys_in_bounds c.lay_input-end.ensures in
     let size = r.size_is ∙ input_length c.args.tasks.now c.args.keys.now in
-    sym (length-take-le _ _ (omega (arith, size, r.same_length, c.requires.1)))
+    sym (length-take-le _ _ (omega (arith, size, r.same_length, c.requires.keys_in_bounds)))
 
 pub yields-requires : goal.yields-requires
 yields-requires c =
-    let r = in_room c.args.tasks.now c.args.keys.now c.args.input.now c.requires.1 c.lay_input-end.ensures in
-    subst (λ (s : List ℕ). ReadHead s c.args.head) (sym r.holds) (read_head c.args.tasks.now (releases_in c.args.keys.now) c.args.head c.requires.0)
+    let r = in_room c.args.tasks.now c.args.keys.now c.args.input.now c.requires.keys_in_bounds c.lay_input-end.ensures in
+    subst (λ (s : List ℕ). ReadHead s c.args.head) (sym r.holds) (read_head c.args.tasks.now (releases_in c.args.keys.now) c.args.head c.requires.opened)
 
 pub slice_bounds-write_list-count : goal.slice_bounds-write_list-count
 slice_bounds-write_list-count c =
-    let r = in_room c.args.tasks.now c.args.keys.now c.args.input.now c.requires.1 c.lay_input-end.ensures in
+    let r = in_room c.args.tasks.now c.args.keys.now c.args.input.now c.requires.keys_in_bounds c.lay_input-end.ensures in
     let size = r.size_is ∙ input_length c.args.tasks.now c.args.keys.now in
     omega (arith, size)
 
 pub slice_bounds-write_list-start : goal.slice_bounds-write_list-start
 slice_bounds-write_list-start c =
-    let r = in_room c.args.tasks.now c.args.keys.now c.args.input.now c.requires.1 c.lay_input-end.ensures in
+    let r = in_room c.args.tasks.now c.args.keys.now c.args.input.now c.requires.keys_in_bounds c.lay_input-end.ensures in
     let size = r.size_is ∙ input_length c.args.tasks.now c.args.keys.now in
     omega (arith, size)
 
 pub slice_bounds-write_list-end : goal.slice_bounds-write_list-end
 slice_bounds-write_list-end c =
-    let r = in_room c.args.tasks.now c.args.keys.now c.args.input.now c.requires.1 c.lay_input-end.ensures in
+    let r = in_room c.args.tasks.now c.args.keys.now c.args.input.now c.requires.keys_in_bounds c.lay_input-end.ensures in
     let size = r.size_is ∙ input_length c.args.tasks.now c.args.keys.now in
-    omega (arith, size, r.same_length, c.requires.1)
+    omega (arith, size, r.same_length, c.requires.keys_in_bounds)
 
 pub returns-then-yields : goal.returns-then-yields
 returns-then-yields c =
     let a = c.args in
-    let r = in_room a.tasks.now a.keys.now a.input.now c.requires.1 c.lay_input-end.ensures in
+    let r = in_room a.tasks.now a.keys.now a.input.now c.requires.keys_in_bounds c.lay_input-end.ensures in
     listed_part a.tasks.now a.keys.now a.stored.now a.out.now r (sym c.yields.ensures ∙ c.if-yields.true) c.write_list.ensures
 
 pub returns : goal.returns
 returns c =
     let a = c.args in
-    let r = in_room a.tasks.now a.keys.now a.input.now c.requires.1 c.lay_input-end.ensures in
+    let r = in_room a.tasks.now a.keys.now a.input.now c.requires.keys_in_bounds c.lay_input-end.ensures in
     not_listed_part a.tasks.now a.keys.now a.stored.now a.out.now r (sym c.yields.ensures ∙ c.if-yields.false)

@@ -15,7 +15,7 @@ use Rattle.reading.proofs.listing.read_record.Goals as goal
 pub returns-then-not-noted : goal.returns-then-not-noted
 returns-then-not-noted c =
     let h = c.collect-found.ensures in
-    impossible c.args.tasks.now c.args.stored.now c.args.out.now _ h c.in-NoRefusal.is c.requires.1 (not-true _ (ap not c.if-not-noted.true))
+    impossible c.args.tasks.now c.args.stored.now c.args.out.now _ h c.in-NoRefusal.is c.requires.lent (not-true _ c.if-not-noted.true)
 
 pub slice_bounds-sort-end : goal.slice_bounds-sort-end
 slice_bounds-sort-end c =
@@ -45,11 +45,11 @@ pub read_listed-requires : goal.read_listed-requires
 read_listed-requires c =
     let h = c.collect-found.ensures in
     let w = (noted c.args.tasks.now c.args.stored.now c.args.out.now _ h c.in-NoRefusal.is).within in
-    let s = c.sort in (
-      c.requires.0,
-      subst (λ (n : ℕ). length c.args.tasks.now + 10 * n ≤ length c.args.input.now) (front_length _ _ s.new.s _ s.ensures w)
-          (omega (arith, w, h.same_length, opens_short c.args.tasks.now c.requires.1.opens, c.requires.1.room)),
-    )
+    let s = c.sort in record {
+      opened = c.requires.opened;
+      keys_in_bounds = subst (λ (n : ℕ). length c.args.tasks.now + 10 * n ≤ length c.args.input.now) (front_length _ _ s.new.s _ s.ensures w)
+          (omega (arith, w, h.same_length, opens_short c.args.tasks.now c.requires.lent.opens, c.requires.lent.room));
+    }
 
 pub returns-else-not-noted : goal.returns-else-not-noted
 returns-else-not-noted c =
@@ -57,7 +57,7 @@ returns-else-not-noted c =
     let attested = c.in-NoRefusal.is in
     let w = (noted c.args.tasks.now c.args.stored.now c.args.out.now _ h attested).within in
     let s = c.sort in
-    possible c.args.tasks.now c.args.stored.now c.args.out.now _ h attested s.new.s _ (not-false _ (ap not c.if-not-noted.false)) s.ensures
+    possible c.args.tasks.now c.args.stored.now c.args.out.now _ h attested s.new.s _ (not-false _ c.if-not-noted.false) s.ensures
     (front_is _ _ s.new.s _ s.ensures w) c.read_listed.ensures
 
 pub returns-in-Alone : goal.returns-in-Alone

@@ -18,5 +18,5 @@ returns c =
     let a = c.args in
     let copy = c.copy-size.ensures in
     let n = length a.list.now in
-    fits a.list.now a.out.now _ _ copy.0 c.if-out-list.false
-    (copy.1 ∙ ap (λ (x : List ℕ). x ++ drop n a.out.now) (take_all n a.list.now (omega arith)) ∙ ap (λ (k : ℕ). a.list.now ++ drop k a.out.now) (sym (zero-add n)))
+    fits a.list.now a.out.now _ _ copy.count c.if-out-list.false
+    (copy.after ∙ ap (λ (k : ℕ). a.list.now ++ drop k a.out.now) (sym (zero-add n)))

@@ -7,4 +7,4 @@ pub returns : goal.returns
 returns c =
     let a = c.args in
     let copy = c.copy-from in
-    rebuilt_from a.tasks.now a.keys.now a.out.now c.requires copy.result copy.ensures.0 copy.new.to c.lay.new.out copy.ensures.1 c.lay.ensures
+    rebuilt_from a.tasks.now a.keys.now a.out.now c.requires copy.result copy.ensures.count copy.new.to c.lay.new.out copy.ensures.after c.lay.ensures

@@ -19,10 +19,10 @@ held : (s : List ℕ) (at n : ℕ) (made : List ℕ) {x : Bool} → Tells x (tak
 held s at n made {x} h = subst (λ (k : ℕ). Tells x (take k (drop at s)) (take n made)) (back at n) h
 
 pub returns-then-stored-at : goal.returns-then-stored-at
-returns-then-stored-at c = too_few c.args.stored.now c.args.at c.args.made.now c.args.n c.requires.1 c.if-stored-at.true
+returns-then-stored-at c = too_few c.args.stored.now c.args.at c.args.made.now c.args.n c.requires.n_in_bounds c.if-stored-at.true
 
 pub slice_bounds-same-end-2 : goal.slice_bounds-same-end-2
-slice_bounds-same-end-2 c = sym (length-take-le c.args.n c.args.made.now c.requires.1)
+slice_bounds-same-end-2 c = sym (length-take-le c.args.n c.args.made.now c.requires.n_in_bounds)
 
 pub returns : goal.returns
 returns c =

@@ -29,7 +29,7 @@ pub slice_bounds-goes_on_with-end : goal.slice_bounds-goes_on_with-end
 slice_bounds-goes_on_with-end c = sym (same_slice c.next_piece-x.ensures ∙ c.loop-left.invariant.1)
 
 pub goes_on_with-requires : goal.goes_on_with-requires
-goes_on_with-requires c = let v = c.loop-left in (v.invariant.0.within, whole_piece v.d v.invariant.0 c.next_piece-x.ensures)
+goes_on_with-requires c = let v = c.loop-left in record { at_in_bounds = v.invariant.0.within; n_in_bounds = whole_piece v.d v.invariant.0 c.next_piece-x.ensures; }
 
 pub returns-then-not-goes_on_with : goal.returns-then-not-goes_on_with
 returns-then-not-goes_on_with c =
@@ -42,12 +42,12 @@ pub overflow_add-size : goal.overflow_add-size
 overflow_add-size c =
     let v = c.loop-left in
     let same = c.goes_on_with.ensures.same (not-false _ (ap not c.if-not-goes_on_with.false)) in
-    omega (arith, reaches v.d v.invariant.0 c.next_piece-x.ensures same, c.well-formed.1.1.1.0.0)
+    omega (arith, reaches v.d v.invariant.0 c.next_piece-x.ensures same)
 
 pub overflow_add-at : goal.overflow_add-at
 overflow_add-at c =
     let v = c.loop-left in
-    omega (arith, within c.args.s.now v.at v.d c.next_piece-x.ensures v.invariant.0.served, c.well-formed.0.0)
+    omega (arith, within c.args.s.now v.at v.d c.next_piece-x.ensures v.invariant.0.served)
 
 pub loop-left-smaller : goal.loop-left-smaller
 loop-left-smaller c =

@@ -40,7 +40,7 @@ pub overflow_add-size : goal.overflow_add-size
 overflow_add-size c = let m = c.next_piece-x.ensures in omega (arith, c.loop-left.invariant.0.few, grows m)
 
 pub overflow_add-at : goal.overflow_add-at
-overflow_add-at c = let v = c.loop-left in omega (arith, within c.args.s.now v.at v.d c.next_piece-x.ensures v.invariant.0.served, c.well-formed.0.0)
+overflow_add-at c = let v = c.loop-left in omega (arith, within c.args.s.now v.at v.d c.next_piece-x.ensures v.invariant.0.served)
 
 pub loop-left-smaller : goal.loop-left-smaller
 loop-left-smaller c = let m = c.next_piece-x.ensures in omega (arith, moves_on m c.loop-left-test.true (omega (arith, c.loop-left.invariant.1)))

@@ -13,7 +13,7 @@ use Rattle.record.proofs.writing.go_on.Given as goal
 
 abbrev pub invariant-loop-left : goal.invariant-loop-left
 invariant-loop-left l =
-    Progress l.s (run_bytes l.s (record { state = state_of l.initial.d; l.at = l.initial.at }) l.initial.left) l.initial.out l.initial.size l.keep (record { state = state_of l.d; l.at = l.at }) l.size l.left l.out × (length l.scratch ≡ 1024)
+    Progress l.s (run_bytes l.s (record { state = state_of l.initial.d; at = l.initial.at }) l.initial.left) l.initial.out l.initial.size l.keep (record { state = state_of l.d; at = l.at }) l.size l.left l.out × (length l.scratch ≡ 1024)
 
 abbrev pub decreases-loop-left : goal.decreases-loop-left
 decreases-loop-left l = l.left

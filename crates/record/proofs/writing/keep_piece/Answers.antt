@@ -26,7 +26,7 @@ returns-then-keep c =
     record {
       holds = λ e.
           lent (λ (x : List ℕ). f.piece.now ++ drop n x) f.place f.out.now _
-          (c.copy.ensures.1 ∙ ap (λ (x : List ℕ). x ++ drop n (take (length f.out.now - f.place) (drop f.place f.out.now))) (take_all n f.piece.now (omega arith)))
+          c.copy.ensures.after
           ∙ ap (λ (x : List ℕ). take f.place f.out.now ++ (f.piece.now ++ x)) (drop-drop n f.place f.out.now);
       unchanged = λ e. clash f.keep c.if-keep.true e;
     }

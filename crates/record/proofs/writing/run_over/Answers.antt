@@ -7,7 +7,7 @@ use Rattle.record.proofs.writing.run_over.Goals as goal
 pub overflow_add-read : goal.overflow_add-read
 overflow_add-read c =
     let k = c.args.head in let d = c.opened-state in
-    omega (arith, within c.args.s.now k.end d.result c.next_piece-x.ensures (opened_room k d.result d.ensures.0 c.requires).served, c.well-formed.0.0)
+    omega (arith, within c.args.s.now k.end d.result c.next_piece-x.ensures (opened_room k d.result d.ensures.0 c.requires).served)
 
 pub go_on-requires : goal.go_on-requires
 go_on-requires c = let d = c.opened-state in behind_first c.args.head d.result d.ensures.0 c.requires c.next_piece-x.ensures

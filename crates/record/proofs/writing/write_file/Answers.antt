@@ -2,10 +2,6 @@
 use mathlib.Core.Path.{refl}
 use Rattle.record.proofs.Outcomes.{runs_whole, record_whole, refused_whole, alone, at_entry}
 use borrow.Author.Rules.{rules}
-use Rattle.record.proofs.writing.write_file.Reads as reads
-use Rattle.record.proofs.writing.write_file.Lts as lts
-use Rattle.record.proofs.writing.write_run.Reads as write-run-reads
-use Rattle.run.proofs.check_file.Reads as check-file-reads
 use Rattle.record.proofs.writing.write_file.Goals as goal
 
 pub write_run-requires : goal.write_run-requires

@@ -5,23 +5,7 @@ use Rattle.waves.specs.Printing.{Room}
 use Rattle.waves.specs.Dump.{wires, wire, mark, if_new, change, changed}
 use Rattle.waves.proofs.Laying.{nothing, ◌then◌, first_room, next_room, behind_first, behind_second, change_is}
 use borrow.Author.Rules.{rules}
-use Rattle.waves.proofs.printing.put_change.Reads as reads
-use Rattle.waves.proofs.printing.put_change.Lts as lts
-use Rattle.waves.proofs.printing.put_mark.Reads as put-mark-reads
-use Rattle.waves.proofs.printing.put_new.Reads as put-new-reads
-use Rattle.waves.proofs.printing.put_new_half.Reads as put-new-half-reads
-use Rattle.waves.proofs.printing.same.Reads as same_Reads
 use Rattle.waves.proofs.printing.put_change.Goals as goal
-
--- src/printing.rt:158:8
--- src/printing.rt:159:9
--- src/printing.rt:161:9
--- src/printing.rt:162:9
--- src/printing.rt:163:9
--- src/printing.rt:164:9
--- src/printing.rt:165:5
--- src/printing.rt:153:1
--- src/printing.rt:153:1
 
 pub returns-then-same : goal.returns-then-same
 unfolding change

@@ -5,17 +5,7 @@ use Rattle.lines.specs.Lines.{decimal, newline}
 use Rattle.waves.specs.Dump.{mark}
 use Rattle.waves.proofs.Laying.{◌then◌, first_room, next_room, mark_size}
 use borrow.Author.Rules.{rules}
-use Rattle.waves.proofs.printing.put_mark.Reads as reads
-use Rattle.waves.proofs.printing.put_mark.Lts as lts
-use Rattle.waves.proofs.printing.put_byte.Reads as put-byte-reads
-use Rattle.waves.proofs.printing.put_number.Reads as put-number-reads
 use Rattle.waves.proofs.printing.put_mark.Goals as goal
-
--- src/printing.rt:59:9
--- src/printing.rt:60:9
--- src/printing.rt:61:5
--- src/printing.rt:55:1
--- src/printing.rt:55:1
 
 pub put_byte-number-requires : goal.put_byte-number-requires
 put_byte-number-requires c = omega (arith, c.requires.fits, mark_size c.args.t)

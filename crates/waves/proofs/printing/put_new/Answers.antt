@@ -6,15 +6,7 @@ use borrow.Author.Tests.{eq-eqb, ne_eqb}
 use Rattle.waves.specs.Dump.{wires}
 use Rattle.waves.proofs.Laying.{nothing, new_is, wires_size}
 use borrow.Author.Rules.{rules}
-use Rattle.waves.proofs.printing.put_new.Reads as reads
-use Rattle.waves.proofs.printing.put_new.Lts as lts
-use Rattle.waves.proofs.printing.put_wires.Reads as put-wires-reads
 use Rattle.waves.proofs.printing.put_new.Goals as goal
-
--- src/printing.rt:115:9
--- src/printing.rt:117:5
--- src/printing.rt:110:1
--- src/printing.rt:110:1
 
 pub returns-then-old-new : goal.returns-then-old-new
 returns-then-old-new c = let a = c.args in rw (eq-eqb a.old a.new c.if-old-new.true) (nothing a.at a.out.now (omega (arith, c.requires.fits)))

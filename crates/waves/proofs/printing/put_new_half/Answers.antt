@@ -6,15 +6,7 @@ use borrow.Author.Tests.{eq-eqb, ne_eqb}
 use Rattle.waves.specs.Dump.{wire}
 use Rattle.waves.proofs.Laying.{nothing, new_is, wire_size}
 use borrow.Author.Rules.{rules}
-use Rattle.waves.proofs.printing.put_new_half.Reads as reads
-use Rattle.waves.proofs.printing.put_new_half.Lts as lts
-use Rattle.waves.proofs.printing.put_wire.Reads as put-wire-reads
 use Rattle.waves.proofs.printing.put_new_half.Goals as goal
-
--- src/printing.rt:126:9
--- src/printing.rt:128:5
--- src/printing.rt:120:1
--- src/printing.rt:120:1
 
 pub returns-then-old-new : goal.returns-then-old-new
 returns-then-old-new c = let a = c.args in rw (eq-eqb a.old a.new c.if-old-new.true) (nothing a.at a.out.now (omega (arith, c.requires.1.fits)))

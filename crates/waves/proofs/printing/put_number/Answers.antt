@@ -5,13 +5,10 @@ use native.Mathlib.Omega.{arith}
 use lib.ListN.{length-set}
 use Rattle.waves.proofs.Numbers.{some_digits, Behind, begins, inside, ahead, step, ends}
 use borrow.Author.Rules.{rules}
-use Rattle.waves.proofs.printing.put_number.Reads as reads
-use Rattle.waves.proofs.printing.put_number.Lts as lts
-use Rattle.waves.proofs.printing.number_size.Reads as number-size-reads
 use Rattle.waves.proofs.printing.put_number.Goals as goal
 
 pub overflow_add-i : goal.overflow_add-i
-overflow_add-i c = omega (arith, c.requires.fits, c.number_size-size.ensures, c.well-formed.0.0)
+overflow_add-i c = omega (arith, c.requires.fits, c.number_size-size.ensures)
 
 pub overflow_sub-i : goal.overflow_sub-i
 overflow_sub-i c = omega (arith, c.number_size-size.ensures, some_digits c.args.n)
@@ -35,7 +32,7 @@ pub bounds-out-i-2 : goal.bounds-out-i-2
 bounds-out-i-2 c = let x = c.loop-left.invariant in omega (arith, inside x, x.same)
 
 pub overflow_add-result : goal.overflow_add-result
-overflow_add-result c = omega (arith, c.requires.fits, c.number_size-size.ensures, c.well-formed.0.0)
+overflow_add-result c = omega (arith, c.requires.fits, c.number_size-size.ensures)
 
 pub shape_of-out : goal.shape_of-out
 shape_of-out c = let v = c.loop-left in length-set v.out v.i (48 + v.left) ∙ v.invariant.same

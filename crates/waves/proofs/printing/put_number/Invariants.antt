@@ -4,9 +4,6 @@ use native.Mathlib.Omega.{arith}
 use lib.ListN.{length-set}
 use Rattle.waves.proofs.Numbers.{some_digits, Behind, begins, inside, ahead, step, ends}
 use borrow.Author.Rules.{rules}
-use Rattle.waves.proofs.printing.put_number.Reads as reads
-use Rattle.waves.proofs.printing.put_number.Lts as lts
-use Rattle.waves.proofs.printing.number_size.Reads as number-size-reads
 use Rattle.waves.proofs.printing.put_number.Given as goal
 
 abbrev pub invariant-loop-left : goal.invariant-loop-left

@@ -4,20 +4,7 @@ use native.Mathlib.Omega.{arith}
 use Rattle.waves.specs.Dump.{mark, wires, wire, all}
 use Rattle.waves.proofs.Laying.{◌then◌, first_room, next_room, wires_size, wire_size}
 use borrow.Author.Rules.{rules}
-use Rattle.waves.proofs.printing.put_start.Reads as reads
-use Rattle.waves.proofs.printing.put_start.Lts as lts
-use Rattle.waves.proofs.printing.put_mark.Reads as put-mark-reads
-use Rattle.waves.proofs.printing.put_wire.Reads as put-wire-reads
-use Rattle.waves.proofs.printing.put_wires.Reads as put-wires-reads
 use Rattle.waves.proofs.printing.put_start.Goals as goal
-
--- src/printing.rt:108:9
--- src/printing.rt:109:9
--- src/printing.rt:110:9
--- src/printing.rt:111:9
--- src/printing.rt:112:5
--- src/printing.rt:103:1
--- src/printing.rt:103:1
 
 pub put_mark-a-requires : goal.put_mark-a-requires
 put_mark-a-requires c = first_room (mark 0) (all c.args.w) c.requires.1

@@ -6,21 +6,7 @@ use native.Mathlib.Omega.{arith}
 use Rattle.entries.specs.Entries.{laid}
 use Rattle.waves.proofs.Laying.{copied, wires_size}
 use borrow.Author.Rules.{rules}
-use Rattle.waves.proofs.printing.put_wires.Reads as reads
-use Rattle.waves.proofs.printing.put_wires.Lts as lts
-use Rattle.words.proofs.copy.Reads as copy-reads
-use Rattle.waves.proofs.printing.wires.Reads as wires-reads
 use Rattle.waves.proofs.printing.put_wires.Goals as goal
-
--- src/printing.rt:87:16
--- src/printing.rt:88:17
--- src/printing.rt:88:24
--- src/printing.rt:88:24
--- src/printing.rt:88:24
--- src/printing.rt:88:5
--- src/printing.rt:89:5
--- src/printing.rt:83:1
--- src/printing.rt:83:1
 
 pub returns : goal.returns
 returns c =
@@ -30,6 +16,6 @@ returns c =
       within = omega (arith, c.requires);
       place_is = ap (λ (n : ℕ). a.at + n) (sym (wires_size a.code a.n));
       holds =
-          copied line.result a.at a.out.now _ c.copy.ensures.1
+          copied line.result a.at a.out.now _ c.copy.ensures.after
           ∙ ap (λ (l : List ℕ). laid a.at l a.out.now) line.ensures;
     }

@@ -1,10 +1,6 @@
 -- `waves::same` meets its contract: by the first value that differs. Assumes nothing.
 use borrow.Author.Tests.{eq-eqb, ne_eqb}
-use Rattle.waves.proofs.printing.same.Reads as reads
-use Rattle.waves.proofs.printing.same.Lts as lts
 use Rattle.waves.proofs.printing.same.Goals as goal
-
--- src/printing.rt:135:9
 
 pub returns-then-v-w : goal.returns-then-v-w
 returns-then-v-w c =

@@ -10,30 +10,7 @@ use Rattle.waves.proofs.Laying.{front, grows}
 use Rattle.waves.proofs.Drawing.{start_most}
 use Rattle.waves.proofs.Whole.{of_piece, header_room, space, all_drawn, start_room, start_drawn, from_start, to_start, nobody}
 use borrow.Author.Rules.{rules}
-use Rattle.waves.proofs.writing.draw.Reads as reads
-use Rattle.waves.proofs.writing.draw.Lts as lts
-use Rattle.dispatcher.proofs.opened.Reads as opened-reads
-use Rattle.waves.proofs.printing.put_start.Reads as put-start-reads
-use Rattle.waves.proofs.writing.draw_instants.Reads as draw-instants-reads
-use Rattle.waves.proofs.writing.header.Reads as header-reads
-use Rattle.waves.proofs.writing.keep_piece.Reads as keep-piece-reads
 use Rattle.waves.proofs.writing.draw.Goals as goal
-
--- src/writing.rt:127:9
--- src/writing.rt:128:17
--- src/writing.rt:129:16
--- src/writing.rt:129:5
--- src/writing.rt:130:9
--- src/writing.rt:133:9
--- src/writing.rt:133:9
--- src/writing.rt:142:23
--- src/writing.rt:142:9
--- src/writing.rt:143:16
--- src/writing.rt:143:16
--- src/writing.rt:143:5
--- src/writing.rt:144:5
--- src/writing.rt:121:1
--- src/writing.rt:121:1
 
 pub keep_piece-requires : goal.keep_piece-requires
 keep_piece-requires c =

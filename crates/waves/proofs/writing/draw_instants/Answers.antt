@@ -6,11 +6,6 @@ use Rattle.waves.specs.Samples.{seen}
 use Rattle.waves.specs.Drawing.{run_rest}
 use Rattle.waves.proofs.Drawing.{Drawing, begins, ends, spent, at_the_end, half_before, half_now, reads_on, room, moves}
 use borrow.Author.Rules.{rules}
-use Rattle.waves.proofs.writing.draw_instants.Reads as reads
-use Rattle.waves.proofs.writing.draw_instants.Lts as lts
-use Rattle.run.proofs.advance.Reads as advance-reads
-use Rattle.waves.proofs.writing.add_turn.Reads as add-turn-reads
-use Rattle.waves.proofs.writing.shown.Reads as shown-reads
 use Rattle.waves.proofs.writing.draw_instants.Goals as goal
 
 pub loop-left-init : goal.loop-left-init
@@ -36,7 +31,7 @@ add_turn-size-requires c =
     )
 
 pub overflow_add-at : goal.overflow_add-at
-overflow_add-at c = omega (arith, reads_on c.loop-left.invariant c.advance-x.ensures c.if-x.false, c.well-formed.0.0)
+overflow_add-at c = omega (arith, reads_on c.loop-left.invariant c.advance-x.ensures c.if-x.false)
 
 pub overflow_sub-left : goal.overflow_sub-left
 overflow_sub-left c = omega (arith, c.loop-left-test.true)

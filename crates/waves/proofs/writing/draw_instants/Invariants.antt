@@ -5,16 +5,11 @@ use Rattle.waves.specs.Samples.{seen}
 use Rattle.waves.specs.Drawing.{run_rest}
 use Rattle.waves.proofs.Drawing.{Drawing, begins, ends, spent, at_the_end, half_before, half_now, reads_on, room, moves}
 use borrow.Author.Rules.{rules}
-use Rattle.waves.proofs.writing.draw_instants.Reads as reads
-use Rattle.waves.proofs.writing.draw_instants.Lts as lts
-use Rattle.run.proofs.advance.Reads as advance-reads
-use Rattle.waves.proofs.writing.add_turn.Reads as add-turn-reads
-use Rattle.waves.proofs.writing.shown.Reads as shown-reads
 use Rattle.waves.proofs.writing.draw_instants.Given as goal
 
 abbrev pub invariant-loop-left : goal.invariant-loop-left
 invariant-loop-left l =
-    Drawing l.s (run_rest l.s (record { state = state_of l.d; l.at = l.from }) l.budget) l.initial.out (seen (state_of l.d)) l.place l.keep
+    Drawing l.s (run_rest l.s (record { state = state_of l.d; at = l.from }) l.budget) l.initial.out (seen (state_of l.d)) l.place l.keep
     (read (kept l.times l.sets l.codes) (beside l.d.priority l.d.columns (by_task l.release l.blocked l.waits))) l.at l.v l.begun l.size l.left l.out
 
 abbrev pub decreases-loop-left : goal.decreases-loop-left

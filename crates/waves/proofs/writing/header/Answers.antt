@@ -1,11 +1,7 @@
 -- `waves::header` meets its contract: the bytes of the lines. Assumes nothing.
 use mathlib.Core.Path.{refl}
 use Rattle.waves.specs.Dump.{ascii, line, header}
-use Rattle.waves.proofs.writing.header.Reads as reads
-use Rattle.waves.proofs.writing.header.Lts as lts
 use Rattle.waves.proofs.writing.header.Goals as goal
-
--- src/writing.rt:29:1
 
 pub returns : goal.returns
 unfolding header line ascii

@@ -21,7 +21,7 @@ pub returns-then-keep : goal.returns-then-keep
 returns-then-keep c =
     let f = c.args in
     record {
-      holds = λ e. copied f.piece.now f.place f.out.now _ c.copy.ensures.1;
+      holds = λ e. copied f.piece.now f.place f.out.now _ c.copy.ensures.after;
       unchanged = λ e. clash f.keep c.if-keep.true e;
     }
 

@@ -7,22 +7,7 @@ use Rattle.waves.specs.Drawing.{start, turn}
 use Rattle.waves.proofs.Laying.{◌then◌, first_room, next_room}
 use Rattle.waves.proofs.Drawing.{adds_change, adds_start, adds_both}
 use borrow.Author.Rules.{rules}
-use Rattle.waves.proofs.writing.put_turn.Reads as reads
-use Rattle.waves.proofs.writing.put_turn.Lts as lts
-use Rattle.waves.proofs.printing.put_change.Reads as put-change-reads
-use Rattle.waves.proofs.printing.put_start.Reads as put-start-reads
 use Rattle.waves.proofs.writing.put_turn.Goals as goal
-
--- src/writing.rt:53:9
--- src/writing.rt:53:9
--- src/writing.rt:53:9
--- src/writing.rt:56:9
--- src/writing.rt:56:9
--- src/writing.rt:56:9
--- src/writing.rt:58:9
--- src/writing.rt:59:5
--- src/writing.rt:46:1
--- src/writing.rt:46:1
 
 pub put_change-requires : goal.put_change-requires
 put_change-requires c = (c.requires.1.0, subst (λ l. Room c.args.at l c.args.out.now) (adds_change c.args.begun c.args.v (record { time = c.args.t; shown = c.args.w }) c.if-begun.true) c.requires.1.1)

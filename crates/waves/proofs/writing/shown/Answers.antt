@@ -3,13 +3,7 @@ use mathlib.Core.Path.{ap, ◌∙◌}
 use Rattle.rules.specs.Kept.{kept, read}
 use Rattle.waves.proofs.Seeing.{of_view, as_viewed}
 use borrow.Author.Rules.{rules}
-use Rattle.waves.proofs.writing.shown.Reads as reads
-use Rattle.waves.proofs.writing.shown.Lts as lts
-use Rattle.views.proofs.viewed.Reads as viewed-reads
 use Rattle.waves.proofs.writing.shown.Goals as goal
-
--- src/writing.rt:36:9
--- src/writing.rt:33:1
 
 pub returns : goal.returns
 returns c = λ b. let a = c.args in ap of_view (c.viewed-v.ensures b) ∙ as_viewed (read (kept a.times.now a.sets.now a.codes.now) b)

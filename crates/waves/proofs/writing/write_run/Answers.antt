@@ -5,20 +5,7 @@ use native.Mathlib.Omega.{arith}
 use lib.ListN.{length}
 use Rattle.record.proofs.Outcomes.{fits, too_short}
 use borrow.Author.Rules.{rules}
-use Rattle.waves.proofs.writing.write_run.Reads as reads
-use Rattle.waves.proofs.writing.write_run.Lts as lts
-use Rattle.waves.proofs.writing.draw.Reads as draw-reads
 use Rattle.waves.proofs.writing.write_run.Goals as goal
-
--- src/writing.rt:157:14
--- src/writing.rt:158:18
--- src/writing.rt:158:18
--- src/writing.rt:159:9
--- src/writing.rt:161:9
--- src/writing.rt:161:9
--- src/writing.rt:163:9
--- src/writing.rt:153:1
--- src/writing.rt:153:1
 
 pub draw-needed-requires : goal.draw-needed-requires
 draw-needed-requires c = let r = c.requires in record { kept = λ e. absurd (false≢true e); few = omega (arith, r.few); near = omega arith; served = r.served }
