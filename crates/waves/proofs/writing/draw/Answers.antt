@@ -34,7 +34,7 @@ returns-then-drawn c =
     to_start c.args.part d.result d.ensures.0 c.args.s.now c.args.budget (all_drawn q x g c.if-drawn.true)
 
 pub put_start-n-requires : goal.put_start-n-requires
-put_start-n-requires c = (omega arith, record { fits = omega (arith, start_most (record { processor = 255; copyin = 255; copyout = 255; half = 0 })) })
+put_start-n-requires c = record { half_bound = omega arith; room = record { fits = omega (arith, start_most (record { processor = 255; copyin = 255; copyout = 255; half = 0 })) }; }
 
 pub slice_bounds-scratch-end : goal.slice_bounds-scratch-end
 slice_bounds-scratch-end c =
