@@ -2,6 +2,7 @@
 # Build target/staticlib/libgateway.a, where what it is made of has changed. What two functions of one library call is compiled once for both and
 # then slower, so that the record function, the reading of a record, the dispatcher by instants and the waveform are proved and compiled as libraries of
 # their own; here they are put into one. What it is at is said on standard error; what `rt` says goes into target/staticlib/NAME.log.
+# With `--left FILE`, which the gate gives, over what an `rt ci` has left that began after the file was written (tools/libraries.py).
 set -eu
 unset CDPATH
 cd "$(dirname "$(readlink -f "$0")")/.."
@@ -15,7 +16,10 @@ say() {
 
 # the sum of what the library is made of: the sources and this script, and the toolchain by what `rt` says of itself
 made_of() {
-    { find crates crates.txt link/library.sh -type f -not -path '*/must-fail/*' -print0 | sort -z | xargs -0 sha256sum; rt version 2>&1; } | sha256sum
+    {
+        find crates/*/src crates/*/specs crates/*/proofs crates.txt link/library.sh -type f -print0 | sort -z | xargs -0 sha256sum
+        rt version 2>&1
+    } | sha256sum
 }
 
 command -v rt >/dev/null || {
@@ -33,11 +37,12 @@ for at in "${!libraries[@]}"; do
     name=${libraries[at]}
     say "$((at + 1)) of ${#libraries[@]}, $name: proved, with what it stands on, and compiled; some minutes where much has changed"
     began=$SECONDS
-    rt staticlib "$name" >"$out/$name.log" 2>&1 || {
+    python3 -m tools.libraries "$name" "$@" >"$out/$name.log" 2>&1 || {
         cat "$out/$name.log" >&2
         say "$name is not built"
         exit 1
     }
+    cp "crates/$name/out/lib$name.a" "$out/"
     say "$name took $((SECONDS - began)) s"
 done
 rm -f $out/libgateway.a

@@ -79,10 +79,10 @@ def call_lists(seed, count):
 
 HEADER = """\
 -- Small random files and call lists with what the simulator makes of them. Written by `python3 -m sim.rows`; not by hand.
-use mathlib.Core.List.{List, [], _∷_, _++_}
-use Rattle·rules.specs.declared.Call.the-variants.{Instant, Mark}
-use Rattle·plans·specs.specs.Rows.{Row, recorded, refused, answered}
-use Rattle·plans·specs.specs.Plans.{task, spacing, release, none, interval, job, skipped}
+use Rattle.std.specs.Prelude.{List, [], ◌∷◌, ◌++◌}
+use Rattle.rules.specs.declared.Call.TheVariants.{Instant, Mark}
+use Rattle.plans.specs.Rows.{Row, recorded, refused, answered}
+use Rattle.plans.specs.Plans.{task, spacing, release, none, interval, job, skipped}
 
 unfoldable pub runs : List Row
 runs =

@@ -9,7 +9,7 @@ import re
 from typing import NamedTuple
 
 TOKEN = re.compile(
-    r"\s+|(?P<proj>(?<=[\s(])\.[a-z][\w′-]*)|(?P<num>\d+)|(?P<name>[A-Za-z_ℕ⊥][\w′·]*(?:-[\w′]+)*)"
+    r"\s+|(?P<proj>(?<=[\w')])\.[a-z][\w']*)|(?P<num>\d+)|(?P<name>[A-Za-z_ℕ⊥][\w']*(?:-[\w']+)*)"
     r"|(?P<sign>\[\]|\+\+|&&|\|\||[≡→×⊎≤<+\-*^∷λ.:=(){};,])")
 
 # Each sign that stands between two parts, from the loosest to the tightest, and whether it joins from the right.
@@ -155,15 +155,19 @@ class Reader:
         head, parts = self.atom(), []
         while True:
             kind, word = self.peek()
-            if kind == "proj":
-                self.next()
-                head, parts = ("proj", ("app", head, parts) if parts else head, word[1:]), []
-            elif kind in ("num", "name") and word not in ("in", "let") or word in ("(", "[]"):
+            if kind in ("num", "name") and word not in ("in", "let") or word in ("(", "[]"):
                 parts.append(self.atom())
             else:
                 return ("app", head, parts) if parts else head
 
     def atom(self):
+        """A part and the fields that are taken of it: a dot stands right behind what it takes a field of."""
+        found = self.part()
+        while self.peek()[0] == "proj":
+            found = ("proj", found, self.next()[1][1:])
+        return found
+
+    def part(self):
         kind, word = self.next()
         if kind == "num":
             return ("num", int(word))

@@ -50,12 +50,12 @@ GIVEN = {
     "bit": (1, int), "size": (1, lambda s: s.bit_count()), "member": (2, lambda n, s: bool(s >> n & 1)),
     "insert": (2, lambda n, s: s | 1 << n), "remove": (2, lambda n, s: s & ~(1 << n)),
     "length": (1, lambda l: len(unlisted(l))), "min": (2, min), "max": (2, max),
-    "getD": (3, at), "replicate": (2, lambda n, value: listed([value] * n)), "take": (2, lambda n, l: listed(unlisted(l)[:n])),
+    "get_or": (3, at), "replicate": (2, lambda n, value: listed([value] * n)), "take": (2, lambda n, l: listed(unlisted(l)[:n])),
     "drop": (2, lambda n, l: listed(unlisted(l)[n:])),
-    "copyin-length": (2, at), "execution-length": (2, lambda c, n: at(c, TASKS + n)),
-    "copyout-length": (2, lambda c, n: at(c, 2 * TASKS + n)), "spacing": (2, lambda c, n: at(c, 3 * TASKS + n)),
+    "copyin_length": (2, at), "execution_length": (2, lambda c, n: at(c, TASKS + n)),
+    "copyout_length": (2, lambda c, n: at(c, 2 * TASKS + n)), "spacing": (2, lambda c, n: at(c, 3 * TASKS + n)),
     "settled": (1, lambda copyin: copyin[0] in ("NoneChosen", "Loaded", "Cancelled")),
-    "copyin-task": (1, lambda copyin: ("Task", copyin[1]) if len(copyin) > 1 else ("NoTask",))}
+    "copyin_task": (1, lambda copyin: ("Task", copyin[1]) if len(copyin) > 1 else ("NoTask",))}
 
 
 # Values that are what they look like, and how many of what they give are kept.

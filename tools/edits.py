@@ -105,7 +105,7 @@ def is_statement(edit, read):
     return all(not file.startswith("src/") or code(text) == code(read(file)) for file, text in files.items())
 
 
-def find(crates, names=(), folders=("must-fail", "must-fail/more")):
+def find(crates, names=(), folders=("must-fail", "must-fail-more")):
     """Each edit's crate, label and text, those of the gate before the others. `names` are crates, or edits as CRATE/LABEL."""
     for path in (path for folder in folders for path in sorted(crates.glob(f"*/{folder}/*.edit"))):
         crate = path.relative_to(crates).parts[0]

@@ -176,9 +176,9 @@ def row(call):
     kind, first, second = call
     number = Partial((1, lambda d: refusal(at(d, listed([call])))))
     if kind == "Instant":
-        return {"number": number, "is-instant": True, "time": first, "hands": second, "names": 0, "mark": 0}
+        return {"number": number, "is_instant": True, "time": first, "hands": second, "names": 0, "mark": 0}
     names = 1 << first if kind == "Mark" else first
-    return {"number": number, "is-instant": False, "time": 0, "hands": 0, "names": names, "mark": second}
+    return {"number": number, "is_instant": False, "time": 0, "hands": 0, "names": names, "mark": second}
 
 
 def occurred_at(d, time, tasks):
@@ -190,10 +190,10 @@ def occurred_at(d, time, tasks):
 # What the definitions over states give, of the points of a run.
 OF_RUNS = {
     "row": (1, row), "serves": (2, lambda d, call: call[0] == "Instant" and refusal(at(d, listed([call]))) == 0), "occurred": (3, occurred_at),
-    "history": (2, history), "after-calls": (2, after_calls),
-    "after-call": (2, lambda d, call: after_calls(d, listed([call]))),
-    "by-call": (2, lambda d, call: history(d, listed([call]))),
+    "history": (2, history), "after_calls": (2, after_calls),
+    "after_call": (2, lambda d, call: after_calls(d, listed([call]))),
+    "by_call": (2, lambda d, call: history(d, listed([call]))),
     "refusal": (3, lambda d, t, tasks: refusal(at(d, listed([("Instant", t, tasks)])))),
-    "mark-refusal": (3, lambda d, n, mark: refusal(at(d, listed([("Mark", n, mark)])))),
+    "mark_refusal": (3, lambda d, n, mark: refusal(at(d, listed([("Mark", n, mark)])))),
     "instant": (3, lambda d, t, tasks: {"answer": d.run.answers[d.at]}),
-    "previous-release": (2, lambda d, n: ("Tick", d.passed[n]) if n in d.passed else ("Never",))}
+    "previous_release": (2, lambda d, n: ("Tick", d.passed[n]) if n in d.passed else ("Never",))}

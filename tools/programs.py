@@ -1,7 +1,8 @@
 """The proved programs, for the commands that run them: only a proved program is run, and no build goes on while another does.
 
-What was proved is noted in target/proved, for each program the sum of its sources and its own. Where both are as noted, nothing is asked of
-the toolchain and nothing is written, so that a checkout that cannot be written runs too.
+`rt run` proves a program and leaves it in its crate's out/, from where it is taken to target/bin; so does `rt ci` (tools/taken.py). What was
+proved is noted in target/proved, for each program the sum of its sources and its own. Where both are as noted, nothing is asked of the toolchain
+and nothing is written, so that a checkout that cannot be written runs too.
 """
 
 import contextlib
@@ -20,10 +21,11 @@ from tools.output import Trouble, tell
 
 ROOT = pathlib.Path(__file__).resolve().parents[1]
 NAMES = ("gateway", "recorder", "reader", "waveform")  # those that a command runs
+OTHERS = ("session",)  # those that are only compared
 CANNOT_WRITE = (errno.EACCES, errno.EPERM, errno.EROFS)
 PIECE = 1 << 16
 STACK = 1 << 20  # bytes, more than any of them takes
-AT_ONCE = "4"  # crates proved at once, on two processors too: `rt` waits for the longest of those that it starts together
+PROVING = "rt: chose --jobs"  # what `rt` says of each crate that it proves now
 
 
 # What a program is made of.
@@ -39,8 +41,8 @@ def sum_of(name):
     """A sum over the sources that a program is proved and built from."""
     found = hashlib.sha256((ROOT / "crates.txt").read_bytes())
     for crate in sorted(crates_of(name)):
-        folder = ROOT / "crates" / crate
-        for path in sorted(path for path in folder.rglob("*") if path.suffix in (".rt", ".antt") and path.is_file()):
+        folders = [ROOT / "crates" / crate / part for part in ("src", "specs", "proofs")]
+        for path in sorted(path for folder in folders for path in folder.rglob("*") if path.suffix in (".rt", ".antt") and path.is_file()):
             data = path.read_bytes()
             found.update(f"{path.relative_to(ROOT)} {len(data)}\n".encode() + data)
     return found.hexdigest()
@@ -92,39 +94,47 @@ def follow(check, path):
             ended = check.poll() is not None
             *lines, rest = (rest + log.read()).split("\n")
             for line in lines:
-                if line.startswith("rt: ") and " proved (" in line and "unchanged" not in line:
+                if line.startswith(PROVING):
                     tell(f"{line}\n")
             if not ended:
                 time.sleep(0.05)
 
 
 def prove(name, held):
-    """Prove and build a program. The build has the lock too, and writes into a file: it goes on, and holds the lock, if this process is ended."""
+    """Prove and build a program, which `rt` then runs on nothing. The build has the lock too, and writes into a file: it goes on, and holds the lock, if
+    this process is ended."""
     log = ROOT / "target/build.log"
     with open(log, "wb") as said:
-        check = subprocess.Popen(["rt", "check", name], cwd=ROOT, stdin=subprocess.DEVNULL, stdout=said, stderr=subprocess.STDOUT,
-                                 env={"RT_JOBS": AT_ONCE, **os.environ}, pass_fds=(held.fileno(),))
+        check = subprocess.Popen(["rt", "run"], cwd=ROOT / "crates" / name, stdin=subprocess.DEVNULL, stdout=said, stderr=subprocess.STDOUT,
+                                 pass_fds=(held.fileno(),))
     follow(check, log)
     if check.returncode != 0:
         raise Trouble(log.read_text(encoding="utf-8", errors="replace") + f"gateway: {name} is not proved, so that it is not run")
 
 
+def take(name):
+    """Put a program that was proved just now into target/bin, and note of what it was proved; its bytes."""
+    made, path, note = ROOT / "crates" / name / "out" / name, ROOT / "target/bin" / name, ROOT / "target/proved" / name
+    for folder in (path.parent, note.parent):
+        folder.mkdir(parents=True, exist_ok=True)
+    program = made.read_bytes()
+    path.unlink(missing_ok=True)  # another may run it
+    path.write_bytes(program)
+    path.chmod(0o755)
+    note.write_text(noted(name, program), encoding="utf-8")
+    return program
+
+
 def build(name):
     """A program's bytes, proved and built where it is not yet."""
-    path = ROOT / "target/bin" / name
     with lock(ROOT / "target/build.lock") as held:
         program = ready(name)  # another may have built it meanwhile
         if program is not None:
             return program
         if is_lost(name):
             tell(f"gateway: {name} is proved before it is run, which takes a few minutes\n")
-            (ROOT / "target/stamp" / name).unlink(missing_ok=True)  # without it the toolchain would find nothing to do
         prove(name, held)
-        program = path.read_bytes()
-        note = ROOT / "target/proved" / name
-        note.parent.mkdir(exist_ok=True)
-        note.write_text(noted(name, program), encoding="utf-8")
-        return program
+        return take(name)
 
 
 def proved(name):

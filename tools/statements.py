@@ -20,7 +20,7 @@ CLAIM = tuple(f"specs/{name}.antt" for name in ("Queries", "Pending", "Releases"
 HISTORIES = "specs/Histories.antt"
 
 # The fields that are computed: what is left out speaks of the steps within an instant, or only that the empty sets come to an end.
-OF_CLAIM = {"of-the-list", "entries", "with-empty-sets", "nothing-pending", "complete-every-job", "nothing-waits", "waiting-taken", "last-releases"}
+OF_CLAIM = {"of_the_list", "entries", "with_empty_sets", "nothing_pending", "complete_every_job", "nothing_waits", "waiting_taken", "last_releases"}
 OF_STATES = {"behind", "counts"}
 
 OF_HISTORIES = (

@@ -7,32 +7,36 @@ import subprocess
 
 ROOT = pathlib.Path(__file__).resolve().parents[2]
 
-# Proves a crate of its own each time it has not been run before, and writes the program, unless its stamp says that there is nothing to do. A second
-# one that runs meanwhile is noted, and each build. Where there is a file 'slow', it takes a while.
+# Proves a crate of its own each time it has not been run before, and writes the program, unless it is there. A second one that runs meanwhile is
+# noted, and each build. Where there is a file 'slow', it takes a while.
 TOOLCHAIN = """#!/usr/bin/env bash
+[ "$1" = run ] || exit 2
+name=${PWD##*/}
+cd ../..
 if ! mkdir target/at-work 2>/dev/null; then echo "two at once" >>target/trouble; fi
-echo "$2" >>target/builds
+echo "$name" >>target/builds
 [ -e target/bin ] && old=1 || old=
-mkdir -p target/bin target/stamp
-if [ "$old" ]; then echo "rt: words proved (unchanged since it was last proved)"; else echo "rt: words proved (3 s)"; sleep 0.3; fi
+out=crates/$name/out
+mkdir -p "$out"
+if [ "$old" ]; then echo "rt: nothing has changed since the last proved build, by out/$name.stamp, so nothing is checked now"
+else echo "rt: chose --jobs 2 for words"; sleep 0.3; fi
 [ -e slow ] && sleep 2
 if [ -e fails ]; then echo "words: not proved"; rmdir target/at-work; exit 1; fi
-if [ ! -e "target/stamp/$2" ]; then
-case $2 in reader) kind=read ;; recorder) kind=record ;; waveform) kind=waveform ;; *) kind=file ;; esac
-cat >"target/bin/$2" <<END
+if [ ! -e "$out/$name" ]; then
+case $name in reader) kind=read ;; recorder) kind=record ;; waveform) kind=waveform ;; *) kind=file ;; esac
+cat >"$out/$name" <<END
 #!/usr/bin/env bash
-if [ -e "$PWD/says" ]; then echo "$2: standard input: it fails" >&2; exit; fi
+if [ -e "$PWD/says" ]; then echo "$name: standard input: it fails" >&2; exit; fi
 cd "$PWD"
-case $kind in record | waveform) python3 -m sim $kind 2> >(sed "s/^/$2: the input is refused: /" >&2); exit 0 ;; esac
+case $kind in record | waveform) python3 -m sim $kind 2> >(sed "s/^/$name: the input is refused: /" >&2); exit 0 ;; esac
 exec python3 -m sim $kind
 END
-chmod +x "target/bin/$2"
-echo "$2" >"target/stamp/$2"
+chmod +x "$out/$name"
 fi
 rmdir target/at-work
 """
 
-CRATES = "words:\ngateway: words io\nrecorder: words\nreader: words\nwaveform: words\n"
+CRATES = "words:\ngateway: words\nrecorder: words\nreader: words\nwaveform: words\n"
 
 
 class House:

@@ -40,7 +40,7 @@ class Reading(unittest.TestCase):
             ("app", ("var", "eqb"), [("var", "n"), ("var", "k")]), ("num", 1), ("op", "+", ("var", "k"), ("num", 2))]))
 
     def test_a_record_of_statements(self):
-        record = "pub record R (h : List Event) : Type 0 where\n  -- a comment\n  pub line : (t : ℕ) → h .x ≡ Tick t → t < 3\n"
+        record = "pub record R (h : List Event) : Type 0 where\n  -- a comment\n  pub line : (t : ℕ) → h.x ≡ Tick t → t < 3\n"
         found = antt.read_definitions(record)
         self.assertEqual(found["R"].fields, [("line", ("pi", ["t"], ("arrow",
             ("op", "≡", ("proj", ("var", "h"), "x"), ("app", ("var", "Tick"), [("var", "t")])), ("op", "<", ("var", "t"), ("num", 3)))))])
@@ -79,12 +79,12 @@ class Runs(unittest.TestCase):
 
     def test_a_line_that_says_otherwise_does_not(self):
         self.assertFalse(self.changed("specs/Pending.antt", "Tick u → taking n after ≡ Tick c", "Tick u → taking n after ≡ Tick u"))
-        self.assertFalse(self.changed("specs/Intervals.antt", "(1 - x .half)", "(x .half)"))
-        self.assertFalse(self.changed("specs/Releases.antt", ".set-waiting + skipped", ".later + skipped"))
-        self.assertFalse(self.changed("specs/Copying.antt", "false (completes e || x .choosing)", "false (x .choosing)"))
+        self.assertFalse(self.changed("specs/Intervals.antt", "(1 - x.half)", "x.half"))
+        self.assertFalse(self.changed("specs/Releases.antt", ".set_waiting + skipped", ".later + skipped"))
+        self.assertFalse(self.changed("specs/Copying.antt", "false (completes e || x.choosing)", "false x.choosing"))
         self.assertFalse(self.changed("specs/Claim.antt", "place n before ≡ 1 →", "place n before ≡ 0 →"))
-        self.assertFalse(self.changed("specs/Copying.antt", "(details e .tick + copyin-length columns n)", "(details e .tick + copyin-length columns n + 1)"))
-        self.assertFalse(self.changed("specs/Copying.antt", "(completes e || (takes e && x .choosing))", "(completes e)"))
+        self.assertFalse(self.changed("specs/Copying.antt", "((details e).tick + copyin_length columns n)", "((details e).tick + copyin_length columns n + 1)"))
+        self.assertFalse(self.changed("specs/Copying.antt", "(completes e || (takes e && x.choosing))", "(completes e)"))
 
     def test_a_history_that_an_event_is_missing_of(self):
         claims = Claims([read("guarantees", file) for file in statements.CLAIM], OF_RUNS)
@@ -102,7 +102,7 @@ class Judging(unittest.TestCase):
         return statements.judged(edit, files, read)
 
     def test_a_statement_that_a_run_breaks(self):
-        edit = "file: specs/Claim.antt\nold: total is-begin history ≤ 3 *\nnew: total is-begin history ≤ 2 *\n"
+        edit = "file: specs/Claim.antt\nold: total is_begin history ≤ 3 *\nnew: total is_begin history ≤ 2 *\n"
         self.assertEqual(self.judged("guarantees", edit)[0], "statement")
         self.assertEqual(self.judged("guarantees", edit, "why: none\n")[0], "error")
 

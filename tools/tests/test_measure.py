@@ -66,7 +66,7 @@ class Parsing(unittest.TestCase):
     def test_names_choose_crates_and_edits(self):
         with tempfile.TemporaryDirectory() as folder:
             crates = pathlib.Path(folder)
-            for path in ("a/must-fail/x.edit", "a/must-fail/more/y.edit", "b/must-fail/x.edit"):
+            for path in ("a/must-fail/x.edit", "a/must-fail-more/y.edit", "b/must-fail/x.edit"):
                 (crates / path).parent.mkdir(parents=True, exist_ok=True)
                 (crates / path).write_text("")
             self.assertEqual([found[:2] for found in find(crates)], [("a", "x"), ("b", "x"), ("a", "y")])

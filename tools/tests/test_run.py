@@ -317,7 +317,7 @@ class FirstRuns(unittest.TestCase):
             house = House(folder)
             status, printed, said = house.run("run", house.plan(TASK + "release 0 1\n"))
             self.assertEqual((status, printed), (0, LINES_C))
-            self.assertEqual(said, "gateway: gateway is proved before it is run, which takes a few minutes\nrt: words proved (3 s)\n")
+            self.assertEqual(said, "gateway: gateway is proved before it is run, which takes a few minutes\nrt: chose --jobs 2 for words\n")
             self.assertEqual(house.run("run", house.plan(TASK))[2], "")
 
     def test_two_at_once(self):

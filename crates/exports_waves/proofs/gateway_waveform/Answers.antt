@@ -7,4 +7,9 @@ pub returns : goal.returns
 returns c =
     let write = c.write-outcome.ensures in
     let answered = write.answered in
-    (c.number_of.ensures ∙ answered.number, (c.value_of.ensures ∙ answered.value, (answered.wrote.holds, write.views)))
+    record {
+      value = c.number_of.ensures ∙ answered.number;
+      value_after = c.value_of.ensures ∙ answered.value;
+      out_after = answered.wrote.holds;
+      accepted_views = write.views;
+    }
