@@ -1,6 +1,7 @@
 -- A copy-in gives way only to a marked job of strictly higher priority that is taken at the same instant: the marked jobs of an instant, gathered along it,
 -- and what step d finds among them.
-use Rattle.guarantees.specs.Types.{◌≡◌, refl, sym, ap, ◌∙◌, subst, Bool, true, false, cond, false≢true, List, [], ◌∷◌, ◌++◌, append_assoc, ◌⊎◌, inl, inr, ⊎_elim, ℕ, zero, suc, ◌≤◌, ◌<◌, MaybeTask, NoTask, Task, CopyIn, Interval, Phase, Within, Table, State, Call}
+use Rattle.std.proofs.Common.{◌≡◌, ◌∷◌, ◌++◌, ◌⊎◌, ◌≤◌, ◌<◌}
+use Rattle.guarantees.specs.Types.{refl, sym, ap, ◌∙◌, subst, Bool, true, false, cond, false≢true, List, [], append_assoc, inl, inr, ⊎_elim, ℕ, zero, suc, MaybeTask, NoTask, Task, CopyIn, Interval, Phase, Within, Table, State, Call}
 use native.Mathlib.Omega.{arith}
 use borrow.Author.Tests.{eqb-true, eqb-false, ltb-true}
 use lib.Dec.{eqb}

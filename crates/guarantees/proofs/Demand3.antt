@@ -1,5 +1,6 @@
 -- Demand 3: the claim holds of every list of calls.
-use Rattle.guarantees.specs.Types.{◌≡◌, refl, sym, ap, ◌∙◌, subst, Bool, true, false, List, ◌∷◌, ◌++◌, append_assoc, ℕ, ◌<◌, Table, MaybeTask, NoTask, Task, State, NoRefusal, Never, Call}
+use Rattle.std.proofs.Common.{◌≡◌, ◌∷◌, ◌++◌, ◌<◌}
+use Rattle.guarantees.specs.Types.{refl, sym, ap, ◌∙◌, subst, Bool, true, false, List, append_assoc, ℕ, Table, MaybeTask, NoTask, Task, State, NoRefusal, Never, Call}
 use native.Mathlib.Omega.{arith}
 use lib.ListN.{get_or}
 use Rattle.sets.specs.Sets.{member, size}

@@ -1,5 +1,6 @@
 -- 7/13: the number of a job's intervals by h, that the other readings of h are not smaller, and the claim on each history.
-use Rattle.guarantees.specs.Types.{◌≡◌, refl, sym, ap, ◌∙◌, subst, Bool, true, false, cond, List, [], ◌∷◌, ◌++◌, ℕ, zero, suc, ◌+◌, ◌*◌, ◌^◌, ◌≤◌, ◌<◌, Table, MaybeTask, NoTask, Task, Never, Tick}
+use Rattle.std.proofs.Common.{◌≡◌, ◌∷◌, ◌++◌, ◌+◌, ◌*◌, ◌^◌, ◌≤◌, ◌<◌}
+use Rattle.guarantees.specs.Types.{refl, sym, ap, ◌∙◌, subst, Bool, true, false, cond, List, [], ℕ, zero, suc, Table, MaybeTask, NoTask, Task, Never, Tick}
 use native.Mathlib.Omega.{arith}
 use Prim.Native.Nat.{max}
 use native.Mathlib.Nat.{not-suc-le-zero, le_of_suc-le-suc, mul-le-mul, mul-le-mul_right}

@@ -1,5 +1,6 @@
 -- The entry of a job done tells the truth: along the calls, the state knows of each task's last job what the walk of Tally finds.
-use Rattle.guarantees.specs.Types.{◌≡◌, refl, sym, ap, ◌∙◌, subst, Bool, true, false, cond, false≢true, List, ◌∷◌, ◌++◌, append_assoc, inr, ⊎_elim, ℕ, ◌<◌, Table, Jobs, Clock, At, CopyOut, NoCopyOut, CopyingOut, CopiedOut, Interval, Phase, Between, Within, State, NoJob, Job, Never, Tick, Call, JobEntry, Occurred, Served, Refused}
+use Rattle.std.proofs.Common.{◌≡◌, ◌∷◌, ◌++◌, ◌<◌}
+use Rattle.guarantees.specs.Types.{refl, sym, ap, ◌∙◌, subst, Bool, true, false, cond, false≢true, List, append_assoc, inr, ⊎_elim, ℕ, Table, Jobs, Clock, At, CopyOut, NoCopyOut, CopyingOut, CopiedOut, Interval, Phase, Between, Within, State, NoJob, Job, Never, Tick, Call, JobEntry, Occurred, Served, Refused}
 use native.Mathlib.Omega.{arith}
 use lib.Dec.{eqb}
 use lib.ListN.{get_or, replicate}

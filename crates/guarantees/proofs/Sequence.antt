@@ -1,5 +1,6 @@
 -- The events of an instant come in the order of its steps.
-use Rattle.guarantees.specs.Types.{◌≡◌, refl, sym, subst, Bool, true, false, cond, true≢false, ⊎_elim, List, [], ◌∷◌, ◌++◌, ℕ, ◌≤◌, Table, Processor, Idle, CopyingIn, Executing, Finished, Phase, Between, Within, State, Done, NoJob, Job, Call}
+use Rattle.std.proofs.Common.{◌≡◌, ◌∷◌, ◌++◌, ◌≤◌}
+use Rattle.guarantees.specs.Types.{refl, sym, subst, Bool, true, false, cond, true≢false, ⊎_elim, List, [], ℕ, Table, Processor, Idle, CopyingIn, Executing, Finished, Phase, Between, Within, State, Done, NoJob, Job, Call}
 use native.Mathlib.Omega.{arith}
 use borrow.Author.Tests.{leb-true}
 use lib.Dec.{leb}

@@ -2,7 +2,8 @@
 -- the copy-in of the open interval, and each step keeps it. A job of an earlier interval: the copy-in is not chosen yet, or is of a task
 -- not lower than n, or, where none was chosen or it was cancelled, some task released and marked in this interval and ready is not lower
 -- than n. An unmarked job of this interval: nothing is shown of the next one.
-use Rattle.guarantees.specs.Types.{Table, ◌≡◌, refl, sym, ap, ◌∙◌, subst, ⊎_elim, true, false, false≢true, List, [], ◌∷◌, ◌++◌, ℕ, ◌≤◌, ◌<◌, MaybeTask, NoTask, Task, Processor, CopyIn, Unchosen, NoneChosen, Copying, Loaded, Cancelled, Interval, Next, NoneNext, LoadedNext, PromotedNext, Outgoing, Phase, Between, Within, State, Stage, Call}
+use Rattle.std.proofs.Common.{◌≡◌, ◌∷◌, ◌++◌, ◌≤◌, ◌<◌}
+use Rattle.guarantees.specs.Types.{Table, refl, sym, ap, ◌∙◌, subst, ⊎_elim, true, false, false≢true, List, [], ℕ, MaybeTask, NoTask, Task, Processor, CopyIn, Unchosen, NoneChosen, Copying, Loaded, Cancelled, Interval, Next, NoneNext, LoadedNext, PromotedNext, Outgoing, Phase, Between, Within, State, Stage, Call}
 use native.Mathlib.Omega.{arith}
 use borrow.Author.Tests.{ltb-true}
 use lib.Dec.{eqb}

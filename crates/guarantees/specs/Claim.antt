@@ -1,7 +1,7 @@
 -- Demand 3: the claim about a whole list of instants and mark calls. What stands between quotation marks is the demand, or document 01,
 -- "The dispatcher by instants", second paragraph; below each quotation stands what it says of a history (History, Queries).
-use Rattle.guarantees.specs.Types.{◌≡◌, Bool, true, false, cond, List, [], ◌∷◌, ◌++◌, ℕ, ◌+◌, ◌*◌, ◌≤◌, ◌<◌, Table, MaybeTask, NoTask, Task, State, Due, Never, Tick, NoRefusal, Call, Instant}
-use Rattle.std.specs.Prelude.{leb, get_or, length}
+use Rattle.guarantees.specs.Types.{Bool, true, false, cond, List, [], ℕ, Table, MaybeTask, NoTask, Task, State, Due, Never, Tick, NoRefusal, Call, Instant}
+use Rattle.std.specs.Prelude.{leb, get_or, length, ◌≡◌, ◌∷◌, ◌++◌, ◌+◌, ◌*◌, ◌≤◌, ◌<◌}
 use Rattle.sets.specs.Sets.{member, size}
 use Rattle.table.specs.Table.{copyin_length, execution_length, copyout_length}
 use Rattle.rules.specs.Instant.{previous_release}

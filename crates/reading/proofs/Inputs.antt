@@ -1,5 +1,6 @@
 -- The input made of task entries that open a dispatcher and a list of releases: its head is theirs, and what is read behind it is the list.
 -- Assumes nothing.
+use Rattle.std.proofs.Common.{◌∷◌, ◌++◌, ◌+◌}
 use mathlib.Core.Path.{◌≡◌, refl, sym, ap, ap₂, ◌∙◌, subst}
 use mathlib.Core.List.{append_assoc}
 use mathlib.Core.Logic.{inr}
@@ -29,7 +30,7 @@ use Rattle.record.specs.Types.{Entry, NoneBefore}
 use Rattle.record.proofs.Accepted.{Accepted, accepted}
 use Rattle.record.proofs.Outcomes
 use Rattle.record.proofs.TasksAlone.{unlike}
-use Rattle.reading.specs.Types.{true, false, List, [], ◌∷◌, ◌++◌, ℕ, suc, ◌+◌, Release, NoRefusal}
+use Rattle.reading.specs.Types.{true, false, List, [], ℕ, suc, Release, NoRefusal}
 use Rattle.reading.specs.Reading.{list_bytes, input_of}
 use Rattle.reading.specs.Parts.{ReadHead, Opened}
 use Rattle.reading.proofs.RunAttested.{tally}

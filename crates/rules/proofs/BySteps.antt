@@ -1,5 +1,6 @@
 -- An instant by its steps: where each step leaves what the rules say of the step before it, the last leaves what they say of the instant.
-use Rattle.rules.specs.Types.{ℕ, Phase, Between, Within, State, Closed, NoInterval, Occurred, Stage, ◌≡◌, refl, ap, ◌∙◌}
+use Rattle.std.proofs.Common.{◌≡◌}
+use Rattle.rules.specs.Types.{ℕ, Phase, Between, Within, State, Closed, NoInterval, Occurred, Stage, refl, ap, ◌∙◌}
 use mathlib.Core.Path.{ap₂}
 use Rattle.sets.specs.Sets.{union}
 use Rattle.sets.proofs.Laws.{by-test}

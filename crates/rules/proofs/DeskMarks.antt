@@ -1,5 +1,6 @@
 -- 10/13: what is said of marks for a set of tasks. Assumes nothing.
-use Rattle.rules.specs.Types.{◌≡◌, refl, sym, ap, ◌∙◌, subst, Bool, true, false, cond, not, ◌&&◌, ◌||◌, List, [], ◌∷◌, ℕ, State}
+use Rattle.std.proofs.Common.{◌≡◌, ◌&&◌, ◌||◌, ◌∷◌}
+use Rattle.rules.specs.Types.{refl, sym, ap, ◌∙◌, subst, Bool, true, false, cond, not, List, [], ℕ, State}
 use mathlib.Core.Bool.{true≢false, false≢true}
 use Prim.Native.Nat.{◌<◌, ◌^◌}
 use native.Mathlib.Omega.{arith}

@@ -1,6 +1,7 @@
 -- An instant over lent arrays, step behind step: what each of them leaves, read back, is what the rules say of the instant. Assumes nothing.
+use Rattle.std.proofs.Common.{◌≡◌}
 use mathlib.Core.Path.{ap₂}
-use Rattle.rules.specs.Types.{Bool, true, false, List, ℕ, ◌≡◌, refl, sym, ap, ◌∙◌, subst, Interval, Phase, Between, Within, State, Stage, NoJob, Closed, NoInterval, Span, IntervalEntry, Occurred}
+use Rattle.rules.specs.Types.{Bool, true, false, List, ℕ, refl, sym, ap, ◌∙◌, subst, Interval, Phase, Between, Within, State, Stage, NoJob, Closed, NoInterval, Span, IntervalEntry, Occurred}
 use mathlib.Core.Bool.{false≢true, true≢false}
 use lib.ListN.{get_or}
 use Rattle.sets.proofs.Laws.{by-test}

@@ -1,5 +1,6 @@
 -- The registers where they are kept: a law about arrays of known lengths is one about their numbers.
-use Rattle.rules.specs.Types.{Bool, true, false, not, cond, List, [], ◌∷◌, ℕ, zero, suc, ◌-◌, ◌<◌, ◌≤◌, ◌≡◌, refl, sym, ap, ◌∙◌, subst, ◌⊎◌, inl, inr, ⊎_elim, State, Registers, Jobs, NoJob, Job}
+use Rattle.std.proofs.Common.{◌∷◌, ◌-◌, ◌<◌, ◌≤◌, ◌≡◌, ◌⊎◌}
+use Rattle.rules.specs.Types.{Bool, true, false, not, cond, List, [], ℕ, zero, suc, refl, sym, ap, ◌∙◌, subst, inl, inr, ⊎_elim, State, Registers, Jobs, NoJob, Job}
 use native.Mathlib.Omega.{arith}
 use mathlib.Core.Bool.{true≢false}
 use borrow.Author.Tests.{eqb-true, eqb-false, ne_eqb, lt-ltb, le-ltb}

@@ -1,5 +1,6 @@
 -- What stands in numbers, by its kind, where the code tests fewer kinds than there are.
-use Rattle.rules.specs.Types.{List, true, false, not, ℕ, ◌-◌, ◌≤◌, ◌<◌, ◌≡◌, ap, ◌∙◌, Table, Jobs, Registers, Done, CopyingIn, Executing, Finished, CopyingOut, Outgoing, Task, NoTask, NoneNext, NoJob, Job}
+use Rattle.std.proofs.Common.{◌-◌, ◌≤◌, ◌<◌, ◌≡◌}
+use Rattle.rules.specs.Types.{List, true, false, not, ℕ, ap, ◌∙◌, Table, Jobs, Registers, Done, CopyingIn, Executing, Finished, CopyingOut, Outgoing, Task, NoTask, NoneNext, NoJob, Job}
 use native.Mathlib.Omega.{arith}
 use borrow.Author.Tests.{eqb-true, eqb-false, eq-eqb, ne_eqb}
 use lib.Dec.{eqb}

@@ -1,5 +1,6 @@
 -- Steps c and d: what gives way to the releases that are taken, and that without releases nothing changes.
-use Rattle.rules.specs.Types.{Bool, true, false, cond, not, ◌&&◌, ◌||◌, List, ℕ, zero, suc, ◌^◌, ◌<◌, ◌≡◌, refl, sym, ap, ◌∙◌, MaybeTask, NoTask, CopyIn, Unchosen, NoneChosen, Copying, Loaded, Cancelled, Interval, Phase, Between, Within, State, Registers}
+use Rattle.std.proofs.Common.{◌&&◌, ◌||◌, ◌^◌, ◌<◌, ◌≡◌}
+use Rattle.rules.specs.Types.{Bool, true, false, cond, not, List, ℕ, zero, suc, refl, sym, ap, ◌∙◌, MaybeTask, NoTask, CopyIn, Unchosen, NoneChosen, Copying, Loaded, Cancelled, Interval, Phase, Between, Within, State, Registers}
 use mathlib.Core.Path.{ap₂}
 use mathlib.Core.Bool.{true≢false}
 use borrow.Author.Tests.{eqb-true}

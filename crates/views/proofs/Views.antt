@@ -1,6 +1,7 @@
 -- What goes on now, over the numbers. Assumes nothing.
+use Rattle.std.proofs.Common.{◌≡◌}
 use mathlib.Core.Path.{ap₂}
-use Rattle.rules.specs.Types.{Bool, true, false, cond, List, ℕ, ◌≡◌, refl, ap, ◌∙◌, Registers}
+use Rattle.rules.specs.Types.{Bool, true, false, cond, List, ℕ, refl, ap, ◌∙◌, Registers}
 use borrow.Author.Tests.{eqb-true, eq-eqb, ne_eqb}
 use lib.Dec.{eqb}
 use lib.ListN.{get_or, set}

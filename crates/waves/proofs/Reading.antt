@@ -1,4 +1,5 @@
 -- A dump's bytes, read by the viewer: words, numbers, marks and values. Assumes nothing.
+use Rattle.std.proofs.Common.{◌&&◌, ◌∷◌, ◌++◌, ◌+◌, ◌*◌}
 use mathlib.Core.Path.{◌≡◌, refl, sym, ap, ◌∙◌, subst}
 use mathlib.Core.Bool.{true≢false}
 use Prim.Native.Nat.{◌/◌, ◌%◌, ◌≤◌, ◌<◌}
@@ -11,7 +12,7 @@ use Rattle.lines.specs.Lines.{decimal, newline}
 use Rattle.lines.proofs.Laws.{one_digit, last_digit}
 use mathlib.Core.Bool.{not}
 use Prim.Native.Nat.{zero, suc, ◌-◌}
-use Rattle.waves.specs.Types.{Bool, true, false, ◌&&◌, List, [], ◌∷◌, ◌++◌, ℕ, ◌+◌, ◌*◌}
+use Rattle.waves.specs.Types.{Bool, true, false, List, [], ℕ}
 use Rattle.waves.specs.Dump.{digit, wires, wire, mark}
 use Rattle.waves.specs.Viewer.{blank, gathered, parted, words, Number, NoNumber, Is, number_from, number, At, Put, Events, Unread, with_event, Nothing, Value, timed, events}
 

@@ -1,4 +1,5 @@
-use Rattle.guarantees.specs.Types.{◌≡◌, List, ℕ, ◌+◌, ◌-◌, ◌^◌, ◌≤◌, ◌<◌}
+use Rattle.std.proofs.Common.{◌≡◌, ◌+◌, ◌-◌, ◌^◌, ◌≤◌, ◌<◌}
+use Rattle.guarantees.specs.Types.{List, ℕ}
 use Rattle.table.specs.Table.{copyin_length, execution_length, copyout_length}
 use Rattle.guarantees.specs.Figure.{greatest}
 use Rattle.guarantees.proofs.planning.longest_interval.Given as goal

@@ -1,5 +1,6 @@
 -- `rules::order::count_all` meets its contract: the tasks passed have one more where they are marked. Assumes nothing.
-use Rattle.rules.specs.Types.{Bool, cond, List, [], ◌∷◌, ℕ, suc, ◌+◌, min, ◌≤◌, ◌<◌, ◌≡◌, refl, sym, ap, ◌∙◌}
+use Rattle.std.proofs.Common.{◌∷◌, ◌+◌, ◌≤◌, ◌<◌, ◌≡◌}
+use Rattle.rules.specs.Types.{Bool, cond, List, [], ℕ, suc, min, refl, sym, ap, ◌∙◌}
 use native.Mathlib.Omega.{arith}
 use borrow.Author.Tests.{eqb-true, eqb-false}
 use lib.Dec.{eqb}

@@ -1,4 +1,5 @@
-use Rattle.rules.specs.Types.{Bool, cond, ◌&&◌, List, ℕ, ◌+◌, ◌-◌, min, ◌≤◌, ◌<◌, ◌≡◌}
+use Rattle.std.proofs.Common.{◌&&◌, ◌+◌, ◌-◌, ◌≤◌, ◌<◌, ◌≡◌}
+use Rattle.rules.specs.Types.{Bool, cond, List, ℕ, min}
 use lib.Dec.{eqb}
 use lib.ListN.{length, get_or}
 use Rattle.sets.specs.Sets.{member}

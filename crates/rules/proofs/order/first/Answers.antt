@@ -1,5 +1,6 @@
 -- `rules::order::first` meets its contract: the best so far is the highest of the tasks below the lowest that is left. Assumes nothing.
-use Rattle.rules.specs.Types.{Bool, true, false, cond, List, ℕ, zero, suc, ◌≤◌, ◌<◌, MaybeTask, NoTask, Task, ◌≡◌, refl, sym, ap, ◌∙◌, ⊎_elim}
+use Rattle.std.proofs.Common.{◌≤◌, ◌<◌, ◌≡◌}
+use Rattle.rules.specs.Types.{Bool, true, false, cond, List, ℕ, zero, suc, MaybeTask, NoTask, Task, refl, sym, ap, ◌∙◌, ⊎_elim}
 use native.Mathlib.Omega.{arith}
 use native.Mathlib.Nat.{eq-or-lt_of_le, le_of_suc-le-suc}
 use borrow.Author.Tests.{lt-ltb}

@@ -1,4 +1,5 @@
-use Rattle.rules.specs.Types.{◌-◌, ◌<◌, Task, ◌≡◌}
+use Rattle.std.proofs.Common.{◌-◌, ◌<◌, ◌≡◌}
+use Rattle.rules.specs.Types.{Task}
 use lib.ListN.{get_or}
 use Rattle.sets.specs.Sets.{lowest}
 use Rattle.rules.specs.Order.{highest_below}

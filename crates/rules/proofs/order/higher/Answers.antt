@@ -1,5 +1,6 @@
 -- `rules::order::higher` meets its contract: of the tasks passed, those below the limit are marked. Assumes nothing.
-use Rattle.rules.specs.Types.{Bool, false, cond, ◌&&◌, List, ℕ, ◌+◌, ◌≤◌, ◌<◌, ◌≡◌, refl, sym, ap, ◌∙◌}
+use Rattle.std.proofs.Common.{◌&&◌, ◌+◌, ◌≤◌, ◌<◌, ◌≡◌}
+use Rattle.rules.specs.Types.{Bool, false, cond, List, ℕ, refl, sym, ap, ◌∙◌}
 use native.Mathlib.Omega.{arith}
 use borrow.Author.Tests.{ltb-true, ltb-false, lt-ltb, le-ltb, eqb-true, eqb-false}
 use lib.Dec.{eqb, ltb}

@@ -1,4 +1,5 @@
-use Rattle.rules.specs.Types.{cond, ◌&&◌, List, ℕ, ◌-◌, ◌≤◌, ◌<◌, ◌≡◌}
+use Rattle.std.proofs.Common.{◌&&◌, ◌-◌, ◌≤◌, ◌<◌, ◌≡◌}
+use Rattle.rules.specs.Types.{cond, List, ℕ}
 use lib.Dec.{ltb}
 use lib.ListN.{length, get_or}
 use Rattle.rules.proofs.order.higher.Given as goal

@@ -1,5 +1,6 @@
 -- `rules::spacing::too_soon` meets its contract: of the tasks passed, those whose release comes too soon are gathered. Assumes nothing.
-use Rattle.rules.specs.Types.{Bool, true, false, ◌&&◌, List, [], ℕ, ◌^◌, ◌<◌, ◌≡◌, refl, sym, ap, ◌∙◌}
+use Rattle.std.proofs.Common.{◌&&◌, ◌^◌, ◌<◌, ◌≡◌}
+use Rattle.rules.specs.Types.{Bool, true, false, List, [], ℕ, refl, sym, ap, ◌∙◌}
 use native.Mathlib.Omega.{arith}
 use borrow.Author.Tests.{eqb-true}
 use lib.Dec.{eqb}

@@ -1,4 +1,5 @@
-use Rattle.rules.specs.Types.{Bool, cond, ◌&&◌, List, ℕ, Never, Tick, ◌-◌, ◌^◌, ◌<◌, ◌≡◌}
+use Rattle.std.proofs.Common.{◌&&◌, ◌-◌, ◌^◌, ◌<◌, ◌≡◌}
+use Rattle.rules.specs.Types.{Bool, cond, List, ℕ, Never, Tick}
 use lib.ListN.{get_or}
 use Rattle.sets.specs.Sets.{member, lowest}
 use Rattle.table.specs.Table.{spacing}

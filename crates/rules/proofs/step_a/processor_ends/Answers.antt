@@ -1,5 +1,6 @@
 -- `rules::step_a::processor_ends` meets its contract: by whether its phase ends now, and which it is. Assumes nothing.
-use Rattle.rules.specs.Types.{◌≡◌, refl, sym, List, ℕ, Table, Processor}
+use Rattle.std.proofs.Common.{◌≡◌}
+use Rattle.rules.specs.Types.{refl, sym, List, ℕ, Table, Processor}
 use borrow.Author.Tests.{ne_eqb}
 use lib.ListN.{get_or}
 use lib.Seq.{set-get_or}
