@@ -1,15 +1,15 @@
 -- The steps of an instant one behind the other: what is left and what is told. Assumes nothing.
-use Rattle.std.proofs.Common.{◌≡◌, ℕ, false, List, [], ◌∷◌, length, get_or, set as put, sym, refl, ap, ◌∙◌, subst}
+use Rattle.std.proofs.Common.{◌≡◌, ℕ, false, List, [], ◌∷◌, length, get_or, set as put, refl, ap, ◌∙◌, subst}
 use Rattle.sets.specs.Sets.{union, difference}
 use Rattle.rules.specs.With.{at_clock}
-use Rattle.rules.specs.Instant.{released, taken, deferred, skipped, held_over, step_a, step_f, step_g, steps_c_d, due, closing, occurred}
+use Rattle.rules.specs.Instant.{released, taken, deferred, skipped, step_a, step_f, step_g, steps_c_d, due, closing, occurred}
 use Rattle.rules.specs.Registers.{phase_in, state_in}
 use Rattle.rules.specs.Kept.{Kept, Whole, Beside, registers_in, read, Becomes, copyout_ends}
 use Rattle.rules.specs.Steps.{TooSoonAt, HeldOverAt, CopiesOut, TestedAt}
 use Rattle.rules.specs.declared.ReleaseFates.{ReleaseFates}
 use Rattle.rules.proofs.Kept.{Long, by_length}
 use Rattle.rules.proofs.Instants.{Left, left, occurred_by, once_here}
-use Rattle.dispatcher.specs.Types.{State, Stage, JobEntry, IntervalEntry, Done, NoJob, Job, Closed, NoInterval, Span, Due, Never, Tick, Occurred}
+use Rattle.dispatcher.specs.Types.{Stage, JobEntry, IntervalEntry, Done, NoJob, Job, Closed, NoInterval, Span, Due, Never, Tick, Occurred}
 use Rattle.dispatcher.specs.Telling.{job_told, interval_told, due_told, due_number, job_and_whether, before_told, after_told, told_of, occurred_in}
 use Rattle.dispatcher.specs.Promises.{DoneFits, TellsJob, ToldInterval, ClosedReads, TestedTold, step_e_f, EndedAt, TellsSkipped, TellsDue, Instant}
 use Rattle.dispatcher.proofs.ReadBack.{ClosingReads, back}

@@ -1,8 +1,8 @@
 -- The next due time as a plain number: whether it is before a time, and what is told of it. Assumes nothing.
-use Rattle.std.proofs.Common.{◌≡◌, ℕ, ◌-◌, ◌^◌, ◌<◌, ◌≤◌, Bool, true, false, List, set, sym, refl, ap, ◌∙◌, ⊎_elim, arith, le-ltb, lt-ltb}
+use Rattle.std.proofs.Common.{◌≡◌, ℕ, ◌-◌, ◌^◌, ◌<◌, ◌≤◌, Bool, true, false, List, set, sym, ap, ◌∙◌, ⊎_elim, arith, le-ltb, lt-ltb}
 use Rattle.rules.specs.Calls.{before_now}
 use Rattle.rules.specs.Steps.{Stands, IsDue}
-use Rattle.dispatcher.specs.Types.{Due, Never, Tick}
+use Rattle.dispatcher.specs.Types.{Due, Tick}
 use Rattle.dispatcher.specs.Telling.{due_told, due_number}
 use Rattle.dispatcher.specs.Promises.{DueTold}
 

@@ -1,6 +1,6 @@
 -- What a call promises, of its outcome and of the state that a refused one hands back. Assumes nothing.
-use Rattle.std.proofs.Common.{true, false, eqb, refl, ap}
-use Rattle.dispatcher.specs.Types.{ℕ, ◌≡◌, ◌∙◌, State, Instant, Mark, Marks, Occurred, Served, Refused, Dispatcher, Step, Enquiry, MarkStep}
+use Rattle.std.proofs.Common.{true, false, eqb, refl, ap, ◌≡◌}
+use Rattle.dispatcher.specs.Types.{ℕ, ◌∙◌, State, Instant, Mark, Marks, Occurred, Served, Refused, Dispatcher, Step, MarkStep}
 use Rattle.rules.specs.Instant.{at_g, occurred}
 use Rattle.rules.specs.Calls as rules
 use Rattle.rules.specs.Tickets as tickets

@@ -1,13 +1,13 @@
 -- What is told into words is read back from them. Assumes nothing.
-use Rattle.std.proofs.Common.{◌≡◌, ℕ, ◌%◌, ◌^◌, ◌<◌, ◌≤◌, eqb, List, [], ◌∷◌, length, get_or, set, sym, refl, ap, ◌∙◌, subst, arith, le-ltb, lt-ltb, eqb-true}
+use Rattle.std.proofs.Common.{◌≡◌, ℕ, ◌%◌, ◌^◌, ◌<◌, ◌≤◌, eqb, List, [], ◌∷◌, length, get_or, set, refl, subst, arith, le-ltb, lt-ltb, eqb-true}
 use borrow.Author.Tests.{eqb-false}
 use Rattle.sets.proofs.Laws.{by-test}
 use Rattle.rules.specs.Instant.{processor_task, copyout_task, copyin_task, copyin_fate, entry_with}
 use Rattle.rules.specs.Registers.{as_task, as_processor, as_copyout, as_copyin, processor_in, copyout_in, copyin_in, interval_in as units}
 use Rattle.rules.specs.Kept.{kept, registers_in}
 use Rattle.rules.proofs.Kept.{Long, by_length}
-use Rattle.dispatcher.specs.Types.{JobEntry, IntervalEntry, MaybeTask, NoTask, Task, Done, NoJob, Job, Closing, Unclosed, BeforeReleases, AfterReleases, Due, Never, Tick, Occurred}
-use Rattle.dispatcher.specs.Telling.{task_word, job_told, interval_told, told_of, task_in, interval_in, occurred_in}
+use Rattle.dispatcher.specs.Types.{MaybeTask, NoTask, Task, Done, NoJob, Job, Closing, Unclosed, BeforeReleases, AfterReleases, Due, Never, Tick, Occurred}
+use Rattle.dispatcher.specs.Telling.{task_word, job_told, interval_told, told_of, task_in, occurred_in}
 use Rattle.dispatcher.specs.Promises.{TaskFits, TaskWord, Readable, DoneFits, ToldInterval}
 
 -- ---- a task's word

@@ -1,6 +1,6 @@
 -- The dispatcher read as the state of the rules: what its functions promise is said of this reading.
-use Rattle.std.specs.Prelude.{◌≢◌}
-use Rattle.dispatcher.specs.Types.{ℕ, ◌≡◌, State, Dispatcher, Answer, Step, Enquiry, MarkStep, Opening}
+use Rattle.std.specs.Prelude.{◌≢◌, ◌≡◌}
+use Rattle.dispatcher.specs.Types.{ℕ, State, Dispatcher, Answer, Step, Enquiry, MarkStep, Opening}
 use Rattle.rules.specs.Calls as rules
 use Rattle.rules.specs.Tickets as tickets
 use Rattle.rules.specs.Answers.{answer_number, answer_values, mark_number}

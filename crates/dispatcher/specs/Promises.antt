@@ -1,7 +1,7 @@
 -- What the parts of a call promise, over the arrays that a dispatcher is kept as: the rules' outcome of the state that was read before,
 -- whatever stands in the arrays that they are not lent.
-use Rattle.dispatcher.specs.Types.{List, ℕ, ◌≡◌, State, Stage, MaybeTask, NoTask, Task, JobEntry, IntervalEntry, Done, NoJob, Job, Closed, NoInterval, Span, Due}
-use Rattle.std.specs.Prelude.{◌^◌, ◌<◌, Bool, false, cond, set, slice_index, slice_set}
+use Rattle.dispatcher.specs.Types.{List, ℕ, State, Stage, MaybeTask, NoTask, Task, JobEntry, IntervalEntry, Done, NoJob, Job, Closed, NoInterval, Span, Due}
+use Rattle.std.specs.Prelude.{◌^◌, ◌<◌, Bool, false, cond, set, slice_index, slice_set, ◌≡◌}
 use Rattle.rules.specs.Instant.{processor_task, copyout_task, copyin_task, copyin_fate, entry_with, step_a, step_e, step_f, due, at_g, occurred}
 use Rattle.rules.specs.Calls.{refusal, not_after, before_now, mark_refusal, marks_refusal, with_marks}
 use Rattle.rules.specs.Registers.{as_task, processor_in, copyout_in, copyin_in, interval_in, phase_in}

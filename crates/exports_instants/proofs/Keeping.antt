@@ -3,7 +3,7 @@ use mathlib.Core.Path.{◌≡◌, refl, sym, ap, ap₂, ◌∙◌, subst}
 use mathlib.Core.Bool.{Bool, true, false, true≢false}
 use borrow.Author.Tests.{eq-eqb, ne_eqb}
 use Rattle.table.specs.Refusals.{refusal_number, refusal_place}
-use Rattle.guarantees.specs.Types.{List, ℕ, State, Call, Answer, Refused, Served, Refusal, NoRefusal, Alone, AtEntry}
+use Rattle.guarantees.specs.Types.{List, ℕ, State, Call, Refused, Served, Refusal, NoRefusal, Alone, AtEntry}
 use Rattle.guarantees.specs.Claim.{Claim}
 use Rattle.guarantees.specs.Requests.{LookFirst}
 use Rattle.guarantees.specs.Opened.{OpenedWithClaim}

@@ -1,7 +1,7 @@
 -- What the calls on a dispatcher that C or Rust keeps promise: the rules' outcome, of the states that are read before and after; a
 -- refused call leaves what is kept, and what was told before, as it was.
-use Rattle.guarantees.specs.Types.{List, ℕ, ◌≡◌, State, Call, Mark, Marks, Occurred, Answer, Refused, Served, NoRefusal}
-use Rattle.std.specs.Prelude.{[], ◌∷◌}
+use Rattle.guarantees.specs.Types.{List, ℕ, State, Call, Mark, Marks, Occurred, Answer, Refused, Served, NoRefusal}
+use Rattle.std.specs.Prelude.{[], ◌∷◌, ◌≡◌}
 use Rattle.rules.specs.declared.View.{View}
 use Rattle.rules.specs.View.{viewed}
 use Rattle.rules.specs.Calls.{refusal, row, opening}

@@ -4,7 +4,7 @@
 #![tactic(auto)]
 
 ghost use Rattle.std.specs.Prelude.{◌≤◌, length};
-ghost use Rattle.io.specs.Counts.{IsPrefixLen};
+ghost use Rattle.streams.specs.Fronts.{IsPrefixLen};
 ghost use Rattle.run.specs.Cut.{file_most};
 
 use entries::limits;
@@ -18,7 +18,7 @@ const ENTRIES: usize = 4096;
 const LINES: usize = 16384;
 
 // Prints the lines of the entries, as many at once as there is room for, and answers whether that was possible.
-fn print_lines(entries: &[u8], out: &mut [u8]) -> bool {
+fn print_lines(rt: HostRuntime, entries: &[u8], out: &mut [u8]) -> bool {
     let mut at: usize = 0;
     loop {
         let filled = record_lines::fill(entries, at, out);
@@ -26,14 +26,14 @@ fn print_lines(entries: &[u8], out: &mut [u8]) -> bool {
         if len == 0 {
             return true;
         }
-        if !streams::write_front(b"gateway", out, len) {
+        if !streams::write_front(rt, b"gateway", out, len) {
             return false;
         }
         at = filled.next;
     }
 }
 
-fn print_run(input: &[u8], head: Head, out: &mut [u8])
+fn print_run(rt: HostRuntime, input: &[u8], head: Head, out: &mut [u8])
     requires { head.end ≤ length input.now }
 {
     let mut entries = [0u8; ENTRIES];
@@ -44,7 +44,7 @@ fn print_run(input: &[u8], head: Head, out: &mut [u8])
     while left != 0 {
         let x = pieces::next_piece(&input[at..], d, left, &mut entries);
         let size = x.size;
-        if !print_lines(&entries[..size], out) {
+        if !print_lines(rt, &entries[..size], out) {
             return;
         }
         at += x.read;
@@ -53,34 +53,34 @@ fn print_run(input: &[u8], head: Head, out: &mut [u8])
     }
 }
 
-fn print_refusal(refusal: Refusal) {
-    printing::print_text(b"gateway", lines::refused_input_line(refusal));
+fn print_refusal(rt: HostRuntime, refusal: Refusal) {
+    printing::print_text(rt, b"gateway", lines::refused_input_line(refusal));
 }
 
-fn answer(input: &[u8], out: &mut [u8]) {
+fn answer(rt: HostRuntime, input: &[u8], out: &mut [u8]) {
     let head = run::check_file(input);
     let refusal = head.refusal;
     match refusal {
-        Refusal::NoRefusal => print_run(input, head, out),
-        Refusal::Alone(_) => print_refusal(refusal),
-        Refusal::AtEntry(_, _) => print_refusal(refusal),
+        Refusal::NoRefusal => print_run(rt, input, head, out),
+        Refusal::Alone(_) => print_refusal(rt, refusal),
+        Refusal::AtEntry(_, _) => print_refusal(rt, refusal),
     }
 }
 
 // Reads as much of an input as there is room for, which is enough: run/specs/Cut, `ReadFromFront`. What stands behind it is not read.
-fn read(input: &mut [u8]) -> Got
+fn read(rt: HostRuntime, input: &mut [u8]) -> Got
     requires { file_most ≤ length input.old }
     ensures { IsPrefixLen result.count input.new }
 {
-    streams::fill(b"gateway", input, 0)
+    streams::fill(rt, b"gateway", input, 0)
 }
 
-fn main() {
+fn main(rt: HostRuntime) {
     let mut input = [0u8; limits::FILE_MOST];
     let mut out = [0u8; LINES];
-    let got = read(&mut input);
+    let got = read(rt, &mut input);
     if got.good {
         let count = got.count;
-        answer(&input[..count], &mut out);
+        answer(rt, &input[..count], &mut out);
     }
 }

@@ -1,5 +1,6 @@
 -- Nobody is chosen while the engine copies out; so that where a copy-out ends, its interval does not end before the releases.
-use Rattle.guarantees.specs.Types.{◌≡◌, refl, sym, ap, ◌∙◌, subst, Bool, true, false, not, ◌&&◌, true≢false, false≢true, ◌⊎◌, inl, inr, ⊎_elim, [], ℕ, Jobs, MaybeTask, NoTask, Task, CopyOut, NoCopyOut, CopyingOut, CopiedOut, CopyIn, Unchosen, Interval, Phase, Between, Within, State, Stage}
+use Rattle.std.proofs.Common.{◌≡◌, ◌&&◌, ◌⊎◌}
+use Rattle.guarantees.specs.Types.{refl, sym, ap, ◌∙◌, subst, Bool, true, false, not, true≢false, false≢true, inl, inr, ⊎_elim, [], ℕ, Jobs, MaybeTask, NoTask, Task, CopyOut, NoCopyOut, CopyingOut, CopiedOut, CopyIn, Unchosen, Interval, Phase, Between, Within, State, Stage}
 use Rattle.sets.proofs.Laws.{by-test, clash}
 use Rattle.rules.specs.With.{at_clock}
 use Rattle.rules.specs.Order.{highest_of}

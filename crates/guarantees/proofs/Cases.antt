@@ -1,6 +1,7 @@
 -- What each step can do, as a rule for proofs: it leaves the state as it is, or does the one thing that it is for. A proof about a step
 -- gives its claim for each of the cases; where a rule of the instant list changes, its case changes here.
-use Rattle.guarantees.specs.Types.{◌≡◌, refl, Bool, true, false, cond, ◌⊎◌, inl, inr, ⊎_elim, ℕ, Table, Processor, Idle, CopyingIn, Executing, Finished, CopyOut, NoCopyOut, CopyingOut, CopiedOut, CopyIn, Unchosen, NoneChosen, Copying, Loaded, Cancelled, Interval, Next, Outgoing, Phase, Between, Within, State, Stage}
+use Rattle.std.proofs.Common.{◌≡◌, ◌⊎◌}
+use Rattle.guarantees.specs.Types.{refl, Bool, true, false, cond, inl, inr, ⊎_elim, ℕ, Table, Processor, Idle, CopyingIn, Executing, Finished, CopyOut, NoCopyOut, CopyingOut, CopiedOut, CopyIn, Unchosen, NoneChosen, Copying, Loaded, Cancelled, Interval, Next, Outgoing, Phase, Between, Within, State, Stage}
 use lib.Dec.{eqb}
 use Rattle.table.specs.Table.{execution_length}
 use Rattle.sets.specs.Sets.{intersection}

@@ -1,20 +1,21 @@
 -- A copy-in gives way only to a marked job of strictly higher priority that is taken at the same instant: the marked jobs of an instant, gathered along it,
 -- and what step d finds among them.
-use Rattle.guarantees.specs.Types.{◌≡◌, refl, sym, ap, ◌∙◌, subst, Bool, true, false, cond, ◌&&◌, false≢true, List, [], ◌∷◌, ◌++◌, append_assoc, ◌⊎◌, inl, inr, ⊎_elim, ℕ, zero, suc, ◌≤◌, ◌<◌, MaybeTask, NoTask, Task, CopyIn, Interval, Phase, Between, Within, Table, State, Call}
+use Rattle.std.proofs.Common.{◌≡◌, ◌∷◌, ◌++◌, ◌⊎◌, ◌≤◌, ◌<◌}
+use Rattle.guarantees.specs.Types.{refl, sym, ap, ◌∙◌, subst, Bool, true, false, cond, false≢true, List, [], append_assoc, inl, inr, ⊎_elim, ℕ, zero, suc, MaybeTask, NoTask, Task, CopyIn, Interval, Phase, Within, Table, State, Call}
 use native.Mathlib.Omega.{arith}
 use borrow.Author.Tests.{eqb-true, eqb-false, ltb-true}
 use lib.Dec.{eqb}
 use lib.ListN.{get_or}
 use Rattle.sets.specs.Sets.{member, intersection, insert}
-use Rattle.sets.proofs.Laws.{by-test, clash, same_task, intersection_left, intersection_right, insert_same, insert_other}
-use Rattle.rules.specs.Order.{highest, highest_of, outranks}
+use Rattle.sets.proofs.Laws.{clash, intersection_left, intersection_right, insert_same, insert_other}
+use Rattle.rules.specs.Order.{highest_of, outranks}
 use Rattle.rules.specs.Instant.{step_c, step_d, step_e, cancel, steps_c_d, steps_c_to_e, at_b, at_e, at_f, at_g, taken_at, deferred_at}
-use Rattle.guarantees.specs.History.{Event, Comes, Starts, Stops, Finishes, Completes, Ends, Takes, Defers, GivesWay, Begins, given_way, giving_events, giving_events_in, end_events, begin_events, start_events, take_events, happens, history}
+use Rattle.guarantees.specs.History.{Event, Comes, Starts, Stops, Finishes, Completes, Ends, Takes, Defers, GivesWay, Begins, given_way, giving_events, giving_events_in, take_events, happens, history}
 use Rattle.guarantees.specs.Queries.{details, gives_way, after}
 use Rattle.guarantees.specs.Intervals.{came_by, Cause}
-use Rattle.guarantees.proofs.Walk.{MarksKnown, with_marks, walk}
+use Rattle.guarantees.proofs.Walk.{walk}
 use Rattle.guarantees.proofs.Cases.{HeldFor, d_fates, e_cases}
-use Rattle.guarantees.proofs.Events.{by_front, by_defers, by_ends, by_begins, by_starts, front_of, tail_of, happens_parts, tail_parts}
+use Rattle.guarantees.proofs.Events.{by_front, by_defers, by_ends, by_begins, by_starts, tail_of, happens_parts, tail_parts}
 use Rattle.guarantees.proofs.Frames.{table_b, marked_b, table_g}
 use Rattle.guarantees.proofs.Highest.{Best, best}
 use Rattle.guarantees.proofs.Courses.{gives_same, c_gives, choose_gives}

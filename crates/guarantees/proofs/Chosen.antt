@@ -1,5 +1,6 @@
 -- First come, first served: what the engine chooses goes no later than any job that is ready.
-use Rattle.guarantees.specs.Types.{◌≡◌, refl, sym, ap, ◌∙◌, subst, true, List, [], ◌∷◌, ◌++◌, ℕ, ◌<◌, Table, MaybeTask, NoTask, Task, Interval, State, Call, Instant}
+use Rattle.std.proofs.Common.{◌≡◌, ◌∷◌, ◌++◌, ◌<◌}
+use Rattle.guarantees.specs.Types.{refl, sym, ap, ◌∙◌, subst, true, List, [], ℕ, Table, MaybeTask, NoTask, Task, Interval, State, Call, Instant}
 use native.Mathlib.Omega.{arith}
 use borrow.Author.Tests.{eq-eqb}
 use lib.ListN.{get_or}

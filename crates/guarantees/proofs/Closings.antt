@@ -1,5 +1,6 @@
 -- At most one interval closes at an instant, and each job that completes has its entry.
-use Rattle.guarantees.specs.Types.{◌≡◌, refl, sym, ap, ◌∙◌, Bool, true, false, List, [], ◌∷◌, ◌++◌, ◌⊎◌, inl, inr, ⊎_elim, ℕ, Interval, Phase, Between, Within, State, Stage, Done, NoJob, Job, Closed, NoInterval, Span, Occurred, IntervalEntry, Call}
+use Rattle.std.proofs.Common.{◌≡◌, ◌∷◌, ◌++◌, ◌⊎◌}
+use Rattle.guarantees.specs.Types.{refl, sym, ap, ◌∙◌, Bool, true, false, List, [], inl, inr, ⊎_elim, ℕ, Interval, Phase, Between, Within, State, Stage, Done, NoJob, Job, Closed, NoInterval, Span, Occurred, IntervalEntry, Call}
 use native.Mathlib.Omega.{arith}
 use Rattle.rules.specs.With.{at_clock}
 use Rattle.rules.specs.Instant.{step_a, step_b, close, close_stage, closing, occurred, over, copyout_task, copyout_at, at_a, at_b, at_e, at_f, at_g, taken_at, deferred_at, fresh_stage}

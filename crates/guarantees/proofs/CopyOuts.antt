@@ -1,5 +1,6 @@
 -- The copy-outs: the engine of a state, step by step and along the calls.
-use Rattle.guarantees.specs.Types.{◌≡◌, refl, sym, ap, ◌∙◌, subst, Bool, true, false, cond, true≢false, false≢true, List, ◌∷◌, ◌++◌, ℕ, ◌+◌, ◌^◌, ◌≤◌, ◌<◌, Table, Jobs, Clock, MaybeTask, NoTask, Task, Processor, Idle, CopyingIn, Executing, Finished, CopyOut, NoCopyOut, CopyingOut, CopiedOut, Interval, Next, Outgoing, NoneOutgoing, AwaitsCopyOut, Phase, Between, Within, State, NoJob, Job, Stage, Call}
+use Rattle.std.proofs.Common.{◌≡◌, ◌∷◌, ◌++◌, ◌+◌, ◌^◌, ◌≤◌, ◌<◌}
+use Rattle.guarantees.specs.Types.{refl, sym, ap, ◌∙◌, subst, Bool, true, false, cond, true≢false, false≢true, List, ℕ, Table, Jobs, Clock, MaybeTask, NoTask, Task, Processor, Idle, CopyingIn, Executing, Finished, CopyOut, NoCopyOut, CopyingOut, CopiedOut, Interval, Next, Outgoing, NoneOutgoing, AwaitsCopyOut, Phase, Between, Within, State, NoJob, Job, Stage, Call}
 use native.Mathlib.Omega.{arith}
 use borrow.Author.Tests.{eqb-true, eqb-false, ne_eqb}
 use lib.Dec.{eqb}

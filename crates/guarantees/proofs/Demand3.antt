@@ -1,5 +1,6 @@
 -- Demand 3: the claim holds of every list of calls.
-use Rattle.guarantees.specs.Types.{◌≡◌, refl, sym, ap, ◌∙◌, subst, Bool, true, false, List, ◌∷◌, ◌++◌, append_assoc, ℕ, ◌<◌, Table, MaybeTask, NoTask, Task, State, NoRefusal, Never, Call}
+use Rattle.std.proofs.Common.{◌≡◌, ◌∷◌, ◌++◌, ◌<◌}
+use Rattle.guarantees.specs.Types.{refl, sym, ap, ◌∙◌, subst, Bool, true, false, List, append_assoc, ℕ, Table, MaybeTask, NoTask, Task, State, NoRefusal, Never, Call}
 use native.Mathlib.Omega.{arith}
 use lib.ListN.{get_or}
 use Rattle.sets.specs.Sets.{member, size}
@@ -36,7 +37,7 @@ use Rattle.guarantees.proofs.Marks.{taken_marked, names_free}
 use Rattle.guarantees.proofs.Fates.{balanced as releases-balanced, none_waits_so, placed}
 use Rattle.guarantees.proofs.Turns.{one_at_a_time, in_time, resumed_in}
 use Rattle.guarantees.proofs.Turning.{turns}
-use Rattle.guarantees.proofs.LastReleases.{spaced, deferral, last_releases}
+use Rattle.guarantees.proofs.LastReleases.{spaced, last_releases}
 use Rattle.guarantees.proofs.Lasts.{lasts}
 use Rattle.guarantees.proofs.Lasting.{next_in}
 use Rattle.guarantees.proofs.Spans.{M}
@@ -92,7 +93,6 @@ module _ (table : Table) (marks : ℕ) (fair : Fair table marks) where
       at_waiting = λ before after t e. (one n (deferred_small (opened table marks) calls before after n t e)).at_waiting before after t e;
       at_resuming = λ before after c u e w. (one n (completes_small before after n c e)).at_resuming before after c u e w;
     };
-    each_deferral = λ before after n t u e l. deferral table marks fair n (deferred_small (opened table marks) calls before after n t e) calls before after t u e l;
     each_spacing = λ n l s. spaced table marks fair n l calls s;
     in_time = in_time 0 h (turns table marks fair 0 (omega arith) calls);
     each_step = λ before after e x c. each_step table marks calls before after e x c;

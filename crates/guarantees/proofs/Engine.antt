@@ -1,7 +1,8 @@
 -- What the engine may copy out, along a history: a monitor that goes from event to event. From it follows the claim on each executed job, on
 -- each interval that copies a job out, and on each completion.
+use Rattle.std.proofs.Common.{◌≡◌, ◌∷◌, ◌++◌, ◌+◌, ◌≤◌, ◌<◌}
 use Rattle.table.specs.Table.{copyout_length}
-use Rattle.guarantees.specs.Types.{◌≡◌, refl, sym, ap, ◌∙◌, subst, false, List, [], ◌∷◌, ◌++◌, ℕ, ◌+◌, ◌≤◌, ◌<◌, MaybeTask, NoTask, Task, Tick, Never}
+use Rattle.guarantees.specs.Types.{refl, sym, ap, ◌∙◌, subst, false, List, [], ℕ, MaybeTask, NoTask, Task, Tick, Never}
 use native.Mathlib.Omega.{arith}
 use borrow.Author.Tests.{eq-eqb, le-leb, lt-leb}
 use lib.Dec.{eqb}

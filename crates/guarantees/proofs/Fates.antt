@@ -1,5 +1,6 @@
 -- The balance of the releases of a task, instant by instant and along the calls.
-use Rattle.guarantees.specs.Types.{◌≡◌, refl, sym, ap, ◌∙◌, subst, Bool, true, false, cond, not, ◌&&◌, ◌||◌, false≢true, List, [], ◌∷◌, ◌++◌, ◌⊎◌, inl, inr, ⊎_elim, ℕ, ◌+◌, ◌≤◌, ◌<◌, Table, State, WaitingReleases, Call, Instant, Mark, Occurred, Served, Refused, Never, Tick}
+use Rattle.std.proofs.Common.{◌≡◌, ◌&&◌, ◌||◌, ◌∷◌, ◌++◌, ◌⊎◌, ◌+◌, ◌≤◌, ◌<◌}
+use Rattle.guarantees.specs.Types.{refl, sym, ap, ◌∙◌, subst, Bool, true, false, cond, not, false≢true, List, [], inl, inr, ⊎_elim, ℕ, Table, State, WaitingReleases, Call, Instant, Occurred, Served, Refused, Never, Tick}
 use mathlib.Core.List.{append-nil}
 use native.Mathlib.Omega.{arith}
 use native.Mathlib.Nat.{zero-add}
@@ -9,7 +10,7 @@ use Rattle.sets.specs.Sets.{member, bit}
 use Rattle.sets.proofs.Laws.{by-test, both, left, right, one_of, clash, same_task}
 use Rattle.table.specs.Table.{spacing}
 use Rattle.rules.specs.Instant.{previous_release, comes_sooner, at_b, at_e, at_f, at_g, taken_at, deferred_at, skipped_at, occurred}
-use Rattle.rules.specs.Calls.{refusal, instant, served as served-step, after_call}
+use Rattle.rules.specs.Calls.{refusal, instant}
 use Rattle.guarantees.specs.History.{Event, Takes, Defers, happens, by_call, history, after_calls, take_events, defer_events, giving_events_in, end_events, begin_events, start_events}
 use Rattle.guarantees.specs.Queries.{after, first, taking, waiting, last_released}
 use Rattle.guarantees.specs.Releases.{Fates, no_release, fates_by, fates, Balance, Sooner, FindsWaiting, Placed}

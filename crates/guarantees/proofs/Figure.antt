@@ -1,5 +1,6 @@
 -- 7/13: the number of a job's intervals by h, that the other readings of h are not smaller, and the claim on each history.
-use Rattle.guarantees.specs.Types.{◌≡◌, refl, sym, ap, ◌∙◌, subst, Bool, true, false, cond, List, [], ◌∷◌, ◌++◌, ℕ, zero, suc, ◌+◌, ◌*◌, ◌^◌, ◌≤◌, ◌<◌, Table, MaybeTask, NoTask, Task, Never, Tick}
+use Rattle.std.proofs.Common.{◌≡◌, ◌∷◌, ◌++◌, ◌+◌, ◌*◌, ◌^◌, ◌≤◌, ◌<◌}
+use Rattle.guarantees.specs.Types.{refl, sym, ap, ◌∙◌, subst, Bool, true, false, cond, List, [], ℕ, zero, suc, Table, MaybeTask, NoTask, Task, Never, Tick}
 use native.Mathlib.Omega.{arith}
 use Prim.Native.Nat.{max}
 use native.Mathlib.Nat.{not-suc-le-zero, le_of_suc-le-suc, mul-le-mul, mul-le-mul_right}
@@ -9,7 +10,7 @@ use lib.ListN.{get_or, length}
 use Rattle.sets.specs.Sets.{member, bit}
 use Rattle.sets.proofs.Laws.{by-test, same_task}
 use Rattle.table.specs.Table.{copyin_length, execution_length, copyout_length}
-use Rattle.guarantees.specs.History.{Event, Comes, Starts, Stops, Finishes, Completes, Ends, Takes, Defers, GivesWay, Begins, history}
+use Rattle.guarantees.specs.History.{Event, Comes, Starts, Stops, Finishes, Completes, Ends, Takes, Defers, GivesWay, Begins}
 use Rattle.guarantees.specs.Queries.{is_task, Situation, NoneOpen, Open, situation, intervals, completion, each, total, upto, until, met, waited}
 use Rattle.guarantees.specs.Claim.{NotLower}
 use Rattle.guarantees.specs.Figure.{greatest, longest_interval, intervals_by, completes_after, PlainFigure, before_start, is_not_lower, not_lower_in, past_first, overtaking, started_between, stopped_between, SmallestReading, Planned, Figure}

@@ -1,6 +1,7 @@
 -- The steps leave the table and the marks, and the clock at the instant's time; steps a and c alone change what is pending, and step c alone what
 -- waits and the release times.
-use Rattle.guarantees.specs.Types.{◌≡◌, refl, ap, ◌∙◌, List, ℕ, Table, WaitingReleases, Clock, At, MaybeTask, NoTask, Task, Interval, Phase, Between, Within, State, Stage}
+use Rattle.std.proofs.Common.{◌≡◌}
+use Rattle.guarantees.specs.Types.{refl, ap, ◌∙◌, List, ℕ, Table, WaitingReleases, Clock, At, MaybeTask, NoTask, Task, Interval, Phase, Between, Within, State, Stage}
 use Rattle.sets.specs.Sets.{union}
 use Rattle.rules.specs.Instant.{step_a, step_b, step_c, step_d, step_e, step_g, without_done, after_done, close, cancel, choose, begin, at_a, at_b, at_e, at_f, at_g, taken_at, deferred_at, fresh_stage}
 use Rattle.rules.specs.With.{at_clock}

@@ -1,5 +1,6 @@
 -- What `highest` finds: a member of the set with no lower priority than any, and no other that goes before it, or none in an empty set.
-use Rattle.guarantees.specs.Types.{◌≡◌, refl, sym, ap, ◌∙◌, subst, Bool, true, false, cond, ◌⊎◌, inl, inr, ⊎_elim, List, ℕ, zero, suc, ◌≤◌, ◌<◌, MaybeTask, NoTask, Task}
+use Rattle.std.proofs.Common.{◌≡◌, ◌⊎◌, ◌≤◌, ◌<◌}
+use Rattle.guarantees.specs.Types.{refl, sym, ap, ◌∙◌, subst, Bool, true, false, cond, inl, inr, ⊎_elim, List, ℕ, zero, suc, MaybeTask, NoTask, Task}
 use native.Mathlib.Nat.{not-suc-le-zero, eq-or-lt_of_le}
 use native.Mathlib.Omega.{arith}
 use borrow.Author.Tests.{eqb-true, eq-eqb, ltb-true, ltb-false}

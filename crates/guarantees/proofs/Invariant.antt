@@ -1,11 +1,11 @@
 -- The invariant of the states that calls made, and that each call keeps it. Its last part bounds the times: each phase under way ends after
 -- the clock, at most 1,000,000 ticks after it, and before a bound that the mass still to come pushes down; so no time comes near the last tick
 -- of a u64, since releases come by 1,000,000,000 and every phase that ends after that takes from the mass.
-use Rattle.guarantees.specs.Types.{◌≡◌, refl, sym, ap, ◌∙◌, subst, false, List, ⊎_elim, ℕ, ◌+◌, ◌*◌, ◌^◌, ◌≤◌, ◌<◌, Table, WaitingReleases, Clock, Processor, Idle, CopyingIn, Executing, Finished, CopyOut, NoCopyOut, CopyingOut, CopiedOut, CopyIn, Unchosen, NoneChosen, Copying, Loaded, Cancelled, Next, NoneNext, LoadedNext, PromotedNext, Outgoing, NoneOutgoing, AwaitsCopyOut, Phase, Between, Within, State, Call}
+use Rattle.std.proofs.Common.{◌≡◌, ◌+◌, ◌*◌, ◌^◌, ◌≤◌, ◌<◌}
+use Rattle.guarantees.specs.Types.{refl, sym, ap, ◌∙◌, subst, false, List, ⊎_elim, ℕ, Table, WaitingReleases, Clock, Processor, Idle, CopyingIn, Executing, Finished, CopyOut, NoCopyOut, CopyingOut, CopiedOut, CopyIn, Unchosen, NoneChosen, Copying, Loaded, Cancelled, Next, NoneNext, LoadedNext, PromotedNext, Outgoing, NoneOutgoing, AwaitsCopyOut, Phase, Between, Within, State, Call}
 use native.Mathlib.Omega.{arith}
 use borrow.Author.Tests.{eqb-true, eqb-false, eq-eqb, ltb-true, ltb-false}
 use lib.Dec.{eqb, ltb}
-use lib.ListN.{get_or}
 use Rattle.table.specs.Table.{copyin_length, execution_length, copyout_length}
 use Rattle.sets.specs.Sets.{member, difference, bit, size}
 use Rattle.sets.proofs.Laws.{none, by-test, clash, size_none, size_most, union_small, union_out}
@@ -13,7 +13,7 @@ use Rattle.guarantees.proofs.Walk.{with_marks, MarksKnown, after}
 use Rattle.guarantees.proofs.Proper.{Fair}
 use Rattle.guarantees.specs.History.{after_calls}
 use Rattle.rules.specs.Calls.{opened}
-use Rattle.rules.specs.Instant.{taken, deferred, settled, at_b, at_e, at_f, at_g, taken_at, fresh_stage}
+use Rattle.rules.specs.Instant.{taken, deferred, at_b, at_e, at_f, at_g, taken_at, fresh_stage}
 use Rattle.rules.specs.With.{later}
 use Rattle.guarantees.proofs.Frames.{table_g, clock_g, waiting_b}
 use Rattle.guarantees.proofs.Releases.{taken_none, taken_known, passing_none, passed, waits_g, before_g, behind_g, balance_g}

@@ -1,5 +1,6 @@
 -- Every task that is taken, executed, copied out or completed in a history is one of the table's.
-use Rattle.guarantees.specs.Types.{◌≡◌, true, List, [], ◌∷◌, ◌++◌, sym, subst, ℕ, Table, MaybeTask, NoTask, Task, Processor, Idle, CopyingIn, Executing, Finished, CopyOut, NoCopyOut, CopyingOut, CopiedOut, Phase, Between, Within, State, Call}
+use Rattle.std.proofs.Common.{◌≡◌, ◌∷◌, ◌++◌}
+use Rattle.guarantees.specs.Types.{true, List, [], sym, subst, ℕ, Table, MaybeTask, NoTask, Task, Processor, Idle, CopyingIn, Executing, Finished, CopyOut, NoCopyOut, CopyingOut, CopiedOut, Phase, Between, Within, State, Call}
 use lib.Dec.{eqb}
 use Rattle.sets.specs.Sets.{member}
 use Rattle.sets.proofs.Laws.{by-test}

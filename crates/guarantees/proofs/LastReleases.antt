@@ -1,6 +1,7 @@
 -- A task's last release that was taken or set waiting (8/13): what a walk along a history finds is what the state has, step c keeps that, and what
 -- passes at an instant comes at least the task's spacing after it.
-use Rattle.guarantees.specs.Types.{◌≡◌, refl, sym, ap, ◌∙◌, subst, Bool, true, false, cond, not, ◌&&◌, ◌||◌, false≢true, ◌⊎◌, inl, inr, ⊎_elim, List, [], ◌∷◌, ◌++◌, ℕ, ◌+◌, ◌-◌, ◌≤◌, ◌<◌, Table, WaitingReleases, State, Clock, At, Due, Never, Tick, Call}
+use Rattle.std.proofs.Common.{◌≡◌, ◌&&◌, ◌||◌, ◌⊎◌, ◌∷◌, ◌++◌, ◌+◌, ◌-◌, ◌≤◌, ◌<◌}
+use Rattle.guarantees.specs.Types.{refl, sym, ap, ◌∙◌, subst, Bool, true, false, cond, not, false≢true, inl, inr, ⊎_elim, List, [], ℕ, Table, WaitingReleases, State, Clock, At, Due, Never, Tick, Call}
 use mathlib.Core.Path.{ap₂}
 use native.Mathlib.Omega.{arith}
 use borrow.Author.Tests.{ltb-true, ltb-false, lt-ltb}

@@ -1,6 +1,7 @@
 -- How long the intervals last and that they follow each other without a gap while a job is pending, along a history: a monitor that goes from event to
 -- event. From it follows how long each interval lasts, and by when each job completes.
-use Rattle.guarantees.specs.Types.{◌≡◌, refl, sym, ap, ◌∙◌, subst, Bool, true, false, cond, true≢false, false≢true, List, [], ◌∷◌, ◌++◌, ℕ, suc, ◌+◌, ◌*◌, ◌≤◌, MaybeTask, NoTask, Task, Due, Never, Tick}
+use Rattle.std.proofs.Common.{◌≡◌, ◌∷◌, ◌++◌, ◌+◌, ◌*◌, ◌≤◌}
+use Rattle.guarantees.specs.Types.{refl, sym, ap, ◌∙◌, subst, Bool, true, false, cond, true≢false, false≢true, List, [], ℕ, suc, MaybeTask, NoTask, Task, Due, Never, Tick}
 use native.Mathlib.Omega.{arith}
 use native.Mathlib.Nat.{add-mul, one-mul, zero-mul}
 use borrow.Author.Tests.{eqb-true}

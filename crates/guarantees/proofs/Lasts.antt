@@ -1,6 +1,7 @@
 -- Every history passes the monitor of how long intervals last: the begin of a state's open interval and whether a task's job is pending, step by step
 -- and along the calls.
-use Rattle.guarantees.specs.Types.{◌≡◌, refl, sym, ap, ◌∙◌, subst, Bool, true, false, cond, not, ◌&&◌, ◌||◌, List, ◌∷◌, ◌++◌, ℕ, ◌+◌, ◌≤◌, ◌<◌, Table, Jobs, Clock, MaybeTask, NoTask, Task, CopyOut, NoCopyOut, CopyingOut, CopiedOut, Interval, Next, Outgoing, Phase, Between, Within, State, NoJob, Job, Stage, Due, Never, Tick, Call}
+use Rattle.std.proofs.Common.{◌≡◌, ◌&&◌, ◌||◌, ◌∷◌, ◌++◌, ◌≤◌, ◌<◌}
+use Rattle.guarantees.specs.Types.{refl, sym, ap, ◌∙◌, subst, Bool, true, false, cond, not, List, ℕ, Table, Jobs, Clock, MaybeTask, NoTask, Task, CopyOut, NoCopyOut, CopyingOut, CopiedOut, Interval, Next, Outgoing, Phase, Between, Within, State, NoJob, Job, Stage, Due, Never, Tick, Call}
 use native.Mathlib.Omega.{arith}
 use lib.Dec.{eqb}
 use Rattle.sets.specs.Sets.{member, bit}

@@ -1,12 +1,13 @@
 -- The mark of a job is that of its task at the taking: as opening read it, or as mark calls have changed it.
-use Rattle.guarantees.specs.Types.{◌≡◌, refl, sym, ap, ◌∙◌, subst, Bool, true, false, cond, not, ◌&&◌, ◌||◌, true≢false, false≢true, List, [], ◌∷◌, ◌++◌, ℕ, ◌<◌, MaybeTask, State, Call, Instant, Mark, Marks, ⊎_elim}
+use Rattle.std.proofs.Common.{◌≡◌, ◌&&◌, ◌||◌, ◌∷◌, ◌++◌, ◌<◌}
+use Rattle.guarantees.specs.Types.{refl, sym, ap, ◌∙◌, subst, Bool, true, false, cond, not, true≢false, false≢true, List, [], ℕ, State, Call, Instant, Mark, Marks, ⊎_elim}
 use mathlib.Core.List.{append-nil}
 use native.Mathlib.Omega.{arith}
 use borrow.Author.Tests.{eqb-true}
 use lib.Dec.{eqb, ltb}
 use Rattle.sets.specs.Sets.{member, union, intersection, difference, insert}
 use Rattle.sets.proofs.Laws.{by-test, clash, none, united, insert_out}
-use Rattle.rules.specs.Instant.{at_g, taken_at, deferred_at}
+use Rattle.rules.specs.Instant.{taken_at, deferred_at}
 use Rattle.rules.specs.Calls.{refusal, unknown, mark_refusal, marks_refusal, row, after_call}
 use Rattle.rules.proofs.DeskMarks.{remarked_member, idle_all}
 use Rattle.guarantees.specs.History.{Event, Comes, Starts, Stops, Finishes, Completes, Ends, Takes, Defers, GivesWay, Begins, happens, by_call, after_calls, take_events}

@@ -1,5 +1,6 @@
 -- The pending jobs, by the history: a job is pending from its release until its completion, and the state's set says the same.
-use Rattle.guarantees.specs.Types.{◌≡◌, refl, sym, ap, ◌∙◌, subst, Bool, true, false, cond, not, ◌&&◌, ◌||◌, true≢false, List, [], ◌∷◌, ◌++◌, append_assoc, ℕ, zero, suc, ◌≤◌, ◌<◌, State, Done, NoJob, Job, Tick, Call}
+use Rattle.std.proofs.Common.{◌≡◌, ◌&&◌, ◌||◌, ◌∷◌, ◌++◌, ◌≤◌, ◌<◌}
+use Rattle.guarantees.specs.Types.{refl, sym, ap, ◌∙◌, subst, Bool, true, false, cond, not, true≢false, List, [], append_assoc, ℕ, zero, suc, State, Done, NoJob, Job, Tick, Call}
 use native.Mathlib.Omega.{arith}
 use native.Mathlib.Nat.{not-suc-le-zero}
 use borrow.Author.Tests.{eqb-true, eqb-false, eq-eqb, ne_eqb}

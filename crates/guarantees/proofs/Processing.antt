@@ -1,7 +1,8 @@
 -- What the processor may do, along a history: a monitor that goes from event to event. From it follows the claim on each execution, on each
 -- start and each end of one, and on each interval's end.
+use Rattle.std.proofs.Common.{◌≡◌, ◌∷◌, ◌++◌, ◌+◌, ◌≤◌, ◌<◌}
 use Rattle.table.specs.Table.{copyin_length, execution_length}
-use Rattle.guarantees.specs.Types.{◌≡◌, refl, sym, ap, ◌∙◌, subst, true, cond, List, [], ◌∷◌, ◌++◌, ℕ, ◌+◌, ◌≤◌, ◌<◌, MaybeTask, NoTask, Task, Never, Tick}
+use Rattle.guarantees.specs.Types.{refl, sym, ap, ◌∙◌, subst, true, cond, List, [], ℕ, MaybeTask, NoTask, Task, Never, Tick}
 use native.Mathlib.Omega.{arith}
 use native.Mathlib.Nat.{add-zero}
 use borrow.Author.Tests.{eq-eqb, le-leb, lt-leb}

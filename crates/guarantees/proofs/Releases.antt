@@ -1,7 +1,8 @@
 -- What becomes of releases at step c, by the tasks with a pending job (p), those with a waiting release (w) and those of the set that is handed in
 -- (s): which are taken, wait from now on or are skipped, and which wait after it. Each of these sets is said member by member, in the two cases of p;
 -- what the proofs use of them follows by cases. At an instant the set is what passes the spacings (8/13): the rest of what was handed in came too soon.
-use Rattle.guarantees.specs.Types.{◌≡◌, refl, sym, ap, ◌∙◌, Bool, true, false, cond, not, ◌&&◌, ◌||◌, false≢true, ◌⊎◌, inl, inr, ⊎_elim, ℕ, zero, suc, ◌+◌, ◌<◌, WaitingReleases, State}
+use Rattle.std.proofs.Common.{◌≡◌, ◌&&◌, ◌||◌, ◌⊎◌, ◌+◌, ◌<◌}
+use Rattle.guarantees.specs.Types.{refl, sym, ap, ◌∙◌, Bool, true, false, cond, not, false≢true, inl, inr, ⊎_elim, ℕ, zero, suc, WaitingReleases, State}
 use native.Mathlib.Omega.{arith}
 use Rattle.sets.specs.Sets.{member, union, intersection, difference, bit, count, size}
 use Rattle.sets.proofs.Laws.{united, intersection_member, intersection_left, difference_member, difference_left, difference_right, collected, member_task, union_small, difference_small, count_none, count_sum, size_union_apart}

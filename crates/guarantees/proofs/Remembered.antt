@@ -1,5 +1,6 @@
 -- The entry of a job done tells the truth: along the calls, the state knows of each task's last job what the walk of Tally finds.
-use Rattle.guarantees.specs.Types.{◌≡◌, refl, sym, ap, ◌∙◌, subst, Bool, true, false, cond, false≢true, List, ◌∷◌, ◌++◌, append_assoc, inr, ⊎_elim, ℕ, ◌<◌, Table, Jobs, Clock, At, CopyOut, NoCopyOut, CopyingOut, CopiedOut, Interval, Phase, Between, Within, State, NoJob, Job, Never, Tick, Call, JobEntry, Occurred, Served, Refused}
+use Rattle.std.proofs.Common.{◌≡◌, ◌∷◌, ◌++◌, ◌<◌}
+use Rattle.guarantees.specs.Types.{refl, sym, ap, ◌∙◌, subst, Bool, true, false, cond, false≢true, List, append_assoc, inr, ⊎_elim, ℕ, Table, Jobs, Clock, At, CopyOut, NoCopyOut, CopyingOut, CopiedOut, Interval, Phase, Between, Within, State, NoJob, Job, Never, Tick, Call, JobEntry, Occurred, Served, Refused}
 use native.Mathlib.Omega.{arith}
 use lib.Dec.{eqb}
 use lib.ListN.{get_or, replicate}
@@ -19,7 +20,6 @@ use Rattle.rules.specs.Calls.{refusal, served, instant, opened}
 use Rattle.guarantees.proofs.Cases.{held_at}
 use Rattle.guarantees.proofs.Steps.{Sub}
 use Rattle.guarantees.proofs.Releases.{taken_not_pending, passed}
-use Rattle.guarantees.proofs.Waiting.{runs}
 use Rattle.guarantees.proofs.Blocking.{Bounded, bounded_a, bounded_e, bounded_g, bounded_opened, bounded_quiet}
 use Rattle.guarantees.proofs.Places.{Parted, b_moves, to_b, to_e}
 use Rattle.guarantees.proofs.Closings.{done_so}

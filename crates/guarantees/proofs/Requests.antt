@@ -1,6 +1,7 @@
 -- 9/13: what requests come to is what their calls come to; the ticket counts those that are served; and where none is served between
 -- an enquiry and a commit, the commit does what the enquiry showed. Assumes nothing.
-use Rattle.guarantees.specs.Types.{◌≡◌, refl, sym, ap, ◌∙◌, subst, Bool, true, false, cond, true≢false, List, [], ◌∷◌, ◌++◌, ℕ, ◌+◌, ◌<◌, State, Call, Instant}
+use Rattle.std.proofs.Common.{◌≡◌, ◌∷◌, ◌+◌, ◌<◌}
+use Rattle.guarantees.specs.Types.{refl, sym, ap, ◌∙◌, Bool, true, false, cond, true≢false, List, [], ℕ, State, Call, Instant}
 use Prim.Native.Nat.{◌%◌, ◌^◌}
 use native.Mathlib.Nat.{zero-add}
 use native.Mathlib.Omega.{arith}

@@ -1,11 +1,12 @@
 -- The events of an instant come in the order of its steps.
-use Rattle.guarantees.specs.Types.{◌≡◌, refl, sym, subst, Bool, true, false, cond, true≢false, ◌⊎◌, ⊎_elim, List, [], ◌∷◌, ◌++◌, ℕ, ◌≤◌, Table, Processor, Idle, CopyingIn, Executing, Finished, Phase, Between, Within, State, Done, NoJob, Job, Call}
+use Rattle.std.proofs.Common.{◌≡◌, ◌∷◌, ◌++◌, ◌≤◌}
+use Rattle.guarantees.specs.Types.{refl, sym, subst, Bool, true, false, cond, true≢false, ⊎_elim, List, [], ℕ, Table, Processor, Idle, CopyingIn, Executing, Finished, Phase, Between, Within, State, Done, NoJob, Job, Call}
 use native.Mathlib.Omega.{arith}
 use borrow.Author.Tests.{leb-true}
 use lib.Dec.{leb}
 use Rattle.rules.specs.Calls.{opened}
 use Rattle.rules.specs.Instant.{at_a, at_b, at_e, at_f, at_g, taken_at, deferred_at}
-use Rattle.guarantees.specs.History.{Event, Comes, Starts, Stops, Finishes, Completes, Ends, history, happens, completion_events, end_events, take_events, giving_events_in, begin_events, start_events, execution_events}
+use Rattle.guarantees.specs.History.{Event, Comes, Starts, Stops, Finishes, Ends, history, happens, completion_events, end_events, take_events, giving_events_in, begin_events, start_events, execution_events}
 use Rattle.guarantees.specs.Queries.{comes, after}
 use Rattle.guarantees.specs.Pending.{step_by, step}
 use Rattle.guarantees.proofs.Walk.{walk}

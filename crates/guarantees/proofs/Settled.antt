@@ -1,6 +1,7 @@
 -- What holds when an instant is over: the choice is made as soon as the engine is free, an interval that can end is not open, and one is open
 -- if there is anything to do.
-use Rattle.guarantees.specs.Types.{◌≡◌, refl, sym, subst, true, false, true≢false, ℕ, ◌^◌, ◌<◌, MaybeTask, NoTask, Task, Processor, Idle, CopyOut, NoCopyOut, CopyIn, Unchosen, NoneChosen, Copying, Loaded, Cancelled, Interval, Next, NoneNext, LoadedNext, PromotedNext, Outgoing, NoneOutgoing, AwaitsCopyOut, Phase, Between, Within, State, Stage}
+use Rattle.std.proofs.Common.{◌≡◌, ◌^◌, ◌<◌}
+use Rattle.guarantees.specs.Types.{refl, sym, subst, true, false, true≢false, ℕ, MaybeTask, NoTask, Task, Processor, Idle, CopyOut, NoCopyOut, CopyIn, Unchosen, NoneChosen, Copying, Loaded, Cancelled, Interval, Next, NoneNext, LoadedNext, PromotedNext, Outgoing, NoneOutgoing, AwaitsCopyOut, Phase, Between, Within, State, Stage}
 use borrow.Author.Tests.{eqb-true, eqb-false, not-true, not-false}
 use lib.Dec.{eqb}
 use Rattle.sets.specs.Sets.{intersection}

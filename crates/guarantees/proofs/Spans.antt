@@ -1,6 +1,7 @@
 -- How long an interval lasts: while one is open, what is under way in it ends at most M after its begin; the processor by its task's own L + C, the
 -- engine by a copy-out and then a copy-in. Each step keeps that; and since an instant is never after a due time, none comes later.
-use Rattle.guarantees.specs.Types.{◌≡◌, refl, sym, ap, ◌∙◌, subst, true, false, cond, not, ◌&&◌, true≢false, false≢true, ℕ, zero, suc, ◌+◌, ◌^◌, ◌≤◌, ◌<◌, Table, MaybeTask, NoTask, Task, Processor, Idle, CopyingIn, Executing, Finished, CopyOut, NoCopyOut, CopyingOut, CopiedOut, CopyIn, Unchosen, NoneChosen, Copying, Loaded, Cancelled, Interval, Next, NoneNext, LoadedNext, PromotedNext, Outgoing, NoneOutgoing, AwaitsCopyOut, Phase, Between, Within, State, Stage, Due, Never, Tick}
+use Rattle.std.proofs.Common.{◌≡◌, ◌&&◌, ◌+◌, ◌^◌, ◌≤◌, ◌<◌}
+use Rattle.guarantees.specs.Types.{refl, sym, ap, ◌∙◌, subst, true, false, cond, not, true≢false, false≢true, ℕ, zero, suc, Table, MaybeTask, NoTask, Task, Processor, Idle, CopyingIn, Executing, Finished, CopyOut, NoCopyOut, CopyingOut, CopiedOut, CopyIn, Unchosen, NoneChosen, Copying, Loaded, Cancelled, Interval, Next, NoneNext, LoadedNext, PromotedNext, Outgoing, NoneOutgoing, AwaitsCopyOut, Phase, Between, Within, State, Stage, Due, Never, Tick}
 use Prim.Native.Nat.{max}
 use native.Mathlib.Omega.{arith}
 use native.Mathlib.Nat.{not-suc-le-zero}
@@ -10,12 +11,12 @@ use Rattle.table.specs.Table.{copyin_length, execution_length, copyout_length}
 use Rattle.sets.specs.Sets.{member}
 use Rattle.sets.proofs.Laws.{by-test, member_task}
 use Rattle.guarantees.proofs.Highest.{Best}
-use Rattle.rules.specs.Instant.{resting, copying_out, settled, step_a, step_b, step_c, step_d, step_e, step_g, close, over, with_candidates, cancel, choose, begin, begin_processor, begin_copyout, taken, deferred, ended, copyin_at, copyout_at, processor_at, at_a, at_b, at_e, at_f, at_g, taken_at, deferred_at, fresh_stage}
+use Rattle.rules.specs.Instant.{resting, copying_out, settled, step_a, step_b, step_c, step_d, step_e, step_g, close, with_candidates, cancel, choose, begin, begin_processor, begin_copyout, taken, deferred, ended, copyin_at, copyout_at, processor_at, at_a, at_b, at_e, at_f, at_g, taken_at, deferred_at, fresh_stage}
 use Rattle.rules.specs.With.{at_clock, later}
 use Rattle.rules.specs.Order.{highest_of}
 use Rattle.guarantees.specs.Figure.{greatest, greatest_copyin, greatest_copyout, greatest_work, longest_interval}
 use Rattle.guarantees.specs.States.{next_known, outgoing_known, phase_known}
-use Rattle.guarantees.proofs.Frames.{Frame, at_c, at_d, b_frame, c_table, d_frame, table_b, table_e}
+use Rattle.guarantees.proofs.Frames.{Frame, at_c, at_d, b_frame, table_b, table_e}
 use Rattle.guarantees.proofs.Releases.{passed, passed_known}
 use Rattle.guarantees.proofs.Settled.{Decided, DecidedAt, OpenAt}
 use Rattle.guarantees.proofs.Times.{Times, processor_times, copyout_times, copyin_times, parted_d, table_d}

@@ -1,5 +1,6 @@
 -- Small facts on single steps, which several of the proofs use.
-use Rattle.guarantees.specs.Types.{◌≡◌, refl, sym, ap, subst, true, not, ◌&&◌, ℕ, ◌<◌, Table, MaybeTask, NoTask, Task, Processor, Interval, Phase, Between, Within, State}
+use Rattle.std.proofs.Common.{◌≡◌, ◌&&◌, ◌<◌}
+use Rattle.guarantees.specs.Types.{refl, sym, ap, subst, true, not, ℕ, Table, MaybeTask, NoTask, Task, Processor, Interval, Phase, Between, Within, State}
 use Rattle.sets.specs.Sets.{member, intersection}
 use Rattle.sets.proofs.Laws.{right, union_right, intersection_in}
 use lib.ListN.{get_or}

@@ -1,5 +1,6 @@
 -- What a history says of the last job of a task: a walk along the events, and that what it finds is what the claim on the entries asks for.
-use Rattle.guarantees.specs.Types.{◌≡◌, refl, sym, ap, ◌∙◌, subst, Bool, true, false, cond, ◌||◌, ◌⊎◌, inl, inr, ⊎_elim, List, [], ◌∷◌, ◌++◌, append_assoc, ℕ, MaybeTask, NoTask, Task, Due, Never, Tick}
+use Rattle.std.proofs.Common.{◌≡◌, ◌||◌, ◌⊎◌, ◌∷◌, ◌++◌}
+use Rattle.guarantees.specs.Types.{refl, sym, ap, ◌∙◌, subst, Bool, true, false, cond, inl, inr, ⊎_elim, List, [], append_assoc, ℕ, MaybeTask, Due, Never, Tick}
 use mathlib.Core.List.{append-nil}
 use native.Mathlib.Omega.{arith}
 use borrow.Author.Tests.{eqb-true}

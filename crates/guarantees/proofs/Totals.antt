@@ -1,5 +1,6 @@
 -- How many events of a kind an instant has.
-use Rattle.guarantees.specs.Types.{◌≡◌, refl, ap, ◌∙◌, Bool, true, false, cond, List, [], ◌∷◌, ◌++◌, ℕ, zero, suc, ◌+◌, ◌*◌, MaybeTask, State}
+use Rattle.std.proofs.Common.{◌≡◌, ◌∷◌, ◌++◌, ◌+◌, ◌*◌}
+use Rattle.guarantees.specs.Types.{refl, ap, ◌∙◌, Bool, true, false, cond, List, [], ℕ, zero, suc, MaybeTask, State}
 use native.Mathlib.Omega.{arith}
 use Rattle.sets.specs.Sets.{member, count, size}
 use Rattle.rules.specs.Instant.{at_a, at_b, at_e, at_f, at_g, taken_at, deferred_at}

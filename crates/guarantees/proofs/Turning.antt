@@ -1,5 +1,6 @@
 -- Every history passes the monitor of a task's jobs: where the job of a task is, by the state, step by step and along the calls.
-use Rattle.guarantees.specs.Types.{◌≡◌, refl, sym, ap, ◌∙◌, subst, Bool, true, false, cond, not, ◌&&◌, ◌||◌, true≢false, false≢true, List, [], ◌∷◌, ◌++◌, ℕ, ◌+◌, ◌*◌, ◌≤◌, ◌<◌, Table, Jobs, WaitingReleases, Clock, Unset, At, MaybeTask, NoTask, Task, Processor, CopyOut, NoCopyOut, CopyingOut, CopiedOut, Interval, Next, NoneNext, LoadedNext, PromotedNext, Outgoing, NoneOutgoing, AwaitsCopyOut, Phase, Between, Within, State, NoJob, Job, Stage, Due, Never, Tick, Call}
+use Rattle.std.proofs.Common.{◌≡◌, ◌&&◌, ◌||◌, ◌∷◌, ◌++◌, ◌+◌, ◌*◌, ◌≤◌, ◌<◌}
+use Rattle.guarantees.specs.Types.{refl, sym, ap, ◌∙◌, subst, Bool, true, false, cond, not, true≢false, false≢true, List, ℕ, Table, Jobs, WaitingReleases, Clock, Unset, At, MaybeTask, NoTask, Task, Processor, CopyOut, NoCopyOut, CopyingOut, CopiedOut, Interval, Next, NoneNext, LoadedNext, PromotedNext, Outgoing, NoneOutgoing, AwaitsCopyOut, Phase, Between, Within, State, NoJob, Job, Stage, Due, Never, Tick, Call}
 use native.Mathlib.Omega.{arith}
 use lib.Dec.{eqb}
 use Rattle.sets.specs.Sets.{member, bit}

@@ -2,14 +2,15 @@
 -- the copy-in of the open interval, and each step keeps it. A job of an earlier interval: the copy-in is not chosen yet, or is of a task
 -- not lower than n, or, where none was chosen or it was cancelled, some task released and marked in this interval and ready is not lower
 -- than n. An unmarked job of this interval: nothing is shown of the next one.
-use Rattle.guarantees.specs.Types.{Table, ◌≡◌, refl, sym, ap, ◌∙◌, subst, ⊎_elim, true, false, false≢true, List, [], ◌∷◌, ◌++◌, ℕ, ◌≤◌, ◌<◌, MaybeTask, NoTask, Task, Processor, CopyIn, Unchosen, NoneChosen, Copying, Loaded, Cancelled, Interval, Next, NoneNext, LoadedNext, PromotedNext, Outgoing, Phase, Between, Within, State, Stage, Call}
+use Rattle.std.proofs.Common.{◌≡◌, ◌∷◌, ◌++◌, ◌≤◌, ◌<◌}
+use Rattle.guarantees.specs.Types.{Table, refl, sym, ap, ◌∙◌, subst, ⊎_elim, true, false, false≢true, List, [], ℕ, MaybeTask, NoTask, Task, Processor, CopyIn, Unchosen, NoneChosen, Copying, Loaded, Cancelled, Interval, Next, NoneNext, LoadedNext, PromotedNext, Outgoing, Phase, Between, Within, State, Stage, Call}
 use native.Mathlib.Omega.{arith}
 use borrow.Author.Tests.{ltb-true}
 use lib.Dec.{eqb}
 use lib.ListN.{get_or}
 use Rattle.table.specs.Table.{copyin_length}
 use Rattle.sets.specs.Sets.{member, union, intersection, insert, remove}
-use Rattle.sets.proofs.Laws.{none, by-test, clash, union_left, intersection_in, intersection_left, intersection_right, insert_same, insert_other, remove_in}
+use Rattle.sets.proofs.Laws.{by-test, clash, union_left, intersection_in, intersection_left, intersection_right, insert_same, insert_other, remove_in}
 use Rattle.guarantees.proofs.Highest.{Best}
 use Rattle.guarantees.proofs.Walk.{walk}
 use Rattle.guarantees.specs.History.{history, Event, begin_events, happens}

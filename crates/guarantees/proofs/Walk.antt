@@ -1,6 +1,7 @@
 -- Walks along the calls: each call is an instant that is served, or leaves all but the marks as it is; and what holds through both holds
 -- through a list of them. A new call that leaves table, clock, jobs, waiting releases and phase as they are needs a line in `each_call` alone.
-use Rattle.guarantees.specs.Types.{◌≡◌, refl, sym, ap, ◌∙◌, subst, append_assoc, Bool, true, false, cond, not, false≢true, ◌⊎◌, inl, inr, ⊎_elim, List, [], ◌∷◌, ◌++◌, ℕ, State, Call, Instant, Mark, Marks, Served, Refused, Occurred}
+use Rattle.std.proofs.Common.{◌≡◌, ◌⊎◌, ◌∷◌, ◌++◌}
+use Rattle.guarantees.specs.Types.{refl, sym, ap, ◌∙◌, subst, append_assoc, Bool, true, false, cond, not, false≢true, inl, inr, ⊎_elim, List, [], ℕ, State, Call, Instant, Mark, Marks, Refused, Occurred}
 use borrow.Author.Tests.{eqb-true}
 use lib.Dec.{eqb, ltb}
 use Rattle.sets.specs.Sets.{member, union, intersection, difference, insert}

@@ -1,6 +1,7 @@
 -- 6/13: first come, first served. "The highest of several is then the earliest released by original time, and among those the lowest task
 -- number": of what the engine chooses for copy-in, said of every job that is ready then.
-use Rattle.guarantees.specs.Types.{◌≡◌, true, ◌⊎◌, ℕ, ◌≤◌, ◌<◌, NoTask, Task, State}
+use Rattle.std.specs.Prelude.{◌≡◌, ◌⊎◌, ◌≤◌, ◌<◌}
+use Rattle.guarantees.specs.Types.{true, ℕ, NoTask, Task, State}
 use Rattle.sets.specs.Sets.{member}
 use Rattle.rules.specs.Order.{priority}
 use Rattle.rules.specs.View.{values}

@@ -1,7 +1,7 @@
 -- Demand 3: the claim about a whole list of instants and mark calls. What stands between quotation marks is the demand, or document 01,
 -- "The dispatcher by instants", second paragraph; below each quotation stands what it says of a history (History, Queries).
-use Rattle.guarantees.specs.Types.{◌≡◌, Bool, true, false, cond, List, [], ◌∷◌, ◌++◌, ℕ, ◌+◌, ◌*◌, ◌≤◌, ◌<◌, Table, MaybeTask, NoTask, Task, State, Due, Never, Tick, NoRefusal, Call, Instant}
-use Rattle.std.specs.Prelude.{leb, get_or, length}
+use Rattle.guarantees.specs.Types.{Bool, true, false, cond, List, [], ℕ, Table, MaybeTask, NoTask, Task, State, Due, Never, Tick, NoRefusal, Call, Instant}
+use Rattle.std.specs.Prelude.{leb, get_or, length, ◌≡◌, ◌∷◌, ◌++◌, ◌+◌, ◌*◌, ◌≤◌, ◌<◌}
 use Rattle.sets.specs.Sets.{member, size}
 use Rattle.table.specs.Table.{copyin_length, execution_length, copyout_length}
 use Rattle.rules.specs.Instant.{previous_release}
@@ -12,7 +12,7 @@ use Rattle.guarantees.specs.Releases.{Spaced}
 use Rattle.guarantees.specs.Intervals.{Proceeds, came, Cause}
 use Rattle.guarantees.specs.Copying.{Copies}
 use Rattle.guarantees.specs.Entries.{EntriesTell}
-use Rattle.guarantees.specs.Figure.{PlainFigure, Figure}
+use Rattle.guarantees.specs.Figure.{Figure}
 use Rattle.guarantees.specs.Counting.{CountsRise}
 use Rattle.guarantees.specs.Choosing.{FirstCome}
 use Rattle.guarantees.specs.States.{PlainState}
@@ -117,9 +117,6 @@ pub record Holds (table : Table) (history : List Event) : Type 0 where
       (b : ℕ) × (x.begun ≡ Tick b) × (x.ended ≡ Never) × (x.out ≡ Task n) × (c ≡ b + copyout_length table.columns n)
   -- a task has one pending job at a time, each taken, executed, copied out and completed once; 4/13: and one release that waits behind it
   pub each_task : (n : ℕ) → OneAtATime n history
-  -- a release that waits is not taken too: it comes after the last one that was taken or set waiting
-  pub each_deferral : (before after : List Event) (n t u : ℕ) → history ≡ before ++ (Defers n t ∷ after) →
-      last_released n before ≡ Tick u → u < t
   -- 8/13: a task with a spacing has its releases that far apart
   pub each_spacing : (n : ℕ) → n < 32 → member n table.spaced ≡ true → Spaced n table history
   -- what occurs at an instant says its tick

@@ -1,7 +1,7 @@
 -- What the engine copies in, by a history: whom it chooses where it becomes free, and how long the copy-in lasts. What stands between
 -- quotation marks is document 01.
-use Rattle.guarantees.specs.Types.{◌≡◌, Bool, true, false, cond, not, ◌&&◌, ◌||◌, List, [], ◌∷◌, ◌++◌, ℕ, ◌+◌, ◌≤◌, ◌<◌, MaybeTask, NoTask, Task, CopyIn, Unchosen, NoneChosen, Copying, Loaded, Tick}
-use Rattle.std.specs.Prelude.{get_or}
+use Rattle.guarantees.specs.Types.{Bool, true, false, cond, not, List, [], ℕ, MaybeTask, NoTask, Task, CopyIn, Unchosen, NoneChosen, Copying, Loaded, Tick}
+use Rattle.std.specs.Prelude.{get_or, ◌≡◌, ◌&&◌, ◌||◌, ◌∷◌, ◌++◌, ◌+◌, ◌≤◌, ◌<◌}
 use Rattle.sets.specs.Sets.{member, remove}
 use Rattle.table.specs.Table.{copyin_length}
 use Rattle.rules.specs.Order.{highest}

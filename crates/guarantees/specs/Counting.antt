@@ -1,7 +1,7 @@
 -- 3/13: "in a state that calls made a pending job's count rises by one exactly when its task is in it", in the set
 -- of tasks that the interval can block.
-use Rattle.guarantees.specs.Types.{◌≡◌, cond, ◌&&◌, ℕ, ◌+◌, ◌<◌, State}
-use Rattle.std.specs.Prelude.{get_or}
+use Rattle.guarantees.specs.Types.{cond, ℕ, State}
+use Rattle.std.specs.Prelude.{get_or, ◌≡◌, ◌&&◌, ◌+◌, ◌<◌}
 use Rattle.sets.specs.Sets.{member}
 use Rattle.rules.specs.Blocking.{blockable}
 use Rattle.rules.specs.Instant.{at_a, at_b, at_e, at_f}

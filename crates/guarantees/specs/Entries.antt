@@ -1,8 +1,8 @@
 -- That the entries tell the truth: of each job done (kind 16) and of each interval closed (kind 17) that the calls answer with, what it
 -- says is what the history has of it. What stands between quotation marks is document 01; below each quotation stands what it says of a
 -- history.
-use Rattle.guarantees.specs.Types.{◌≡◌, Bool, true, false, cond, ◌&&◌, List, [], ◌∷◌, ◌++◌, ℕ, ◌+◌, ◌<◌, MaybeTask, NoTask, Task, State, Never, Tick, Call, Instant, Served, Occurred, Done, NoJob, Job, Closing, Unclosed, BeforeReleases, AfterReleases, JobEntry, IntervalEntry}
-use Rattle.std.specs.Prelude.{eqb, ltb, get_or}
+use Rattle.guarantees.specs.Types.{Bool, true, false, cond, List, [], ℕ, MaybeTask, NoTask, Task, State, Never, Tick, Call, Instant, Served, Occurred, Done, NoJob, Job, Closing, Unclosed, BeforeReleases, AfterReleases, JobEntry, IntervalEntry}
+use Rattle.std.specs.Prelude.{eqb, ltb, get_or, ◌≡◌, ◌&&◌, ◌∷◌, ◌++◌, ◌+◌, ◌<◌}
 use Rattle.sets.specs.Sets.{member, bit}
 use Rattle.rules.specs.Instant.{occurred}
 use Rattle.rules.specs.Calls.{instant, row, serves, after_call}

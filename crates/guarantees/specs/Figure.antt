@@ -1,7 +1,7 @@
 -- 7/13: a figure members can plan on. What stands between quotation marks is the request; below each quotation stands what it says of a
 -- history. "A release that waited is measured from its taking": so is every one here.
-use Rattle.guarantees.specs.Types.{◌≡◌, Bool, true, false, cond, ◌&&◌, List, [], ◌∷◌, ◌++◌, ℕ, zero, suc, ◌+◌, ◌-◌, ◌*◌, ◌^◌, ◌≤◌, ◌<◌, min, Table, MaybeTask, NoTask, Task, Tick}
-use Rattle.std.specs.Prelude.{max, leb, get_or, length}
+use Rattle.guarantees.specs.Types.{Bool, true, false, cond, List, [], ℕ, zero, suc, min, Table, MaybeTask, NoTask, Task, Tick}
+use Rattle.std.specs.Prelude.{max, leb, get_or, length, ◌≡◌, ◌&&◌, ◌∷◌, ◌++◌, ◌+◌, ◌-◌, ◌*◌, ◌^◌, ◌≤◌, ◌<◌}
 use Rattle.sets.specs.Sets.{member, bit}
 use Rattle.table.specs.Table.{copyin_length, execution_length, copyout_length}
 use Rattle.guarantees.specs.History.{Event, Comes, Ends, Takes}

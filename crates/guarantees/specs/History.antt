@@ -1,7 +1,7 @@
 -- What the instant list makes of the task entries and of the calls that meet no refusal: the history of a run, event by event,
 -- in the order in which the events occur. Each event is read off the steps a to g of an instant. A refused call leaves none.
-use Rattle.guarantees.specs.Types.{◌≡◌, Bool, cond, List, [], ◌∷◌, ◌++◌, ℕ, zero, suc, MaybeTask, NoTask, Task, Processor, Idle, CopyingIn, Executing, Finished, CopyIn, Unchosen, NoneChosen, Copying, Loaded, Cancelled, Phase, Between, Within, State, Done, NoJob, Job, Call, Instant, Mark, Never, Tick}
-use Rattle.std.specs.Prelude.{eqb}
+use Rattle.guarantees.specs.Types.{Bool, cond, List, [], ℕ, zero, suc, MaybeTask, NoTask, Task, Processor, Idle, CopyingIn, Executing, Finished, CopyIn, Unchosen, NoneChosen, Copying, Loaded, Cancelled, Phase, Between, Within, State, Done, NoJob, Job, Call, Instant, Never, Tick}
+use Rattle.std.specs.Prelude.{eqb, ◌≡◌, ◌∷◌, ◌++◌}
 use Rattle.sets.specs.Sets.{member}
 use Rattle.rules.specs.Instant.{at_a, at_b, at_e, at_f, at_g, taken_at, deferred_at, due, processor_task, copyout_task}
 use Rattle.rules.specs.Calls.{row, serves, after_call}

@@ -1,7 +1,7 @@
 -- What a history has of an interval, for its entry (kind 17) and for what the next interval executes. What stands between quotation
 -- marks is document 01.
-use Rattle.guarantees.specs.Types.{◌≡◌, ◌⊎◌, Bool, true, false, cond, not, ◌&&◌, ◌||◌, List, [], ◌∷◌, ◌++◌, ℕ, ◌-◌, ◌<◌, MaybeTask, NoTask, Task, IntervalEntry}
-use Rattle.std.specs.Prelude.{eqb, get_or}
+use Rattle.guarantees.specs.Types.{Bool, true, false, cond, not, List, [], ℕ, MaybeTask, NoTask, Task, IntervalEntry}
+use Rattle.std.specs.Prelude.{eqb, get_or, ◌≡◌, ◌⊎◌, ◌&&◌, ◌||◌, ◌∷◌, ◌++◌, ◌-◌, ◌<◌}
 use Rattle.sets.specs.Sets.{member, insert}
 use Rattle.rules.specs.Order.{highest}
 use Rattle.guarantees.specs.History.{Event, Finishes, Ends, GivesWay, Begins}

@@ -1,6 +1,7 @@
 -- The claim on a promise: what opening from bytes returns, and, where it serves them, the claim for every list of calls and of requests
 -- from the state returned, each read as the rules have it.
-use Rattle.guarantees.specs.Types.{◌≡◌, List, ℕ, NoRefusal, Call}
+use Rattle.std.specs.Prelude.{◌≡◌}
+use Rattle.guarantees.specs.Types.{List, ℕ, NoRefusal, Call}
 use Rattle.table.specs.Refusals.{refusal_number, refusal_place}
 use Rattle.rules.specs.Calls.{opening}
 use Rattle.dispatcher.specs.declared.Opening.{Opening}

@@ -1,8 +1,8 @@
 -- One job of a task at a time, and one release of it that waits: where the pending job of a task is along a history, and when a
 -- release that waits is taken. And what occurs, occurs at the instant that came last. What stands between quotation marks is
 -- document 01, or 4/13.
-use Rattle.guarantees.specs.Types.{◌≡◌, Bool, true, cond, not, ◌&&◌, ◌||◌, List, ◌∷◌, ◌++◌, ℕ, ◌<◌, MaybeTask, Task, Due, Never, Tick}
-use Rattle.std.specs.Prelude.{eqb, leb}
+use Rattle.guarantees.specs.Types.{Bool, true, cond, not, List, ℕ, MaybeTask, Task, Due, Never, Tick}
+use Rattle.std.specs.Prelude.{eqb, leb, ◌≡◌, ◌&&◌, ◌||◌, ◌∷◌, ◌++◌, ◌<◌}
 use Rattle.guarantees.specs.History.{Event, Comes, Completes, Takes, Defers, Begins}
 use Rattle.guarantees.specs.Queries.{details, is_task, comes, finishes, completes, ends, takes, begins, starts, gives_way, defers, after, waiting, taking}
 

@@ -1,8 +1,8 @@
 -- The questions that the claim asks of a history: what is open at a point of it, which intervals begin, when the next one ends or begins,
 -- when a job starts to execute, stops and completes, and how many events of a kind there are. Each is a walk along the events, and names
 -- only the kinds of events that it asks for.
-use Rattle.guarantees.specs.Types.{Bool, true, false, cond, ◌&&◌, ◌||◌, List, [], ◌∷◌, ◌++◌, ℕ, ◌+◌, MaybeTask, NoTask, Task, Due, Never, Tick}
-use Rattle.std.specs.Prelude.{eqb}
+use Rattle.guarantees.specs.Types.{Bool, true, false, cond, List, [], ℕ, MaybeTask, NoTask, Task, Due, Never, Tick}
+use Rattle.std.specs.Prelude.{eqb, ◌&&◌, ◌||◌, ◌∷◌, ◌++◌, ◌+◌}
 use Rattle.guarantees.specs.History.{Event, Comes, Starts, Stops, Finishes, Completes, Ends, Takes, Defers, GivesWay, Begins}
 
 -- ---- What an event says

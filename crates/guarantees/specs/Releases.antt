@@ -1,6 +1,7 @@
 -- What becomes of the releases of a task: each that is handed in is taken at once, set waiting or skipped, and each that was set
 -- waiting is taken later. What stands between quotation marks is 4/13 or 8/13.
-use Rattle.guarantees.specs.Types.{◌≡◌, Bool, true, false, cond, not, ◌&&◌, ◌⊎◌, List, ◌∷◌, ◌++◌, ℕ, ◌+◌, ◌≤◌, ◌<◌, Table, Never, Tick}
+use Rattle.std.specs.Prelude.{◌≡◌, ◌&&◌, ◌⊎◌, ◌∷◌, ◌++◌, ◌+◌, ◌≤◌, ◌<◌}
+use Rattle.guarantees.specs.Types.{Bool, true, false, cond, not, List, ℕ, Table, Never, Tick}
 use Rattle.sets.specs.Sets.{member, bit}
 use Rattle.table.specs.Table.{spacing}
 use Rattle.guarantees.specs.History.{Event, Takes, Defers}

@@ -1,7 +1,7 @@
 -- 9/13: what is asked of a dispatcher one thing after the other, enquiries and commits among them, and which calls this comes to. What
 -- stands between quotation marks is document 02.
-use Rattle.guarantees.specs.Types.{◌≡◌, Bool, false, cond, List, [], ◌∷◌, ◌++◌, ℕ, ◌+◌, ◌<◌, State, Call, Instant}
-use Rattle.std.specs.Prelude.{◌%◌, ◌^◌, eqb}
+use Rattle.guarantees.specs.Types.{Bool, false, cond, List, [], ℕ, State, Call, Instant}
+use Rattle.std.specs.Prelude.{◌%◌, ◌^◌, eqb, ◌≡◌, ◌∷◌, ◌++◌, ◌+◌, ◌<◌}
 use Rattle.sets.specs.Sets.{bit}
 use Rattle.rules.specs.Calls.{row}
 use Rattle.rules.specs.Tickets.{Ticketed, after_ticketed, instant_step, Enquiry, enquiry, commit_refusal, commit}

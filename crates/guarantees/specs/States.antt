@@ -1,8 +1,8 @@
 -- Every state that calls made: it names only tasks of the table, and no time and no count of it comes near the end of its type. The
 -- definitions hold a time at the last tick of a u64 (`later`) and a count at 255 (`counted`), so that every state has an answer; here it
 -- is claimed that no run gets there: on every state that calls made they are document 01's, with plain arithmetic.
-use Rattle.guarantees.specs.Types.{◌≡◌, true, List, ◌⊎◌, ℕ, ◌+◌, ◌≤◌, ◌<◌, min, Table, Processor, Idle, CopyingIn, Executing, Finished, CopyOut, NoCopyOut, CopyingOut, CopiedOut, CopyIn, Unchosen, NoneChosen, Copying, Loaded, Cancelled, Next, NoneNext, LoadedNext, PromotedNext, Outgoing, NoneOutgoing, AwaitsCopyOut, Phase, Between, Within, State}
-use Rattle.std.specs.Prelude.{get_or}
+use Rattle.guarantees.specs.Types.{true, List, ℕ, min, Table, Processor, Idle, CopyingIn, Executing, Finished, CopyOut, NoCopyOut, CopyingOut, CopiedOut, CopyIn, Unchosen, NoneChosen, Copying, Loaded, Cancelled, Next, NoneNext, LoadedNext, PromotedNext, Outgoing, NoneOutgoing, AwaitsCopyOut, Phase, Between, Within, State}
+use Rattle.std.specs.Prelude.{get_or, ◌≡◌, ◌⊎◌, ◌+◌, ◌≤◌, ◌<◌}
 use Rattle.table.specs.Table.{copyin_length, execution_length, copyout_length}
 use Rattle.sets.specs.Sets.{member}
 use Rattle.rules.specs.With.{later, at_clock}

@@ -1,7 +1,7 @@
 -- The claim accepts the plans' histories, since the theorem gives it of their calls; and each wrong history goes against a line of it.
 use Prim.Native.Nat.{◌+◌, ◌*◌, ℕ, ◌≤◌, ◌<◌}
 use mathlib.Core.Path.{◌≡◌, refl, sym, ap, ◌∙◌, subst}
-use mathlib.Core.Bool.{Bool, true, false, cond, ◌&&◌, ◌||◌, true≢false, false≢true}
+use mathlib.Core.Bool.{Bool, true, false, cond, ◌&&◌, true≢false, false≢true}
 use mathlib.Core.List.{List, [], ◌∷◌, ◌++◌}
 use Rattle.table.specs.declared.Table.{Table}
 use Rattle.entries.specs.declared.JobEntry.{JobEntry}
@@ -29,7 +29,7 @@ use Rattle.guarantees.specs.Queries.{details, is_task, takes, completes, after, 
 use Rattle.guarantees.specs.Figure.{greatest, longest_interval, not_lower_in, before_start}
 use Rattle.guarantees.specs.Claim.{Holds, Completed, TakenLater, AllCompleted, Claim, Demand3}
 use Rattle.sets.proofs.Laws.{by-test, same_task}
-use Rattle.histories.specs.Histories.{task, tasks, three, plans_table, spaced_tasks, spaced_table, AcceptsOf, Accepts, Refuses, PlansAccepted, WrongRefused, calls_a, history_a, calls_b, history_b, calls_c, history_c, calls_d, history_d, calls_e, history_e, calls_f, history_f, calls_f', history_f', calls_waiting, history_waiting, second_lower, second_finished, thrown_out_runs, third_idle, third_lower, copyout_late, four_intervals, copyout_not_at_once, completion_late, completion_missing, completion_unexecuted, begins_late, no_ticks, not_executed, loaded_late, promoted_early, execution_long, promoted_unmarked, starts_unasked, starts_twice, stops_unstarted, cut_short, one_waits, never_taken, two_wait, waited_unexecuted, before_13, before_17, job_1, Tells, OneEntry, WaitedEntry, taken_late, waits_for_nothing, taken_twice, completed_twice, runs_unreleased, executed_again, another_tick, instants_fall, nobody_promoted, promoted_late, promoted_beside_the_loaded, begins_twice, ends_twice, finishes_twice, gives_way_twice, FigureRefuses, FigureTells, unmarked_in_four, marked_in_three, marked_behind_idle, marked_idles, lasts_long, open_long, completes_behind_two, unmarked_late, marked_late, between_unstarted, between_unstopped, Marks, calls_one, taken_another, up_to_5, ReleasesRefused, calls_skipped, history_skipped, calls_third, history_third, RefusesSpaced, taken_at_0, SpacingsAccepted, SpacingsRefused, LastReleases, PlanEntries, waits_between, ends_late, stays_open, ends_a_tick_late, taken_unchosen, ends_behind_a_taking, begins_a_tick_late, lower_chosen, nobody_chosen, copyin_short, copyin_overdue, cancelled_at_its_end, gives_way_unchosen, over_and_open, left_open, left_copying, begins_for_nobody, ends_unchosen, open_for_a_release, open_for_a_deferral, taken_and_waits, waits_before_the_completion, taken_behind_the_begin, late_table, cancelled_late, not_thrown_out, slow_tasks, slow_table, calls_slow, history_slow, ends_copying_out, LaterEnd, calls_unmarked, history_unmarked, BoundsMet}
+use Rattle.histories.specs.Histories.{task, tasks, three, plans_table, spaced_tasks, spaced_table, AcceptsOf, Accepts, Refuses, PlansAccepted, WrongRefused, calls_a, history_a, calls_b, history_b, calls_c, history_c, calls_d, history_d, calls_e, history_e, calls_f, history_f, calls_f', history_f', calls_waiting, history_waiting, second_lower, second_finished, thrown_out_runs, third_idle, third_lower, copyout_late, four_intervals, copyout_not_at_once, completion_late, completion_missing, completion_unexecuted, begins_late, no_ticks, not_executed, loaded_late, promoted_early, execution_long, promoted_unmarked, starts_unasked, starts_twice, stops_unstarted, cut_short, one_waits, never_taken, two_wait, waited_unexecuted, before_13, before_17, job_1, Tells, OneEntry, WaitedEntry, taken_late, waits_for_nothing, taken_twice, completed_twice, runs_unreleased, executed_again, another_tick, instants_fall, nobody_promoted, promoted_late, promoted_beside_the_loaded, begins_twice, ends_twice, finishes_twice, gives_way_twice, FigureRefuses, FigureTells, unmarked_in_four, marked_in_three, marked_behind_idle, marked_idles, lasts_long, open_long, completes_behind_two, unmarked_late, marked_late, between_unstarted, between_unstopped, Marks, calls_one, taken_another, up_to_5, ReleasesRefused, calls_skipped, history_skipped, calls_third, history_third, RefusesSpaced, taken_at_0, SpacingsAccepted, SpacingsRefused, LastReleases, PlanEntries, waits_between, ends_late, stays_open, ends_a_tick_late, taken_unchosen, ends_behind_a_taking, begins_a_tick_late, lower_chosen, nobody_chosen, copyin_short, copyin_overdue, cancelled_at_its_end, gives_way_unchosen, over_and_open, left_open, left_copying, begins_for_nobody, ends_unchosen, open_for_a_release, open_for_a_deferral, waits_before_the_completion, taken_behind_the_begin, late_table, cancelled_late, not_thrown_out, slow_tasks, slow_table, calls_slow, history_slow, ends_copying_out, LaterEnd, calls_unmarked, history_unmarked, BoundsMet}
 use Rattle.guarantees.specs.Intervals.{ended}
 use Rattle.guarantees.specs.Entries.{lower_in, handed_in, marked_by}
 use Rattle.guarantees.specs.Queries.{until}
@@ -452,10 +452,6 @@ refuses_open_for_a_deferral : Refuses open_for_a_deferral
 unfolding open_for_a_deferral after plans_table three Sets.member Sets.below Sets.collect Sets.insert Sets.remove Order.better Order.highest_below Order.highest
 refuses_open_for_a_deferral h = false≢true (h.each_copyin.each_open (take 10 open_for_a_deferral) (drop 10 open_for_a_deferral) refl refl refl)
 
-refuses_taken_and_waits : Refuses taken_and_waits
-unfolding taken_and_waits after
-refuses_taken_and_waits h = let x : 0 < 0 = h.each_deferral (take 2 taken_and_waits) (drop 3 taken_and_waits) 1 0 0 refl refl in omega arith
-
 refuses_waits_before_the_completion : Refuses waits_before_the_completion
 unfolding waits_before_the_completion after
 refuses_waits_before_the_completion h =
@@ -536,7 +532,6 @@ wrong_refused = (
   refuses_ends_unchosen,
   refuses_open_for_a_release,
   refuses_open_for_a_deferral,
-  refuses_taken_and_waits,
   refuses_waits_before_the_completion,
   refuses_taken_behind_the_begin,
   refuses_cancelled_late,

@@ -663,14 +663,6 @@ open_for_a_deferral =
     Comes 2 ∷ Finishes 1 ∷ Ends 2 ∷ Begins 2 (Task 1) NoTask ∷ Starts 1 2 ∷
     Comes 5 ∷ Stops 1 5 ∷ Defers 1 5 ∷ Ends 5 ∷ Begins 5 NoTask (Task 1) ∷ []
 
--- 4/13: plan F with the release of 0 taken and set waiting too, so that it runs twice
-unfoldable pub taken_and_waits : List Event
-taken_and_waits =
-    Comes 0 ∷ Takes 1 0 true ∷ Defers 1 0 ∷ Begins 0 NoTask NoTask ∷
-    Comes 2 ∷ Finishes 1 ∷ Ends 2 ∷ Begins 2 (Task 1) NoTask ∷ Starts 1 2 ∷
-    Comes 5 ∷ Stops 1 5 ∷ Ends 5 ∷ Begins 5 NoTask (Task 1) ∷
-    Comes 6 ∷ Completes 1 6 ∷ Takes 1 6 true ∷ []
-
 -- 4/13: plan F with a release at 6 that waits for the completion of then, which comes before it
 unfoldable pub waits_before_the_completion : List Event
 waits_before_the_completion =
@@ -769,7 +761,6 @@ WrongRefused =
     × Refuses ends_unchosen
     × Refuses open_for_a_release
     × Refuses open_for_a_deferral
-    × Refuses taken_and_waits
     × Refuses waits_before_the_completion
     × Refuses taken_behind_the_begin
     × (Holds late_table cancelled_late → ⊥)

@@ -1,6 +1,6 @@
 -- Document 01's lines, as the definitions give them.
 use mathlib.Core.Path.{◌≡◌, refl}
-use mathlib.Core.List.{List, [], ◌∷◌}
+use mathlib.Core.List.{[], ◌∷◌}
 use Rattle.lines.specs.Types.{NoTask, Task}
 use Rattle.lines.specs.Lines.{digits, decimal, job_line, interval_line}
 

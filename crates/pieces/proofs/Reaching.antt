@@ -16,7 +16,7 @@ use Rattle.entries.proofs.Each.{each_both}
 use Rattle.rules.specs.Instant.{at_g}
 use Rattle.rules.specs.Entries.{entries}
 use Rattle.rules.specs.Steps.{Stands}
-use Rattle.rules.specs.Kept.{Kept, kept, ByTask, by_task, Beside, beside, read}
+use Rattle.rules.specs.Kept.{Kept, kept, by_task, Beside, read}
 use Rattle.dispatcher.specs.Dispatcher.{kept_of, beside_of, state_of}
 use Rattle.run.specs.Types.{Release, RecordEntry, State, Tick}
 use Rattle.run.specs.declared.Advanced.{Advanced}
@@ -24,11 +24,10 @@ use Rattle.dispatcher.specs.declared.Dispatcher.{Dispatcher}
 use Rattle.pieces.specs.declared.Piece.{Piece}
 use Rattle.run.specs.Listed.{releases_at}
 use Rattle.run.specs.Run.{Moment, released_at, released_after, next_time, moment, run, record_entries, record_bytes}
-use Rattle.run.specs.Putting.{put_all}
 use Rattle.run.specs.Advance.{Advances, Made, Steps}
 use Rattle.pieces.specs.Pieces.{Leads, Makes}
 use Rattle.run.proofs.Listing.{in_part, behind_part}
-use Rattle.run.proofs.Slices.{laid_none, laid_both, laid_length, put_all_laid, rest_laid, rest_length, put_all_length}
+use Rattle.run.proofs.Slices.{laid_none, laid_both, laid_length, rest_laid, rest_length, put_all_length}
 use Rattle.run.proofs.InOrder.{moment_most}
 use Rattle.run.proofs.Advancing.{with_set}
 

@@ -1,10 +1,10 @@
 -- A run in pieces: the moments that are made one after the other from a state on, and where they lead.
-use Rattle.std.specs.Prelude.{◌≡◌, ◌⊎◌, ◌<◌, length}
+use Rattle.std.specs.Prelude.{◌≡◌, ◌⊎◌, ◌<◌, length, ◌∷◌, ◌++◌, ◌+◌, ◌-◌, ◌^◌, ◌≤◌}
 use Rattle.entries.specs.Entries.{laid}
 use Rattle.entries.specs.Limits.{instant_most}
 use Rattle.rules.specs.Steps.{Stands}
 use Rattle.dispatcher.specs.Dispatcher.{state_of}
-use Rattle.run.specs.Types.{true, false, List, [], ◌∷◌, ◌++◌, ℕ, ◌+◌, ◌-◌, ◌^◌, ◌≤◌, Release, State, Tick}
+use Rattle.run.specs.Types.{true, false, List, [], ℕ, Release, State, Tick}
 use Rattle.dispatcher.specs.declared.Dispatcher.{Dispatcher}
 use Rattle.pieces.specs.declared.Piece.{Piece}
 use Rattle.run.specs.Listed.{releases_at}

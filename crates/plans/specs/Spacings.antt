@@ -1,6 +1,6 @@
 -- The spacing that desks promised (8/13), over the plans' tasks.
 use Rattle.std.specs.Prelude.{List, ◌++◌, [], ◌∷◌, ℕ}
-use Rattle.rules.specs.declared.Call.TheVariants.{Instant, Mark}
+use Rattle.rules.specs.declared.Call.TheVariants.{Instant}
 use Rattle.plans.specs.Rows.{Row, recorded, refused, answered}
 use Rattle.plans.specs.Plans.{task, spacing, release, tasks, none, interval, job, skipped}
 use Rattle.plans.specs.Refusals.{unopened}

@@ -6,7 +6,6 @@ use Rattle.sets.specs.Sets
 use Rattle.entries.specs.Entries
 use Rattle.table.specs.Table
 use Rattle.table.specs.Head
-use Rattle.rules.specs.With
 use Rattle.rules.specs.Order
 use Rattle.rules.specs.Instant
 use Rattle.rules.specs.Calls

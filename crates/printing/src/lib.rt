@@ -15,12 +15,12 @@ pub struct Kept {
 }
 
 // Prints a text, and answers whether that was possible.
-pub fn print_text(name: &[u8], text: Text) -> bool
+pub fn print_text(rt: HostRuntime, name: &[u8], text: Text) -> bool
     ensures { length (shown text) ≡ 0 → result ≡ true }
 {
     let mut out = [0u8; 224];
     let count = lines::put(text, &mut out);
-    streams::write_front(name, &out, count)
+    streams::write_front(rt, name, &out, count)
 }
 
 // How many bytes of a slice there are behind its first `len`.
@@ -31,11 +31,11 @@ fn behind(all: usize, len: usize) -> usize
 }
 
 // Puts a text behind the first `len` bytes of `out`, or, where there may be no room behind them, prints those and puts it at the front.
-pub fn gather(name: &[u8], out: &mut [u8], len: usize, text: Text) -> Kept
+pub fn gather(rt: HostRuntime, name: &[u8], out: &mut [u8], len: usize, text: Text) -> Kept
     ensures { Gathers out.old len text result out.new }
 {
     if behind(out.len(), len) < 224 {
-        let good = streams::write_front(name, out, len);
+        let good = streams::write_front(rt, name, out, len);
         let put = lines::put(text, out);
         return Kept { len: put, good };
     }

@@ -56,12 +56,12 @@ struct Held {
     good: bool,
 }
 
-fn print(text: Text) {
-    printing::print_text(b"reader", text);
+fn print(rt: HostRuntime, text: Text) {
+    printing::print_text(rt, b"reader", text);
 }
 
-fn print_refusal(refusal: Refusal) {
-    print(lines::refused_input_line(refusal));
+fn print_refusal(rt: HostRuntime, refusal: Refusal) {
+    print(rt, lines::refused_input_line(refusal));
 }
 
 // The line of the release entry at a place of a list.
@@ -73,19 +73,19 @@ fn listed_at(list: &[u8], at: usize) -> Text {
 }
 
 // Prints the releases of a list from a place on, as far as they can be printed.
-fn print_list(list: &[u8], from: usize, out: &mut [u8]) {
+fn print_list(rt: HostRuntime, list: &[u8], from: usize, out: &mut [u8]) {
     let mut len = 0;
     let mut at = from;
     while at < list.len() && RELEASE_SIZE <= list.len() - at {
         let line = listed_at(list, at);
-        let kept = printing::gather(b"reader", out, len, line);
+        let kept = printing::gather(rt, b"reader", out, len, line);
         if !kept.good {
             return;
         }
         len = kept.len;
         at += RELEASE_SIZE;
     }
-    streams::write_front(b"reader", out, len);
+    streams::write_front(rt, b"reader", out, len);
 }
 
 // ---- The first time
@@ -117,7 +117,8 @@ fn carry(input: &mut [u8], refusal: Refusal, end: usize) -> usize
 // Reads a piece behind the `kept` bytes that were carried over. Where `place` bytes of the record, more than any list yields, are before
 // it, it is not read again.
 fn next_piece(
-    source: Source,
+    rt: HostRuntime,
+    source: &Source,
     place: usize,
     input: &mut [u8],
     kept: usize,
@@ -129,12 +130,14 @@ fn next_piece(
     ensures count_in_bounds_2 { (result.noted.count ≤ length keys.new) × (result.taken ≤ length input.old) }
     ensures carried_in_bounds { result.carried ≤ length input.old }
 {
-    let got = streams::fill(b"reader", input, kept);
+    let got = streams::fill(rt, b"reader", input, kept);
     if !got.good {
         return failed(noted);
     }
     let end = got.count;
-    if place <= limits::RECORD_MOST && !streams::put_aside(b"reader", source, &input[kept..end]) {
+    if place <= limits::RECORD_MOST
+        && !streams::put_aside(rt, b"reader", source, &input[kept..end])
+    {
         return failed(noted);
     }
     let found = reading::collect(&input[..end], noted, keys);
@@ -163,7 +166,7 @@ fn refusal_of(noted: Noted, size: usize, number: u8) -> Refusal {
 }
 
 // The releases of the record on standard input, or its refusal. An entry that is cut short is refused where the input has ended.
-fn collect(source: Source, input: &mut [u8], keys: &mut [u64]) -> Found
+fn collect(rt: HostRuntime, source: &Source, input: &mut [u8], keys: &mut [u64]) -> Found
     requires { length input.old ≤ 8192 }
     ensures { result.noted.count ≤ length keys.new }
 {
@@ -175,7 +178,7 @@ fn collect(source: Source, input: &mut [u8], keys: &mut [u64]) -> Found
     let mut kept = 0;
     let mut turns = TURNS;
     while turns > 0 {
-        let x = next_piece(source, size, input, kept, keys, noted);
+        let x = next_piece(rt, source, size, input, kept, keys, noted);
         noted = x.noted;
         size += x.taken;
         if x.ended || x.number == 2 {
@@ -204,12 +207,12 @@ fn differs(good: bool) -> Held {
 }
 
 // Whether the next bytes of the record are these.
-fn next_are(source: Source, made: &[u8], input: &mut [u8]) -> Held {
+fn next_are(rt: HostRuntime, source: &Source, made: &[u8], input: &mut [u8]) -> Held {
     let n = made.len();
     if input.len() < n {
         return differs(true);
     }
-    let got = streams::read_again(b"reader", source, &mut input[..n]);
+    let got = streams::read_again(rt, b"reader", source, &mut input[..n]);
     let count = got.count;
     Held {
         same: reading::same(&input[..count], made),
@@ -218,7 +221,14 @@ fn next_are(source: Source, made: &[u8], input: &mut [u8]) -> Held {
 }
 
 // Whether the record, which has `size` bytes, is that of the run.
-fn replays(source: Source, list: &[u8], part: Head, size: usize, input: &mut [u8]) -> Held
+fn replays(
+    rt: HostRuntime,
+    source: &Source,
+    list: &[u8],
+    part: Head,
+    size: usize,
+    input: &mut [u8],
+) -> Held
     requires { part.end ≤ length list.now }
 {
     let mut made = [0u8; PIECE];
@@ -233,7 +243,7 @@ fn replays(source: Source, list: &[u8], part: Head, size: usize, input: &mut [u8
         if rest < n {
             return differs(true);
         }
-        let held = next_are(source, &made[..n], input);
+        let held = next_are(rt, source, &made[..n], input);
         if !held.same {
             return held;
         }
@@ -249,14 +259,14 @@ fn replays(source: Source, list: &[u8], part: Head, size: usize, input: &mut [u8
 }
 
 // Whether an input is accepted, and its run's record is the one that is read again.
-fn yields(source: Source, list: &[u8], size: usize, input: &mut [u8]) -> Held {
-    if !streams::go_back(b"reader", source) {
+fn yields(rt: HostRuntime, source: &Source, list: &[u8], size: usize, input: &mut [u8]) -> Held {
+    if !streams::go_back(rt, b"reader", source) {
         return differs(false);
     }
     let part = run::check_file(list);
     let refusal = part.refusal;
     match refusal {
-        Refusal::NoRefusal => replays(source, list, part, size, input),
+        Refusal::NoRefusal => replays(rt, source, list, part, size, input),
         Refusal::Alone(_) => differs(true),
         Refusal::AtEntry(_, _) => differs(true),
     }
@@ -266,8 +276,9 @@ fn yields(source: Source, list: &[u8], size: usize, input: &mut [u8]) -> Held {
 
 // Prints the list of the releases that the numbers stand for, where its run has the record of `size` bytes; else 18.
 fn print_if_yielded(
+    rt: HostRuntime,
     tasks: &[u8],
-    source: Source,
+    source: &Source,
     size: usize,
     keys: &mut [u64],
     list: &mut [u8],
@@ -275,23 +286,22 @@ fn print_if_yielded(
 ) {
     reading::sort(keys);
     let end = reading::rebuild(tasks, keys, list);
-    let held = yields(source, &list[..end], size, input);
+    let held = yields(rt, source, &list[..end], size, input);
     if held.same {
-        print_list(&list[..end], tasks.len(), input);
+        print_list(rt, &list[..end], tasks.len(), input);
     } else if held.good {
-        print_refusal(Refusal::Alone(18));
+        print_refusal(rt, Refusal::Alone(18));
     }
 }
 
 // Behind task entries that open a dispatcher.
-fn answer(tasks: &[u8], input: &mut [u8], keys: &mut [u64], list: &mut [u8])
+fn answer(rt: HostRuntime, tasks: &[u8], input: &mut [u8], keys: &mut [u64], list: &mut [u8])
     requires { length input.old ≤ 8192 }
 {
-    let source = streams::twice(b"reader");
-    if source.fd < 0 {
+    let Some(source) = streams::twice(rt, b"reader") else {
         return;
-    }
-    let found = collect(source, input, keys);
+    };
+    let found = collect(rt, &source, input, keys);
     if !found.good {
         return;
     }
@@ -299,37 +309,45 @@ fn answer(tasks: &[u8], input: &mut [u8], keys: &mut [u64], list: &mut [u8])
     if let Refusal::NoRefusal = refusal {
         let noted = found.noted;
         let count = noted.count;
-        print_if_yielded(tasks, source, found.size, &mut keys[..count], list, input);
+        print_if_yielded(
+            rt,
+            tasks,
+            &source,
+            found.size,
+            &mut keys[..count],
+            list,
+            input,
+        );
     } else {
-        print_refusal(refusal);
+        print_refusal(rt, refusal);
     }
 }
 
-fn drive(tasks: &mut [u8], input: &mut [u8], keys: &mut [u64], list: &mut [u8])
+fn drive(rt: HostRuntime, tasks: &mut [u8], input: &mut [u8], keys: &mut [u64], list: &mut [u8])
     requires { length input.old ≤ 8192 }
 {
-    let head = streams::read_sized(b"reader", tasks, input);
+    let head = streams::read_sized(rt, b"reader", tasks, input);
     if !head.good {
         return;
     }
     if !head.whole {
-        print(lines::cut_short_line());
+        print(rt, lines::cut_short_line());
         return;
     }
     let kept = head.kept;
     let opening = guarantees::open(&tasks[..kept]);
     let refusal = opening.refusal;
     if let Refusal::NoRefusal = refusal {
-        answer(&tasks[..kept], input, keys, list);
+        answer(rt, &tasks[..kept], input, keys, list);
     } else {
-        print_refusal(refusal);
+        print_refusal(rt, refusal);
     }
 }
 
-fn main() {
+fn main(rt: HostRuntime) {
     let mut tasks = [0u8; limits::HEAD_MOST];
     let mut input = [0u8; INPUT];
     let mut keys = [0u64; limits::RELEASES];
     let mut list = [0u8; LIST];
-    drive(&mut tasks, &mut input, &mut keys, &mut list);
+    drive(rt, &mut tasks, &mut input, &mut keys, &mut list);
 }

@@ -1,4 +1,5 @@
 -- What is read from a record is the only list that yields it. Assumes nothing.
+use Rattle.std.proofs.Common.{◌∷◌}
 use mathlib.Core.Path.{◌≡◌, refl, sym, ap, ap₂, ◌∙◌, subst}
 use mathlib.Core.Bool.{false≢true}
 use mathlib.Core.Logic.{◌⊎◌, inl, inr, ⊎_elim}
@@ -16,7 +17,7 @@ use Rattle.run.specs.Run.{record_bytes, moments_of}
 use Rattle.record.specs.Writing.{Written, Wrote, written, outcome_number}
 use Rattle.record.proofs.Accepted.{Accepted, accepted}
 use Rattle.record.proofs.TasksAlone.{fair}
-use Rattle.reading.specs.Types.{Bool, true, false, List, [], ◌∷◌, ℕ, Release, Refusal, NoRefusal, Alone, AtEntry, Outcome, RefusedInput}
+use Rattle.reading.specs.Types.{Bool, true, false, List, [], ℕ, Release, Refusal, NoRefusal, Alone, AtEntry, Outcome, RefusedInput}
 use Rattle.reading.specs.Attested.{attested, sorted}
 use Rattle.reading.specs.Parts.{AllFit, AllEarly}
 use Rattle.reading.specs.Reading.{list_bytes, input_of, same_bytes, yielded_by, yields, turned_away, listed_if, read_attested, read_opened, reading}

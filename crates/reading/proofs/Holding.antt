@@ -1,15 +1,15 @@
 -- A run held against a record: how far the two agree. Assumes nothing.
 use mathlib.Core.Path.{◌≡◌, refl, sym, ap, ap₂, ◌∙◌, subst}
-use mathlib.Core.Bool.{Bool, true, false, cond, ◌&&◌, true≢false, false≢true}
+use mathlib.Core.Bool.{Bool, true, false, cond, ◌&&◌, true≢false}
 use mathlib.Core.List.{List, [], ◌∷◌, ◌++◌, append-nil, append_assoc}
-use Prim.Native.Nat.{ℕ, zero, suc, ◌+◌, ◌-◌, ◌^◌, ◌≤◌, ◌<◌}
+use Prim.Native.Nat.{ℕ, zero, suc, ◌+◌, ◌-◌, ◌≤◌, ◌<◌}
 use native.Mathlib.Nat.{zero-add, suc-add}
 use native.Mathlib.Numerals.{add-one}
 use native.Mathlib.Omega.{arith}
 use borrow.Author.Tests.{eq-eqb, eqb-true, eqb-false}
 use lib.Dec.{eqb}
-use lib.ListN.{length, take, drop, get_or, length-take, length-drop, take-append-drop}
-use lib.Seq.{length-take-le, take-suc, take_all, take_at, drop_at, take-append-add, take-append-le}
+use lib.ListN.{length, take, drop, get_or, length-take, length-drop}
+use lib.Seq.{length-take-le, take-suc, take_all, take_at, drop_at}
 use Rattle.sets.proofs.Laws.{by-test, left, right}
 use Rattle.rules.specs.Calls.{opened}
 use Rattle.dispatcher.specs.declared.Dispatcher.{Dispatcher}

@@ -1,5 +1,6 @@
 -- The input made of task entries that open a dispatcher and a list of releases: its head is theirs, and what is read behind it is the list.
 -- Assumes nothing.
+use Rattle.std.proofs.Common.{◌∷◌, ◌++◌, ◌+◌}
 use mathlib.Core.Path.{◌≡◌, refl, sym, ap, ap₂, ◌∙◌, subst}
 use mathlib.Core.List.{append_assoc}
 use mathlib.Core.Logic.{inr}
@@ -12,7 +13,7 @@ use lib.Seq.{length-take-le, take-append_seam, get_or-append_seam}
 use Rattle.sets.proofs.Laws.{by-test}
 use Rattle.words.specs.Words.{bytes_of, number_at}
 use Rattle.words.proofs.Laws.{one_byte}
-use Rattle.entries.specs.Entries.{size, entry_at, entry_size, release_bytes}
+use Rattle.entries.specs.Entries.{entry_at, entry_size, release_bytes}
 use Rattle.entries.specs.Limits as limits
 use Rattle.entries.proofs.RoundTrip.{release_there}
 use Rattle.table.specs.Head.{no_table, behind_head, entry_refusal, with_entry, marked_with, head_from, head_of, head_alone}
@@ -29,7 +30,7 @@ use Rattle.record.specs.Types.{Entry, NoneBefore}
 use Rattle.record.proofs.Accepted.{Accepted, accepted}
 use Rattle.record.proofs.Outcomes
 use Rattle.record.proofs.TasksAlone.{unlike}
-use Rattle.reading.specs.Types.{true, false, List, [], ◌∷◌, ◌++◌, ℕ, suc, ◌+◌, Release, NoRefusal, Alone}
+use Rattle.reading.specs.Types.{true, false, List, [], ℕ, suc, Release, NoRefusal}
 use Rattle.reading.specs.Reading.{list_bytes, input_of}
 use Rattle.reading.specs.Parts.{ReadHead, Opened}
 use Rattle.reading.proofs.RunAttested.{tally}

@@ -1,4 +1,5 @@
 -- How many releases of a list, and how many tasks of a set with their times, pass a test. Assumes nothing.
+use Rattle.std.proofs.Common.{◌∷◌, ◌++◌, ◌+◌}
 use mathlib.Core.Path.{◌≡◌, refl, ap, ◌∙◌}
 use mathlib.Core.Bool.{not, ◌&&◌, ◌||◌}
 use Prim.Native.Nat.{◌<◌}
@@ -8,7 +9,7 @@ use borrow.Author.Tests.{eqb-true, eqb-false, ne_eqb}
 use lib.Dec.{eqb}
 use Rattle.sets.specs.Sets.{member, insert, remove, bit, count}
 use Rattle.sets.proofs.Laws.{by-test, none, count_sum, count_none, inserted, removed}
-use Rattle.reading.specs.Types.{Bool, true, false, cond, List, [], ◌∷◌, ◌++◌, ℕ, zero, suc, ◌+◌, Release}
+use Rattle.reading.specs.Types.{Bool, true, false, cond, List, [], ℕ, zero, suc, Release}
 use Rattle.reading.proofs.RunAttested.{tally, skips_attested}
 
 -- ---- how many tasks pass a test

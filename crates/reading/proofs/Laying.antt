@@ -13,7 +13,7 @@ use lib.Seq.{length-take-le, take-suc, take_all, take_at, drop_at, drop-drop}
 use Rattle.words.specs.Words.{bytes_of}
 use Rattle.words.proofs.Laws.{rest_whole}
 use Rattle.entries.specs.Entries.{release_bytes, laid, Put}
-use Rattle.run.proofs.Slices.{put_rest, put_length, laid_none, laid_both, rest_length}
+use Rattle.run.proofs.Slices.{put_rest, put_length, laid_none, laid_both}
 use Rattle.run.specs.Putting.{put_at}
 use Rattle.reading.specs.Types.{Release}
 use Rattle.reading.specs.Reading.{list_bytes, input_of}

@@ -1,6 +1,7 @@
 -- Each release of an input that is accepted leaves exactly one entry, a job done or a release skipped, with its task and its time. Along the run, for
 -- each test of a release: the entries of an instant and what is pending or waits after it are what was pending or waited before it and what is released
 -- at it. Assumes nothing.
+use Rattle.std.proofs.Common.{◌≡◌, ◌&&◌, ◌||◌, ◌∷◌, ◌+◌, ◌<◌}
 use Prim.Native.Nat.{◌^◌}
 use native.Mathlib.Nat.{zero-add}
 use native.Mathlib.Omega.{arith}
@@ -14,8 +15,7 @@ use Rattle.rules.specs.With.{at_clock}
 use Rattle.rules.specs.Order.{highest_of}
 use Rattle.rules.specs.Instant.{completed, after_done, without_done, step_a, close, step_b, too_soon, passing, taken, deferred, skipped, original, stamped, step_c, cancel, step_d, choose, step_e, begin, step_g, fresh_stage, at_a, at_b, taken_at, deferred_at, skipped_at, at_e, at_f, at_g, occurred}
 use Rattle.rules.specs.Calls.{opened, after_call}
-use Rattle.guarantees.specs.Types.{◌≡◌, refl, sym, ap, ◌∙◌, subst, Bool, true, false, cond, not, ◌&&◌, ◌||◌, List, [], ◌∷◌, ℕ, ◌+◌, ◌<◌, Table, Jobs, WaitingReleases, MaybeTask, NoTask, Task, CopyOut, NoCopyOut, CopyingOut, CopiedOut, Interval, Phase, Between, Within, State, Done, Stage, Call, Instant}
-use mathlib.Core.List.{◌++◌}
+use Rattle.guarantees.specs.Types.{refl, sym, ap, ◌∙◌, subst, Bool, true, false, cond, not, List, [], ℕ, Table, Jobs, WaitingReleases, MaybeTask, NoTask, Task, CopyOut, NoCopyOut, CopyingOut, CopiedOut, Interval, Phase, Between, Within, State, Done, Stage, Call}
 use Rattle.guarantees.specs.History.{after_calls}
 use Rattle.guarantees.specs.States.{copyout_known}
 use Rattle.guarantees.proofs.Cases.{held_at, b_cases, d_cases, e_cases, g_cases}

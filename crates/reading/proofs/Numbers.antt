@@ -1,4 +1,5 @@
 -- The entries of a head and of a record are refused by numbers of their own: neither 13 nor 18 is one of theirs. Assumes nothing.
+use Rattle.std.proofs.Common.{◌+◌}
 use mathlib.Core.Path.{◌≡◌, refl, sym, subst}
 use mathlib.Core.Bool.{not, ◌||◌}
 use Rattle.sets.specs.Sets.{member}
@@ -16,7 +17,7 @@ use Rattle.rules.specs.Calls.{opening}
 use Rattle.guarantees.specs.Types.{Table, Head}
 use Rattle.run.specs.Files.{Checked, Rejected, Releases, with_release}
 use Rattle.record.specs.Types.{TaskParameters, Spacing, Entry, Malformed, TaskEntry, ReleaseEntry, SpacingEntry}
-use Rattle.reading.specs.Types.{Bool, true, false, cond, List, [], ℕ, zero, suc, ◌+◌, Release, Refusal, NoRefusal, Alone, AtEntry, RecordEntry, MalformedRecord, JobDone, IntervalEnded, ReleaseSkipped}
+use Rattle.reading.specs.Types.{Bool, true, false, cond, List, [], ℕ, zero, suc, Release, Refusal, NoRefusal, Alone, AtEntry, RecordEntry, MalformedRecord, JobDone, IntervalEnded, ReleaseSkipped}
 use Rattle.reading.specs.Attested.{release_of, attested_by, attested_from, attested}
 
 -- neither 13 nor 18

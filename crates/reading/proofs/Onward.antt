@@ -1,18 +1,18 @@
 -- Pieces of a record one after the other: a whole entry stays what it is where bytes come behind it, and what is attested behind a place is attested of the
 -- bytes from there on. Assumes nothing.
-use mathlib.Core.Path.{◌≡◌, refl, sym, ap, ◌∙◌, subst}
+use mathlib.Core.Path.{◌≡◌, refl, sym, ap, ◌∙◌}
 use mathlib.Core.Bool.{Bool, true, false, ◌&&◌, cond}
 use mathlib.Core.List.{List, [], ◌∷◌, ◌++◌, append-nil, append_assoc}
 use Prim.Native.Nat.{ℕ, zero, suc, ◌+◌, ◌-◌, ◌≤◌, ◌<◌}
 use native.Mathlib.Nat.{add_assoc, add-zero, zero-add, suc_inj}
 use native.Mathlib.Omega.{arith}
-use borrow.Author.Tests.{le-leb, lt-leb, leb-true, leb-false}
+use borrow.Author.Tests.{le-leb, leb-true, leb-false}
 use lib.Dec.{eqb, leb}
 use lib.ListN.{length, take, drop, length-append, take-append-drop, length-drop}
 use lib.Seq.{take-append_seam, length-take-le}
 use Rattle.words.specs.Words.{number_at}
 use Rattle.sets.proofs.Laws.{by-test}
-use Rattle.entries.specs.Entries.{size, job_at, interval_at, release_at, record_entry_at, record_entry_size}
+use Rattle.entries.specs.Entries.{job_at, interval_at, release_at, record_entry_at, record_entry_size}
 use Rattle.entries.proofs.Front.{number_in_front}
 use Rattle.entries.proofs.Places.{entry_behind, entry_within}
 use Rattle.run.specs.Files.{Checked, Rejected, Releases, with_release}
@@ -20,7 +20,7 @@ use Rattle.rules.specs.Calls.{opening}
 use Rattle.reading.specs.Types.{Release, Refusal, NoRefusal, Alone, AtEntry, RecordEntry, MalformedRecord, JobDone, IntervalEnded, ReleaseSkipped}
 use Rattle.reading.specs.Attested.{attested, attested_by, attested_from, release_of}
 use Rattle.reading.specs.Reading.{same_bytes, read_attested, read_opened, reading}
-use Rattle.reading.specs.Pieces.{Front, front_by, front_from, front, Going, at_start, go_on, gone, joined, moved, behind, at_end, TellInPieces, opened_in_pieces, ReadInPieces, SameInPieces}
+use Rattle.reading.specs.Pieces.{Front, front_by, front_from, front, Going, at_start, go_on, gone, joined, behind, at_end, TellInPieces, opened_in_pieces, ReadInPieces, SameInPieces}
 use Rattle.reading.proofs.Noting.{attested_none, attested_one}
 
 -- ---- Bytes that come behind

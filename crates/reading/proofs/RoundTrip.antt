@@ -1,4 +1,5 @@
 -- What was written for an input that is accepted is read back as exactly its release entries. Assumes nothing.
+use Rattle.std.proofs.Common.{◌∷◌, ◌++◌, ◌+◌}
 use mathlib.Core.Path.{◌≡◌, refl, sym, ap, ap₂, ◌∙◌}
 use Prim.Native.Nat.{◌-◌, ◌/◌, ◌%◌, ◌≤◌, ◌<◌}
 use native.Mathlib.Nat.{add-zero}
@@ -22,7 +23,7 @@ use Rattle.record.proofs.Accepted.{Accepted, accepted, with_first}
 use Rattle.record.proofs.Outcomes.{entry_release, at_entry}
 use Rattle.record.proofs.TasksAlone.{opens}
 use Rattle.guarantees.specs.Types.{Opening}
-use Rattle.reading.specs.Types.{List, [], ◌∷◌, ◌++◌, ℕ, zero, suc, ◌+◌, Release, Recorded}
+use Rattle.reading.specs.Types.{List, [], ℕ, zero, suc, Release, Recorded}
 use Rattle.reading.specs.Reading.{list_bytes, input_of, reading}
 use Rattle.reading.specs.Acceptance.{Yields, AllBytes, RoundTrip}
 use Rattle.reading.proofs.Noting.{same_releases}

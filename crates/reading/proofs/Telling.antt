@@ -1,7 +1,8 @@
 -- A run's record, taken apart, tells the releases of the run's moments: the entries one after the other. Assumes nothing.
+use Rattle.std.proofs.Common.{◌∷◌, ◌++◌, ◌+◌}
 use mathlib.Core.Path.{◌≡◌, refl, sym, ap, ap₂, ◌∙◌, subst}
 use mathlib.Core.List.{append_assoc, append-nil}
-use Prim.Native.Nat.{◌-◌, ◌^◌, ◌≤◌, ◌<◌}
+use Prim.Native.Nat.{◌-◌, ◌≤◌, ◌<◌}
 use native.Mathlib.Nat.{add_assoc}
 use native.Mathlib.Omega.{arith}
 use lib.ListN.{length, length-append}
@@ -16,7 +17,7 @@ use Rattle.run.specs.Run.{Moment, record_entries, record_bytes, moments_of}
 use Rattle.record.specs.Types.{Closing, Unclosed, BeforeReleases, AfterReleases}
 use Rattle.record.specs.Fits.{EntriesFit}
 use Rattle.record.proofs.FileFits.{file_fits}
-use Rattle.reading.specs.Types.{Bool, true, false, cond, List, [], ◌∷◌, ◌++◌, ℕ, zero, suc, ◌+◌, Release, Done, NoJob, Job, Occurred, RecordEntry, MalformedRecord, JobDone, IntervalEnded, ReleaseSkipped}
+use Rattle.reading.specs.Types.{Bool, true, false, cond, List, [], ℕ, zero, suc, Release, Done, NoJob, Job, Occurred, RecordEntry, MalformedRecord, JobDone, IntervalEnded, ReleaseSkipped}
 use Rattle.reading.specs.Attested.{release_of, attested_by, attested_from, attested}
 use Rattle.reading.proofs.RunAttested.{done_attested, skips_attested, moment_attested, run_attested}
 use Rattle.reading.proofs.Noting.{in_front, front_more, front_all, attested_none, attested_one}

@@ -1,10 +1,10 @@
 -- The releases that a record tells of: an entry of a job done has its task and its release's time, an entry of a release skipped its task
 -- and its time. An interval tells of none. 4/13, "Support's reader must follow the new records": of a job whose release waited the entry
 -- has the time at which the release came, so that it is attested as it was listed.
-use Rattle.std.specs.Prelude.{leb, length}
+use Rattle.std.specs.Prelude.{leb, length, ◌∷◌, ◌+◌, ◌*◌}
 use Rattle.entries.specs.Entries.{record_entry_at, record_entry_size}
 use Rattle.run.specs.Files.{Checked, Rejected, Releases, with_release}
-use Rattle.reading.specs.Types.{true, false, cond, List, [], ◌∷◌, ℕ, zero, suc, ◌+◌, ◌*◌, Release, AtEntry, JobEntry, RecordEntry, MalformedRecord, JobDone, IntervalEnded, ReleaseSkipped}
+use Rattle.reading.specs.Types.{true, false, cond, List, [], ℕ, zero, suc, Release, AtEntry, JobEntry, RecordEntry, MalformedRecord, JobDone, IntervalEnded, ReleaseSkipped}
 
 abbrev pub release_of : JobEntry → Release
 release_of e = record { task = e.task; time = e.release }

@@ -1,12 +1,12 @@
 -- What the functions within promise: the releases that a record tells, noted as numbers in a lent slice, and the input that they make.
-use Rattle.std.specs.Prelude.{◌≡◌, ◌⊎◌, ◌+◌, ◌*◌, ◌/◌, ◌%◌, ◌^◌, ◌≤◌, ◌<◌, length, take, drop}
+use Rattle.std.specs.Prelude.{◌≡◌, ◌⊎◌, ◌+◌, ◌*◌, ◌/◌, ◌%◌, ◌^◌, ◌≤◌, ◌<◌, length, take, ◌∷◌, ◌++◌}
 use Rattle.entries.specs.Entries.{size}
 use Rattle.entries.specs.Limits as limits
 use Rattle.table.specs.declared.Head.{Head}
 use Rattle.table.specs.Head.{head_of}
 use Rattle.rules.specs.Calls.{opening}
 use Rattle.run.specs.Files.{Releases, refusal_of}
-use Rattle.reading.specs.Types.{Bool, true, false, List, [], ◌∷◌, ◌++◌, ℕ, Release, NoRefusal, RecordEntry, MalformedRecord, JobDone, IntervalEnded, ReleaseSkipped}
+use Rattle.reading.specs.Types.{Bool, true, false, List, [], ℕ, Release, NoRefusal, RecordEntry, MalformedRecord, JobDone, IntervalEnded, ReleaseSkipped}
 use Rattle.reading.specs.declared.collecting.Decoded.{Decoded}
 use Rattle.reading.specs.declared.collecting.Decoded.TheVariants.{Faulty, Whole}
 use Rattle.reading.specs.declared.collecting.Noted.{Noted}

@@ -1,10 +1,10 @@
 -- A record in pieces: what its front tells, and how the bytes behind that go on.
-use Rattle.std.specs.Prelude.{◌≡◌, ◌&&◌, length, drop}
+use Rattle.std.specs.Prelude.{◌≡◌, ◌&&◌, length, drop, ◌∷◌, ◌++◌, ◌+◌}
 use Rattle.entries.specs.Entries.{record_entry_at, record_entry_size}
 use Rattle.rules.specs.Calls.{opening}
 use Rattle.run.specs.Files.{Checked, Rejected, Releases}
 use Rattle.record.specs.Writing.{Written}
-use Rattle.reading.specs.Types.{List, [], ◌∷◌, ◌++◌, ℕ, zero, suc, ◌+◌, Release, Refusal, NoRefusal, Alone, AtEntry, RecordEntry, MalformedRecord, JobDone, IntervalEnded, ReleaseSkipped}
+use Rattle.reading.specs.Types.{List, [], ℕ, zero, suc, Release, Refusal, NoRefusal, Alone, AtEntry, RecordEntry, MalformedRecord, JobDone, IntervalEnded, ReleaseSkipped}
 use Rattle.reading.specs.Attested.{release_of, attested}
 use Rattle.reading.specs.Reading.{same_bytes, turned_away, read_attested, reading}
 

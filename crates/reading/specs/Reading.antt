@@ -1,11 +1,11 @@
 -- "From the task entries and a record, give back the release entries": the outcome, and what the lent slice holds at the end.
-use Rattle.std.specs.Prelude.{eqb}
+use Rattle.std.specs.Prelude.{eqb, ◌∷◌, ◌++◌}
 use Rattle.entries.specs.Entries.{release_bytes}
 use Rattle.rules.specs.Calls.{opening}
 use Rattle.run.specs.Files.{Checked, Rejected, Releases, releases_of}
 use Rattle.run.specs.Run.{record_bytes, moments_of}
 use Rattle.record.specs.Writing.{Written, written}
-use Rattle.reading.specs.Types.{Bool, true, false, cond, List, [], ◌∷◌, ◌++◌, ℕ, Release, Refusal, NoRefusal, Alone, AtEntry, RefusedInput}
+use Rattle.reading.specs.Types.{Bool, true, false, cond, List, [], ℕ, Release, Refusal, NoRefusal, Alone, AtEntry, RefusedInput}
 use Rattle.reading.specs.Attested.{attested, sorted}
 
 -- the release entries of a list

@@ -1,6 +1,6 @@
 -- Demand 3 for files: the claim holds of every input that is accepted.
 use mathlib.Core.Path.{◌≡◌, refl, sym, ap, ◌∙◌, subst}
-use mathlib.Core.List.{List, [], ◌∷◌, ◌++◌, append-nil}
+use mathlib.Core.List.{List, [], ◌∷◌, append-nil}
 use Prim.Native.Nat.{ℕ, ◌+◌}
 use native.Mathlib.Omega.{arith}
 use lib.ListN.{length}
@@ -21,7 +21,7 @@ use Rattle.guarantees.specs.Entries.{all_occurred}
 use Rattle.guarantees.proofs.Invariant.{mass, good_opened}
 use Rattle.record.specs.Types.{Release}
 use Rattle.run.specs.Files.{Releases, releases_of}
-use Rattle.run.specs.Run.{Moment, first_time, released_at, released_after, moments_of}
+use Rattle.run.specs.Run.{first_time, released_at, released_after, moments_of}
 use Rattle.record.specs.FileClaim.{Feeds, answers, occurrences, FedClaim, Demand3Files}
 use Rattle.guarantees.specs.Requests.{fresh}
 use Rattle.record.specs.Requests.{by_commits}

@@ -1,5 +1,6 @@
 -- What occurs at an instant fits its fields: so do the times and tasks that the state holds, from opening on, and each step keeps it. Assumes nothing.
-use Rattle.guarantees.specs.Types.{◌≡◌, refl, subst, Bool, true, false, ⊎_elim, List, [], ◌∷◌, ℕ, zero, suc, ◌^◌, ◌<◌, Table, Jobs, WaitingReleases, MaybeTask, NoTask, Task, Processor, Idle, CopyingIn, Executing, Finished, CopyOut, NoCopyOut, CopyingOut, CopiedOut, CopyIn, Unchosen, NoneChosen, Copying, Loaded, Cancelled, Interval, Next, NoneNext, LoadedNext, PromotedNext, Outgoing, NoneOutgoing, AwaitsCopyOut, Phase, Between, Within, State, Closed, NoInterval, Span, Stage}
+use Rattle.std.proofs.Common.{◌≡◌, ◌∷◌, ◌^◌, ◌<◌, ◌++◌}
+use Rattle.guarantees.specs.Types.{refl, subst, Bool, true, false, ⊎_elim, List, [], ℕ, zero, suc, Table, Jobs, WaitingReleases, MaybeTask, NoTask, Task, Processor, Idle, CopyingIn, Executing, Finished, CopyOut, NoCopyOut, CopyingOut, CopiedOut, CopyIn, Unchosen, NoneChosen, Copying, Loaded, Cancelled, Interval, Next, NoneNext, LoadedNext, PromotedNext, Outgoing, NoneOutgoing, AwaitsCopyOut, Phase, Between, Within, State, Closed, NoInterval, Span, Stage}
 use native.Mathlib.Omega.{arith}
 use lib.Dec.{eqb}
 use lib.ListN.{get_or, replicate}
@@ -13,7 +14,7 @@ use Rattle.rules.specs.Calls.{opened}
 use Rattle.guarantees.proofs.Highest.{Best, best}
 use Rattle.guarantees.proofs.Cases.{held_at, copyin_cases, copyout_cases, processor_cases, d_cases, e_cases, g_cases}
 use Rattle.entries.specs.RoundTrip.{TaskFits, JobFits, IntervalFits, EntryFits}
-use Rattle.record.specs.Types.{cond, ◌++◌, Release, RecordEntry, ReleaseSkipped, Done, NoJob, Job, Closing, Unclosed, BeforeReleases, AfterReleases}
+use Rattle.record.specs.Types.{cond, RecordEntry, ReleaseSkipped, Done, NoJob, Job, Closing, Unclosed, BeforeReleases, AfterReleases}
 use Rattle.record.specs.Fits.{EntriesFit}
 
 -- ---- What fits

@@ -12,10 +12,9 @@ use Rattle.sets.proofs.Laws.{by-test}
 use Rattle.words.specs.Words.{number_at}
 use Rattle.entries.specs.Entries.{size, laid, entry_at, release_at}
 use Rattle.entries.specs.Limits as limits
-use Rattle.table.specs.Head.{behind_head, task_refusal, with_task, with_marked, head_from, head_of}
+use Rattle.table.specs.Head.{head_of}
 use Rattle.table.proofs.Laws.{head_within}
-use Rattle.table.specs.declared.Table.{Table}
-use Rattle.record.specs.Types.{TaskParameters, Release, Entry, Malformed, TaskEntry, ReleaseEntry, SpacingEntry, Last, NoneBefore, Before, Head, Refusal, NoRefusal, Alone, AtEntry, Outcome, RefusedInput, TooShort, Recorded}
+use Rattle.record.specs.Types.{Release, Entry, Malformed, TaskEntry, ReleaseEntry, SpacingEntry, Last, NoneBefore, Before, Head, Refusal, NoRefusal, Alone, AtEntry, Outcome, RefusedInput, TooShort, Recorded}
 use Rattle.run.specs.Files.{Checked, Rejected, Releases, refusal_of, with_release, release_refusal, releases_from, releases_behind, releases_of, head_unless, file_head}
 use Rattle.run.specs.Listed.{releases_at}
 use Rattle.run.specs.Run.{moments_of, record_bytes}

@@ -1,18 +1,15 @@
 -- 9/13: what requests answer is what the calls answer that they come to, and a session made of commits comes to the calls that it was
 -- made of. Assumes nothing.
-use mathlib.Core.Path.{◌≡◌, refl, sym, ap, ◌∙◌}
-use mathlib.Core.Bool.{Bool, true, false, cond}
-use mathlib.Core.List.{List, [], ◌∷◌, ◌++◌}
-use Prim.Native.Nat.{ℕ}
+use mathlib.Core.Path.{◌≡◌, refl, ap}
+use mathlib.Core.Bool.{true}
+use mathlib.Core.List.{List, [], ◌∷◌}
 use borrow.Author.Tests.{eq-eqb}
 use lib.Dec.{eqb}
 use Rattle.sets.proofs.Laws.{by-test}
-use Rattle.rules.specs.Calls.{after_call}
 use Rattle.rules.specs.Tickets.{Ticketed, after_ticketed, TicketedStep, commit}
-use Rattle.guarantees.specs.Types.{State, Call, Instant, Mark, Marks}
-use Rattle.guarantees.specs.Requests.{Request, Calls, Enquires, Commits, after_request, calls_made}
+use Rattle.guarantees.specs.Types.{Call, Instant, Mark, Marks}
+use Rattle.guarantees.specs.Requests.{Request, Calls, Enquires, Commits, calls_made}
 use Rattle.guarantees.proofs.Requests.{commit_is, commit_stays}
-use Rattle.run.specs.Run.{Moment, moment}
 use Rattle.record.specs.FileClaim.{answers}
 use Rattle.record.specs.Requests.{answers_to, by_commits}
 

@@ -10,8 +10,8 @@ use lib.ListN.{length, take, drop, length-append}
 use Rattle.sets.proofs.Laws.{by-test, clash}
 use Rattle.entries.specs.Entries.{laid, each}
 use Rattle.entries.specs.Limits as limits
-use Rattle.rules.specs.Instant.{due, sooner, at_g, occurred}
-use Rattle.rules.specs.Calls.{opened, refusal, instant, served, after_call}
+use Rattle.rules.specs.Instant.{at_g}
+use Rattle.rules.specs.Calls.{opened, refusal, after_call}
 use Rattle.rules.specs.Steps.{Stands}
 use Rattle.rules.specs.declared.Call.{Call}
 use Rattle.rules.specs.declared.Call.TheVariants.{Instant}
@@ -19,7 +19,7 @@ use Rattle.dispatcher.specs.declared.Dispatcher.{Dispatcher}
 use Rattle.dispatcher.specs.Dispatcher.{state_of}
 use Rattle.record.specs.Types.{Release, Head, State, Never, Tick, Piece}
 use Rattle.run.specs.Listed.{releases_at}
-use Rattle.run.specs.Run.{Moment, next_time, record_entries, record_bytes, run, first_time, released_at, released_after}
+use Rattle.run.specs.Run.{Moment, next_time, record_entries, record_bytes, run, released_at, released_after}
 use Rattle.pieces.specs.Pieces.{Leads, Makes}
 use Rattle.run.proofs.Listing.{in_part, behind_part}
 use Rattle.run.proofs.Slices.{laid_none, laid_both}

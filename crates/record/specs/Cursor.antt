@@ -1,12 +1,11 @@
 -- How far a file's run has come, and what is known of the run of a file that was checked.
-use Rattle.std.specs.Prelude.{◌≡◌, length, ◌-◌, ◌*◌, ◌/◌, ◌≤◌}
+use Rattle.std.specs.Prelude.{◌≡◌, length, ◌-◌, ◌*◌, ◌/◌, ◌≤◌, ◌∷◌, ◌+◌}
 use Rattle.entries.specs.Entries.{size, laid}
 use Rattle.entries.specs.Limits as limits
 use Rattle.table.specs.Head.{head_of}
 use Rattle.rules.specs.Calls.{opened, row}
 use Rattle.rules.specs.declared.Call.{Call}
-use Rattle.rules.specs.declared.Call.TheVariants.{Instant, Mark}
-use Rattle.record.specs.Types.{Bool, true, false, List, [], ◌∷◌, ℕ, ◌+◌, Head, NoRefusal, State, Piece}
+use Rattle.record.specs.Types.{Bool, true, false, List, [], ℕ, Head, NoRefusal, State, Piece}
 use Rattle.run.specs.Listed.{releases_at}
 use Rattle.run.specs.Run.{record_bytes, run}
 use Rattle.dispatcher.specs.Dispatcher.{state_of}

@@ -1,14 +1,14 @@
 -- Demand 3 for files: the claim about the run of every file that is accepted. What stands between quotation marks is document 01; beside
 -- each quotation stands what it says of a run.
-use Rattle.std.specs.Prelude.{◌≡◌, ◌<◌, length, take, eqb}
-use Rattle.record.specs.Types.{true, cond, List, [], ◌∷◌, ◌++◌, ℕ, ◌+◌, Release, Head, NoRefusal, State, Done, NoJob, Job, Never, Tick, Occurred, Outcome}
+use Rattle.std.specs.Prelude.{◌≡◌, ◌<◌, length, take, eqb, ◌∷◌, ◌++◌, ◌+◌}
+use Rattle.record.specs.Types.{true, cond, List, [], ℕ, Release, Head, NoRefusal, State, Done, NoJob, Job, Never, Tick, Occurred, Outcome}
 use Rattle.sets.specs.Sets.{bit}
 use Rattle.entries.specs.Limits as limits
 use Rattle.table.specs.Head.{head_of}
 use Rattle.rules.specs.Instant.{due, sooner}
 use Rattle.rules.specs.Calls.{opened, opening, row, serves, after_call}
 use Rattle.rules.specs.declared.Call.{Call}
-use Rattle.rules.specs.declared.Call.TheVariants.{Instant, Mark}
+use Rattle.rules.specs.declared.Call.TheVariants.{Instant}
 use Rattle.guarantees.specs.History.{after_calls, history}
 use Rattle.guarantees.specs.Queries.{total, is_take}
 use Rattle.guarantees.specs.Releases.{Balance}

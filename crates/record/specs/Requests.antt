@@ -1,7 +1,7 @@
 -- 9/13: a session made of requests, commits with their tickets among them, and what it answers. What stands between quotation marks is
 -- document 02.
-use Rattle.record.specs.Types.{cond, List, [], ◌∷◌, ◌++◌, ℕ, State}
-use Rattle.std.specs.Prelude.{eqb}
+use Rattle.record.specs.Types.{cond, List, []}
+use Rattle.std.specs.Prelude.{eqb, ◌∷◌, ◌++◌}
 use Rattle.rules.specs.Calls.{row, serves}
 use Rattle.rules.specs.Tickets.{Ticketed, after_ticketed, commit_refusal}
 use Rattle.rules.specs.declared.Call.{Call}

@@ -1,9 +1,9 @@
 -- The record of a file in a lent slice: its run's entries in the order in which things occur.
-use Rattle.std.specs.Prelude.{◌≡◌, leb, length, drop}
+use Rattle.std.specs.Prelude.{◌≡◌, leb, length, drop, ◌++◌}
 use Rattle.table.specs.Refusals.{refusal_number, refusal_place}
 use Rattle.run.specs.Files.{Checked, Rejected, Releases, releases_of}
 use Rattle.run.specs.Run.{record_bytes, moments_of}
-use Rattle.record.specs.Types.{cond, List, ◌++◌, ℕ, Outcome, RefusedInput, TooShort, Recorded}
+use Rattle.record.specs.Types.{cond, List, ℕ, Outcome, RefusedInput, TooShort, Recorded}
 
 -- ---- The outcome of an input and a lent slice, and what the slice holds at the end
 

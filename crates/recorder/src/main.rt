@@ -4,7 +4,7 @@
 #![tactic(auto)]
 
 ghost use Rattle.std.specs.Prelude.{◌≤◌, length};
-ghost use Rattle.io.specs.Counts.{IsPrefixLen};
+ghost use Rattle.streams.specs.Fronts.{IsPrefixLen};
 ghost use Rattle.entries.specs.Limits.{instant_most};
 ghost use Rattle.run.specs.Cut.{file_most};
 
@@ -15,7 +15,7 @@ use table::{Head, Refusal};
 // Room for the entries of many instants.
 const ENTRIES: usize = 16384;
 
-fn write_run(input: &[u8], head: Head, out: &mut [u8])
+fn write_run(rt: HostRuntime, input: &[u8], head: Head, out: &mut [u8])
     requires end_in_bounds { head.end ≤ length input.now }
     requires instant_most_in_bounds { instant_most ≤ length out.old }
 {
@@ -25,7 +25,7 @@ fn write_run(input: &[u8], head: Head, out: &mut [u8])
     let mut left = limits::BUDGET_MOST;
     while left != 0 {
         let x = pieces::next_piece(&input[at..], d, left, out);
-        if !streams::write_front(b"recorder", out, x.size) {
+        if !streams::write_front(rt, b"recorder", out, x.size) {
             return;
         }
         at += x.read;
@@ -34,44 +34,38 @@ fn write_run(input: &[u8], head: Head, out: &mut [u8])
     }
 }
 
-// Writes a line to standard error, behind who says it.
-fn tell(who: &[u8], line: &[u8]) {
-    io::write_all(libc::STDERR_FILENO, who);
-    io::write_all(libc::STDERR_FILENO, line);
-}
-
 // Says on standard error why nothing is written.
-fn say(refusal: Refusal, out: &mut [u8]) {
+fn say(rt: HostRuntime, refusal: Refusal, out: &mut [u8]) {
     let count = lines::put(lines::refused_input_line(refusal), out);
-    tell(b"recorder: the input is refused: ", &out[..count]);
+    streams::tell(rt, b"recorder: the input is refused: ", &out[..count]);
 }
 
-fn answer(input: &[u8], out: &mut [u8])
+fn answer(rt: HostRuntime, input: &[u8], out: &mut [u8])
     requires { instant_most ≤ length out.old }
 {
     let head = run::check_file(input);
     let refusal = head.refusal;
     match refusal {
-        Refusal::NoRefusal => write_run(input, head, out),
-        Refusal::Alone(_) => say(refusal, out),
-        Refusal::AtEntry(_, _) => say(refusal, out),
+        Refusal::NoRefusal => write_run(rt, input, head, out),
+        Refusal::Alone(_) => say(rt, refusal, out),
+        Refusal::AtEntry(_, _) => say(rt, refusal, out),
     }
 }
 
 // Reads as much of an input as there is room for, which is enough: run/specs/Cut, `ReadFromFront`. What stands behind it is not read.
-fn read(input: &mut [u8]) -> Got
+fn read(rt: HostRuntime, input: &mut [u8]) -> Got
     requires { file_most ≤ length input.old }
     ensures { IsPrefixLen result.count input.new }
 {
-    streams::fill(b"recorder", input, 0)
+    streams::fill(rt, b"recorder", input, 0)
 }
 
-fn main() {
+fn main(rt: HostRuntime) {
     let mut input = [0u8; limits::FILE_MOST];
     let mut out = [0u8; ENTRIES];
-    let got = read(&mut input);
+    let got = read(rt, &mut input);
     if got.good {
         let count = got.count;
-        answer(&input[..count], &mut out);
+        answer(rt, &input[..count], &mut out);
     }
 }

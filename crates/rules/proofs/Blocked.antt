@@ -1,6 +1,6 @@
 -- The tasks that an interval can block, and the jobs that it blocks, over the registers.
-use Rattle.rules.specs.Types.{Bool, true, false, cond, not, ◌&&◌, ◌||◌, List, [], ◌∷◌, ℕ, suc, ◌^◌, ◌<◌, ◌≡◌, refl, sym, ap, ◌∙◌, subst, MaybeTask, NoTask, Task, TasksAbove, Interval, Phase, Between, Within, State, Registers}
-use mathlib.Core.Bool.{true≢false, false≢true}
+use Rattle.std.proofs.Common.{◌&&◌, ◌||◌, ◌∷◌, ◌^◌, ◌<◌, ◌≡◌}
+use Rattle.rules.specs.Types.{Bool, true, false, cond, List, [], ℕ, suc, refl, sym, ap, ◌∙◌, subst, MaybeTask, NoTask, Task, TasksAbove, Interval, Phase, Between, Within, State, Registers}
 use mathlib.Core.Logic.{◌↔◌}
 use borrow.Author.Tests.{ltb-true, lt-ltb, eqb-true}
 use lib.Dec.{eqb, ltb}

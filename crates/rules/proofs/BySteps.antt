@@ -1,9 +1,10 @@
 -- An instant by its steps: where each step leaves what the rules say of the step before it, the last leaves what they say of the instant.
-use Rattle.rules.specs.Types.{ℕ, Phase, Between, Within, State, Closed, NoInterval, Occurred, Stage, ◌≡◌, refl, ap, ◌∙◌}
+use Rattle.std.proofs.Common.{◌≡◌}
+use Rattle.rules.specs.Types.{ℕ, Phase, Between, Within, State, Closed, NoInterval, Occurred, Stage, refl, ap, ◌∙◌}
 use mathlib.Core.Path.{ap₂}
 use Rattle.sets.specs.Sets.{union}
 use Rattle.sets.proofs.Laws.{by-test}
-use Rattle.rules.specs.Instant.{over, close_stage, step_a, step_b, too_soon, passing, taken, deferred, skipped, held_over, step_e, steps_c_d, steps_c_to_e, steps_c_to_f, step_g, due, at_b, taken_at, deferred_at, skipped_at, at_e, at_f, at_g, closing, occurred}
+use Rattle.rules.specs.Instant.{over, close_stage, step_a, step_b, too_soon, passing, taken, deferred, skipped, held_over, steps_c_to_f, step_g, due, at_b, taken_at, deferred_at, skipped_at, at_e, at_f, at_g, closing, occurred}
 
 -- before step b no interval has ended
 pub none_closed : (d : State) (t : ℕ) (x : Phase) → (step_a d t x).closed ≡ NoInterval

@@ -1,5 +1,6 @@
 -- A loop from member to member of a set that stores into an array at each: `take` and `defer`.
-use Rattle.rules.specs.Types.{cond, List, [], ◌∷◌, ℕ, zero, suc, ◌+◌, ◌^◌, ◌<◌, ◌≡◌, refl, sym, ap, ◌∙◌}
+use Rattle.std.proofs.Common.{◌∷◌, ◌+◌, ◌^◌, ◌<◌, ◌≡◌}
+use Rattle.rules.specs.Types.{cond, List, [], ℕ, zero, suc, refl, sym, ap, ◌∙◌}
 use native.Mathlib.Omega.{arith}
 use native.Mathlib.Nat.{le_of_suc-le-suc, not-suc-le-zero}
 use borrow.Author.Tests.{eqb-true, eqb-false}

@@ -1,5 +1,6 @@
 -- An interval that is at its end is open, over the numbers. Assumes nothing.
-use Rattle.rules.specs.Types.{true, false, Phase, Within, Registers, ◌≡◌, subst}
+use Rattle.std.proofs.Common.{◌≡◌}
+use Rattle.rules.specs.Types.{true, Phase, Within, Registers, subst}
 use mathlib.Core.Bool.{false≢true}
 use lib.Dec.{eqb}
 use Rattle.sets.proofs.Laws.{by-test}

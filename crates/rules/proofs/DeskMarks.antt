@@ -1,12 +1,13 @@
 -- 10/13: what is said of marks for a set of tasks. Assumes nothing.
-use Rattle.rules.specs.Types.{◌≡◌, refl, sym, ap, ◌∙◌, subst, Bool, true, false, cond, not, ◌&&◌, ◌||◌, List, [], ◌∷◌, ℕ, State}
+use Rattle.std.proofs.Common.{◌≡◌, ◌&&◌, ◌||◌, ◌∷◌}
+use Rattle.rules.specs.Types.{refl, sym, ap, ◌∙◌, subst, Bool, true, false, cond, not, List, [], ℕ, State}
 use mathlib.Core.Bool.{true≢false, false≢true}
-use Prim.Native.Nat.{◌≤◌, ◌<◌, ◌^◌}
+use Prim.Native.Nat.{◌<◌, ◌^◌}
 use native.Mathlib.Omega.{arith}
 use borrow.Author.Tests.{eqb-true, eqb-false, lt-ltb, le-ltb, ltb-true, ltb-false}
 use lib.Dec.{eqb, ltb}
 use Rattle.sets.specs.Sets.{member, union, intersection, difference, insert, lowest}
-use Rattle.sets.proofs.Laws.{by-test, clash, none, ext, united, intersection_member, difference_member, inserted, difference_in, intersection_in, difference_left, difference_right, intersection_left, intersection_right, insert_same, insert_out, union_small, difference_small, intersection_small, insert_small, same_task, member_task, lowest_task, lowest_member, empty, either_left, one_of, union_left, union_right}
+use Rattle.sets.proofs.Laws.{by-test, clash, none, ext, united, difference_member, inserted, difference_in, intersection_in, difference_left, difference_right, intersection_left, intersection_right, insert_same, union_small, difference_small, intersection_small, same_task, member_task, lowest_task, lowest_member, either_left}
 use Rattle.rules.specs.Calls.{unknown, mark_refusal, mark, remarked, with_marks, with_mark, marks_refusal}
 use Rattle.rules.specs.DeskMarks.{AnyUnknown, AnyBusy, stands_in, Orders, single_marks, DeskMarks}
 

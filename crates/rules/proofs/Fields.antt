@@ -1,5 +1,6 @@
 -- The registers with some of them others, read back.
-use Rattle.rules.specs.Types.{Bool, true, false, cond, List, ℕ, WaitingReleases, ◌-◌, ◌≡◌, refl, ◌∙◌, MaybeTask, Processor, CopyOut, CopyIn, Cancelled, Within, Registers}
+use Rattle.std.proofs.Common.{◌-◌, ◌≡◌}
+use Rattle.rules.specs.Types.{Bool, true, false, cond, ℕ, WaitingReleases, refl, ◌∙◌, MaybeTask, Processor, CopyOut, CopyIn, Cancelled, Within, Registers}
 use borrow.Author.Tests.{eq-eqb, ne_eqb}
 use lib.Dec.{eqb}
 use Rattle.sets.specs.Sets.{union, intersection, difference, insert}

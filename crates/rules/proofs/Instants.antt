@@ -1,18 +1,18 @@
 -- An instant over lent arrays, step behind step: what each of them leaves, read back, is what the rules say of the instant. Assumes nothing.
+use Rattle.std.proofs.Common.{◌≡◌}
 use mathlib.Core.Path.{ap₂}
-use Rattle.rules.specs.Types.{Bool, true, false, List, ℕ, ◌≡◌, refl, sym, ap, ◌∙◌, subst, Interval, Phase, Between, Within, State, Stage, Done, NoJob, Closed, NoInterval, Span, IntervalEntry, Occurred}
+use Rattle.rules.specs.Types.{Bool, true, false, List, ℕ, refl, sym, ap, ◌∙◌, subst, Interval, Phase, Between, Within, State, Stage, NoJob, Closed, NoInterval, Span, IntervalEntry, Occurred}
 use mathlib.Core.Bool.{false≢true, true≢false}
-use lib.Dec.{eqb}
 use lib.ListN.{get_or}
 use Rattle.sets.proofs.Laws.{by-test}
 use Rattle.rules.specs.With.{at_clock}
 use Rattle.sets.specs.Sets.{union, difference}
-use Rattle.rules.specs.Instant.{fresh_stage, without_done, over, resting, is_over, promoted, blocks, counted, closed_with, close, entry_with, interval_entry, close_stage, with_candidates, previous_release, too_soon, passing, taken, deferred, skipped, released, held_over, step_a, step_b, step_c, step_d, step_e, step_f, step_g, steps_c_d, steps_c_to_e, steps_c_to_f, due, closing, at_a, at_b, at_g, occurred}
+use Rattle.rules.specs.Instant.{fresh_stage, without_done, over, resting, is_over, promoted, blocks, counted, closed_with, close, entry_with, interval_entry, close_stage, with_candidates, previous_release, too_soon, passing, taken, deferred, skipped, held_over, step_a, step_b, step_c, step_d, step_e, step_f, step_g, steps_c_d, steps_c_to_e, steps_c_to_f, due, closing, at_a, at_b, at_g, occurred}
 use Rattle.rules.specs.Registers.{as_task, processor_in, copyin_in, interval_in, phase_in, state_in}
-use Rattle.rules.specs.Kept.{Kept, kept, Whole, Beside, beside, by_task, registers_in, read, Becomes}
-use Rattle.rules.specs.Steps.{OverAt, PromotedAt, CountsAt, EntryAt, ClosedAt, HeldOverAt, TestedAt, with_counts}
+use Rattle.rules.specs.Kept.{Kept, Whole, Beside, registers_in, read}
+use Rattle.rules.specs.Steps.{OverAt, PromotedAt, CountsAt, EntryAt, ClosedAt, TestedAt, with_counts}
 use Rattle.rules.proofs.BySteps.{none_closed, keeps_done, Steps, is_g, is_occurred}
-use Rattle.rules.proofs.ClosingTest.{open_in, over_in}
+use Rattle.rules.proofs.ClosingTest.{open_in}
 use Rattle.rules.proofs.Fields.{works}
 
 -- ---- the test of an interval's end, at steps b and f

@@ -1,8 +1,9 @@
 -- The registers where they are kept: a law about arrays of known lengths is one about their numbers.
-use Rattle.rules.specs.Types.{Bool, true, false, not, cond, List, [], ◌∷◌, ℕ, zero, suc, ◌-◌, ◌<◌, ◌≤◌, ◌≡◌, refl, sym, ap, ◌∙◌, subst, ◌⊎◌, inl, inr, ⊎_elim, State, Registers, Jobs, NoJob, Job}
+use Rattle.std.proofs.Common.{◌∷◌, ◌-◌, ◌<◌, ◌≤◌, ◌≡◌, ◌⊎◌}
+use Rattle.rules.specs.Types.{Bool, true, false, not, cond, List, [], ℕ, zero, suc, refl, sym, ap, ◌∙◌, subst, inl, inr, ⊎_elim, State, Registers, Jobs, NoJob, Job}
 use native.Mathlib.Omega.{arith}
 use mathlib.Core.Bool.{true≢false}
-use borrow.Author.Tests.{eqb-true, eqb-false, eq-eqb, ne_eqb, lt-ltb, le-ltb}
+use borrow.Author.Tests.{eqb-true, eqb-false, ne_eqb, lt-ltb, le-ltb}
 use lib.Dec.{eqb}
 use lib.ListN.{length, get_or, set}
 use lib.Seq.{set-get_or}

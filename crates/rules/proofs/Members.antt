@@ -1,5 +1,6 @@
 -- Loops that go from member to member of a set, by `lowest` and `rest`: what is left of the set, and what one turn changes.
-use Rattle.rules.specs.Types.{Bool, true, false, not, ◌&&◌, ◌||◌, ℕ, ◌-◌, ◌^◌, ◌≤◌, ◌<◌, ◌≡◌, refl, sym, ◌∙◌}
+use Rattle.std.proofs.Common.{◌&&◌, ◌||◌, ◌-◌, ◌^◌, ◌≤◌, ◌<◌, ◌≡◌}
+use Rattle.rules.specs.Types.{Bool, true, false, not, ℕ, refl, sym, ◌∙◌}
 use native.Mathlib.Omega.{arith}
 use native.Mathlib.Nat.{lt_of_lt_of_le}
 use borrow.Author.Tests.{ltb-true, ltb-false, eqb-true, eq-eqb, ne_eqb}

@@ -1,8 +1,9 @@
 -- The number of a call's answer is that of its refusal, 0 where there is none. Assumes nothing.
+use Rattle.std.proofs.Common.{◌≡◌}
 use borrow.Author.Tests.{eqb-true}
 use lib.Dec.{eqb}
 use Rattle.sets.proofs.Laws.{by-test}
-use Rattle.rules.specs.Types.{◌≡◌, sym, ℕ, State, Instant, Mark, Marks}
+use Rattle.rules.specs.Types.{sym, ℕ, State, Instant, Mark, Marks}
 use Rattle.rules.specs.Calls.{refusal, served, instant, mark_refusal, mark, marks_refusal, marks, after_call}
 use Rattle.rules.specs.Answers.{answer_number, mark_number}
 

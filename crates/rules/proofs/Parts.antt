@@ -1,5 +1,6 @@
 -- What stands in numbers, by its kind, where the code tests fewer kinds than there are.
-use Rattle.rules.specs.Types.{List, true, false, not, ℕ, ◌-◌, ◌≤◌, ◌<◌, ◌≡◌, ap, ◌∙◌, Table, Jobs, Registers, Done, CopyingIn, Executing, Finished, CopyingOut, Outgoing, Task, NoTask, NoneNext, NoneOutgoing, NoJob, Job}
+use Rattle.std.proofs.Common.{◌-◌, ◌≤◌, ◌<◌, ◌≡◌}
+use Rattle.rules.specs.Types.{List, true, false, not, ℕ, ap, ◌∙◌, Table, Jobs, Registers, Done, CopyingIn, Executing, Finished, CopyingOut, Outgoing, Task, NoTask, NoneNext, NoJob, Job}
 use native.Mathlib.Omega.{arith}
 use borrow.Author.Tests.{eqb-true, eqb-false, eq-eqb, ne_eqb}
 use lib.Dec.{eqb}
@@ -8,7 +9,7 @@ use Rattle.table.specs.Table.{copyin_length, execution_length, copyout_length}
 use Rattle.sets.specs.Sets.{insert}
 use Rattle.sets.proofs.Laws.{by-test}
 use Rattle.rules.specs.With.{later}
-use Rattle.rules.specs.Instant.{processor_at, copyout_at, copyin_at, completed, step_a, resting, copying_out, settled, awaiting_execution, processor_task, copyout_task, copyin_task, copyin_fate, awaiting_copyout, next_of, wanted, begin_processor, begin_copyout}
+use Rattle.rules.specs.Instant.{processor_at, copyout_at, copyin_at, completed, step_a, resting, copying_out, settled, awaiting_execution, processor_task, copyout_task, copyin_task, copyin_fate, next_of, wanted, begin_processor, begin_copyout}
 use Rattle.rules.specs.Registers.{as_processor, as_copyout, as_copyin, as_next, as_outgoing, copyout_in, phase_in, interval_in, Memory, state_in}
 
 -- ---- a

@@ -1,5 +1,6 @@
 -- Steps c and d: what gives way to the releases that are taken, and that without releases nothing changes.
-use Rattle.rules.specs.Types.{Bool, true, false, cond, not, ◌&&◌, ◌||◌, List, ℕ, zero, suc, ◌^◌, ◌<◌, ◌≡◌, refl, sym, ap, ◌∙◌, MaybeTask, NoTask, CopyIn, Unchosen, NoneChosen, Copying, Loaded, Cancelled, Interval, Phase, Between, Within, State, Registers}
+use Rattle.std.proofs.Common.{◌&&◌, ◌||◌, ◌^◌, ◌<◌, ◌≡◌}
+use Rattle.rules.specs.Types.{Bool, true, false, cond, not, List, ℕ, zero, suc, refl, sym, ap, ◌∙◌, MaybeTask, NoTask, CopyIn, Unchosen, NoneChosen, Copying, Loaded, Cancelled, Interval, Phase, Between, Within, State, Registers}
 use mathlib.Core.Path.{ap₂}
 use mathlib.Core.Bool.{true≢false}
 use borrow.Author.Tests.{eqb-true}
@@ -8,10 +9,10 @@ use Rattle.sets.specs.Sets.{member, union, difference, intersection}
 use Rattle.sets.proofs.Laws.{none, empty, by-test, clash, ext, united, difference_member, union_small, union_none, intersection_none, difference_small, difference_left, difference_in}
 use lib.ListN.{get_or}
 use Rattle.rules.specs.Order.{highest_below, highest, highest_of, outranks}
-use Rattle.rules.specs.Instant.{original, stamped, step_c, cancel, cancel_by, step_d, steps_c_d}
+use Rattle.rules.specs.Instant.{original, step_c, cancel, cancel_by, step_d, steps_c_d}
 use Rattle.rules.specs.Registers.{is_held, interval_in, phase_in, arrays, waits, Memory, state_in}
 use Rattle.rules.proofs.ByTask.{stamped_none}
-use Rattle.rules.proofs.Fields.{with_kept, taken_memory, taken_with}
+use Rattle.rules.proofs.Fields.{with_kept, taken_with}
 
 -- where the engine holds no job nothing changes
 pub stays : (d : State) (taken : ℕ) (r : Registers) → is_held r.copyin ≡ false → d ≡ step_d d taken (phase_in r)

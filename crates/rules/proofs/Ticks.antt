@@ -1,5 +1,6 @@
 -- What is never due; and a due time as a plain number, where the last tick stands for none: the smaller of two stands for the sooner.
-use Rattle.rules.specs.Types.{Bool, true, false, cond, ◌≡◌, refl, sym, ap, ◌∙◌, subst, ◌⊎◌, inl, inr, ⊎_elim, ℕ, ◌-◌, ◌^◌, ◌≤◌, min, Idle, Finished, NoCopyOut, CopiedOut, Unchosen, NoneChosen, Loaded, Cancelled, Due, Never, Tick, Registers}
+use Rattle.std.proofs.Common.{◌≡◌, ◌⊎◌, ◌-◌, ◌^◌, ◌≤◌}
+use Rattle.rules.specs.Types.{Bool, true, false, cond, refl, sym, ap, ◌∙◌, subst, inl, inr, ⊎_elim, ℕ, min, Idle, Finished, NoCopyOut, CopiedOut, Unchosen, NoneChosen, Loaded, Cancelled, Due, Never, Tick, Registers}
 use native.Mathlib.Omega.{arith}
 use mathlib.Core.Bool.{true≢false}
 use borrow.Author.Tests.{eqb-true, eq-eqb, ne_eqb}

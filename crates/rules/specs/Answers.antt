@@ -1,5 +1,6 @@
 -- Document 01's number and values for each case of an answer. A call that is served has number 0; a refused one returns its number alone.
-use Rattle.rules.specs.Types.{List, [], ◌∷◌, ℕ, Due, Never, Tick, Done, NoJob, Job, Closing, Unclosed, BeforeReleases, AfterReleases, IntervalEntry, Answer, Refused, Served, MarkAnswer, MarkRefused, MarkServed}
+use Rattle.std.specs.Prelude.{◌∷◌}
+use Rattle.rules.specs.Types.{List, [], ℕ, Due, Never, Tick, Done, NoJob, Job, Closing, Unclosed, BeforeReleases, AfterReleases, IntervalEntry, Answer, Refused, Served, MarkAnswer, MarkRefused, MarkServed}
 use Rattle.entries.specs.Entries.{choice_bytes}
 
 -- ---- An instant: 16, 10, 14 and 15

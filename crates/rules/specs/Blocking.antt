@@ -1,6 +1,7 @@
 -- 3/13: "the set of tasks the interval can block: exactly the table's tasks with higher priority than the one executed, and none if the
 -- processor idled." It is gathered before the jobs are walked; what they count does not change (`blocks`, `counted` of Instant).
-use Rattle.rules.specs.Types.{◌≡◌, true, cond, ℕ, ◌<◌, MaybeTask, NoTask, Task, Interval, Phase, Between, Within, State}
+use Rattle.std.specs.Prelude.{◌≡◌, ◌<◌}
+use Rattle.rules.specs.Types.{true, cond, ℕ, MaybeTask, NoTask, Task, Interval, Phase, Between, Within, State}
 use Rattle.sets.specs.Sets.{member}
 use Rattle.rules.specs.Order.{priority, higher}
 use Rattle.rules.specs.Instant.{over, processor_task}

@@ -1,7 +1,7 @@
 -- The dispatcher by instants, over its state: opening from the head, an instant and a mark call, each with its refusals in their
 -- order. A refused call hands the state back as it was.
-use Rattle.rules.specs.Types.{Bool, true, false, cond, not, ◌&&◌, List, ℕ, Table, Clock, Unset, At, NoneNext, NoneOutgoing, Between, State, Call, Instant, Mark, Marks, Due, Never, Tick, Answer, Refused, Served, MarkAnswer, MarkRefused, MarkServed, Refusal, Head}
-use Rattle.std.specs.Prelude.{ltb, leb, eqb, replicate}
+use Rattle.rules.specs.Types.{Bool, true, false, cond, not, List, ℕ, Table, Clock, Unset, At, NoneNext, NoneOutgoing, Between, State, Call, Instant, Mark, Marks, Due, Never, Tick, Answer, Refused, Served, MarkAnswer, MarkRefused, MarkServed, Refusal, Head}
+use Rattle.std.specs.Prelude.{ltb, leb, eqb, replicate, ◌&&◌}
 use Rattle.sets.specs.Sets.{member, union, intersection, difference, insert}
 use Rattle.entries.specs.Limits as limits
 use Rattle.table.specs.Head.{head_alone}

@@ -1,7 +1,7 @@
 -- 10/13, "Marks for a whole desk", said for itself: why such a call is refused, that it does what single changes do in any order, and that
 -- a single change is this call with one task. What stands between quotation marks is document 02.
-use Rattle.rules.specs.Types.{◌≡◌, Bool, true, false, ◌||◌, List, [], ◌∷◌, ℕ, State}
-use Rattle.std.specs.Prelude.{◌≤◌, ◌<◌, ◌^◌, eqb}
+use Rattle.rules.specs.Types.{Bool, true, false, List, [], ℕ, State}
+use Rattle.std.specs.Prelude.{◌≤◌, ◌<◌, ◌^◌, eqb, ◌≡◌, ◌||◌, ◌∷◌}
 use Rattle.sets.specs.Sets.{member, insert}
 use Rattle.rules.specs.Calls.{mark, mark_refusal, marks_refusal, with_marks}
 

@@ -1,6 +1,6 @@
 -- What happens at one instant, steps a to g, in this order. Where it applies a definition names its rule of R1 to R6.
-use Rattle.rules.specs.Types.{Bool, true, false, cond, not, ◌&&◌, List, [], ◌∷◌, ℕ, suc, ◌+◌, ◌-◌, min, Table, Jobs, WaitingReleases, MaybeTask, NoTask, Task, Processor, Idle, CopyingIn, Executing, Finished, CopyOut, NoCopyOut, CopyingOut, CopiedOut, CopyIn, Unchosen, NoneChosen, Copying, Loaded, Cancelled, Interval, Next, NoneNext, LoadedNext, PromotedNext, Outgoing, NoneOutgoing, AwaitsCopyOut, Phase, Between, Within, State, JobEntry, IntervalEntry, Done, NoJob, Job, Closed, NoInterval, Span, Closing, Unclosed, BeforeReleases, AfterReleases, Due, Never, Tick, Occurred, Stage, ReleaseFates}
-use Rattle.std.specs.Prelude.{eqb, ltb, get_or}
+use Rattle.rules.specs.Types.{Bool, true, false, cond, not, List, [], ℕ, suc, min, Table, Jobs, WaitingReleases, MaybeTask, NoTask, Task, Processor, Idle, CopyingIn, Executing, Finished, CopyOut, NoCopyOut, CopyingOut, CopiedOut, CopyIn, Unchosen, NoneChosen, Copying, Loaded, Cancelled, Interval, Next, NoneNext, LoadedNext, PromotedNext, Outgoing, NoneOutgoing, AwaitsCopyOut, Phase, Between, Within, State, JobEntry, IntervalEntry, Done, NoJob, Job, Closed, NoInterval, Span, Closing, Unclosed, BeforeReleases, AfterReleases, Due, Never, Tick, Occurred, Stage, ReleaseFates}
+use Rattle.std.specs.Prelude.{eqb, ltb, get_or, ◌&&◌, ◌∷◌, ◌+◌, ◌-◌}
 use Rattle.table.specs.Table.{copyin_length, execution_length, copyout_length, spacing}
 use Rattle.sets.specs.Sets.{member, collect, union, intersection, difference, insert, remove}
 use Rattle.rules.specs.With.{with_jobs, with_phase, with_ready, with_blocked, with_copyin, at_clock, later}

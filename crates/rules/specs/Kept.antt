@@ -1,7 +1,7 @@
 -- The dispatcher where it is kept: arrays that are lent and changed where they are. Read back they are the state that the rules speak of.
 -- Any numbers whatever are read as some state, so that memory that no call made gets an answer too.
-use Rattle.rules.specs.Types.{Bool, false, List, ℕ, cond, ◌≡◌, Clock, Unset, At, State, Registers}
-use Rattle.std.specs.Prelude.{eqb, length, get_or}
+use Rattle.rules.specs.Types.{Bool, false, List, ℕ, cond, Clock, Unset, At, State, Registers}
+use Rattle.std.specs.Prelude.{eqb, length, get_or, ◌≡◌}
 use Rattle.rules.specs.Registers.{arrays, waits, Memory, state_in}
 
 -- ---- What is lent

@@ -1,8 +1,8 @@
 -- The order in which jobs go: by priority, where the smaller number is the higher priority; then by the original release time; then by
 -- the task number. The choice (R2) and the promotion (R4) go by it. Where one job gives way to another (R3), or is blocked by it, their
 -- priorities alone are compared: "Only a strictly lower priority is cancelled, thrown out or counted as blocking" (6/13).
-use Rattle.rules.specs.Types.{Bool, false, cond, ◌&&◌, List, ℕ, zero, suc, MaybeTask, NoTask, Task, State}
-use Rattle.std.specs.Prelude.{ltb, eqb, get_or}
+use Rattle.rules.specs.Types.{Bool, false, cond, List, ℕ, zero, suc, MaybeTask, NoTask, Task, State}
+use Rattle.std.specs.Prelude.{ltb, eqb, get_or, ◌&&◌}
 use Rattle.sets.specs.Sets.{member, collect}
 use Rattle.entries.specs.Limits as limits
 

@@ -1,6 +1,6 @@
 -- The numbers of a dispatcher by name (specs/Named), and what stands beside them, read back as the state that the rules speak of.
-use Rattle.rules.specs.Types.{Bool, cond, ◌||◌, List, ℕ, ◌-◌, Table, Clock, MaybeTask, NoTask, Task, Processor, Idle, CopyingIn, Executing, Finished, CopyOut, NoCopyOut, CopyingOut, CopiedOut, CopyIn, Unchosen, NoneChosen, Copying, Loaded, Cancelled, Interval, Next, NoneNext, LoadedNext, PromotedNext, Outgoing, NoneOutgoing, AwaitsCopyOut, Phase, Between, Within, State, WaitingReleases, Registers}
-use Rattle.std.specs.Prelude.{eqb, ltb}
+use Rattle.rules.specs.Types.{Bool, cond, List, ℕ, Table, Clock, MaybeTask, NoTask, Task, Processor, Idle, CopyingIn, Executing, Finished, CopyOut, NoCopyOut, CopyingOut, CopiedOut, CopyIn, Unchosen, NoneChosen, Copying, Loaded, Cancelled, Interval, Next, NoneNext, LoadedNext, PromotedNext, Outgoing, NoneOutgoing, AwaitsCopyOut, Phase, Between, Within, State, WaitingReleases, Registers}
+use Rattle.std.specs.Prelude.{eqb, ltb, ◌||◌, ◌-◌}
 use Rattle.entries.specs.Limits as limits
 
 -- what is no task number stands for no task

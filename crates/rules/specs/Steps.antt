@@ -1,7 +1,7 @@
 -- What each step over lent arrays promises: the rules' step of the state that was read before, whatever stands in the arrays that it is
 -- not lent.
-use Rattle.rules.specs.Types.{Bool, true, false, cond, ◌&&◌, List, ℕ, ◌-◌, ◌^◌, ◌<◌, ◌≤◌, ◌≡◌, ◌⊎◌, MaybeTask, Table, TasksAbove, Cancelled, Interval, Within, Next, Outgoing, State, Stage, Closed, Job, Due, Never, Tick, JobEntry, IntervalEntry}
-use Rattle.std.specs.Prelude.{◌↔◌, eqb, ltb, get_or, set}
+use Rattle.rules.specs.Types.{Bool, true, false, cond, List, ℕ, MaybeTask, Table, TasksAbove, Cancelled, Interval, Within, Next, Outgoing, State, Stage, Closed, Job, Due, Never, Tick, JobEntry, IntervalEntry}
+use Rattle.std.specs.Prelude.{◌↔◌, eqb, ltb, get_or, set, ◌&&◌, ◌-◌, ◌^◌, ◌<◌, ◌≤◌, ◌≡◌, ◌⊎◌}
 use Rattle.sets.specs.Sets.{member, collect}
 use Rattle.table.specs.Table.{spacing}
 use Rattle.rules.specs.With.{at_clock}

@@ -1,6 +1,6 @@
 -- What goes on now, read off the state: what the processor and the engine do, with whom and until when. The waveform shows the first
 -- four, and a driver commands its hardware by all of it.
-use Rattle.rules.specs.Types.{cond, ℕ, MaybeTask, NoTask, Task, Processor, Idle, CopyingIn, Executing, Finished, CopyOut, NoCopyOut, CopyingOut, CopiedOut, CopyIn, Unchosen, NoneChosen, Copying, Loaded, Cancelled, Interval, Phase, Between, Within, State, View}
+use Rattle.rules.specs.Types.{cond, ℕ, MaybeTask, NoTask, Task, Processor, Idle, CopyingIn, Executing, Finished, CopyOut, NoCopyOut, CopyingOut, CopiedOut, CopyIn, Unchosen, NoneChosen, Copying, Loaded, Cancelled, Phase, Between, Within, State, View}
 use Rattle.std.specs.Prelude.{eqb}
 use Rattle.entries.specs.Entries.{task_byte}
 

@@ -1,5 +1,6 @@
 -- The state with one part another, and times.
-use Rattle.rules.specs.Types.{List, ℕ, ◌+◌, ◌-◌, ◌^◌, min, Jobs, WaitingReleases, At, Interval, CopyIn, Phase, State}
+use Rattle.std.specs.Prelude.{◌+◌, ◌-◌, ◌^◌}
+use Rattle.rules.specs.Types.{List, ℕ, min, Jobs, WaitingReleases, At, Interval, CopyIn, Phase, State}
 
 abbrev pub with_jobs : State → Jobs → State
 with_jobs d j =

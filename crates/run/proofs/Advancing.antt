@@ -7,7 +7,7 @@ use lib.ListN.{length}
 use Rattle.table.specs.Head.{head_of}
 use Rattle.table.proofs.Laws.{head_within}
 use Rattle.rules.specs.Kept.{Kept, Beside}
-use Rattle.run.specs.Types.{Head, Refusal, NoRefusal, Alone, AtEntry}
+use Rattle.run.specs.Types.{Refusal, NoRefusal, Alone, AtEntry}
 use Rattle.run.specs.Files.{refusal_of, releases_of, head_unless, file_head}
 use Rattle.run.specs.Advance.{Steps}
 

@@ -16,7 +16,7 @@ use Rattle.rules.specs.Kept.{Kept, Beside, read, Becomes}
 use Rattle.rules.specs.Steps.{Stands, TestedAt, TooSoonAt, HeldOverAt}
 use Rattle.rules.specs.declared.ReleaseFates.{ReleaseFates}
 use Rattle.rules.proofs.Instants.{step_e_f, Left, left, occurred_by, once_here}
-use Rattle.run.specs.Types.{State, Stage, Done, NoJob, Job, Closed, NoInterval, Span, Closing, Unclosed, BeforeReleases, AfterReleases, Occurred, JobEntry, IntervalEntry, RecordEntry, JobDone, IntervalEnded, Batch, Advanced}
+use Rattle.run.specs.Types.{State, Stage, Done, NoJob, Job, Closed, NoInterval, Span, Closing, Unclosed, BeforeReleases, AfterReleases, Occurred, JobEntry, IntervalEntry, RecordEntry, JobDone, IntervalEnded, Batch}
 use Rattle.run.specs.Listed.{releases_at}
 use Rattle.run.specs.Run.{first_time}
 use Rattle.run.specs.Putting.{Puts}

@@ -1,6 +1,6 @@
 -- Entries put into a slice one behind the other. Assumes nothing.
-use mathlib.Core.Path.{◌≡◌, refl, sym, ap, ap₂, ◌∙◌, subst}
-use mathlib.Core.Bool.{Bool, true, false, cond}
+use mathlib.Core.Path.{◌≡◌, refl, sym, ap, ap₂, ◌∙◌}
+use mathlib.Core.Bool.{true, false, cond}
 use mathlib.Core.List.{List, [], ◌∷◌, ◌++◌, append_assoc, append-nil}
 use Prim.Native.Nat.{ℕ, zero, suc, ◌+◌, ◌-◌, ◌*◌, ◌≤◌, ◌<◌}
 use native.Mathlib.Nat.{add-zero, add_assoc, zero-add}
@@ -10,7 +10,7 @@ use lib.Dec.{leb}
 use lib.ListN.{length, take, drop, length-append, length-drop, take-append-drop}
 use lib.Seq.{length-take-le, drop-drop}
 use Rattle.sets.specs.Sets.{member, lowest}
-use Rattle.sets.proofs.Laws.{by-test, lowest_first, lowest_most}
+use Rattle.sets.proofs.Laws.{by-test, lowest_first}
 use Rattle.rules.proofs.Members.{Turn}
 use Rattle.words.proofs.Laws.{lent, rest_whole}
 use Rattle.entries.specs.Entries.{laid, Put, entry_bytes, each, record_entry_size}

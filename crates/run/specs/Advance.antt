@@ -1,13 +1,13 @@
 -- A run advanced by one instant, over the arrays that keep a dispatcher. The steps are the rules'; a run's instants are never refused, so
 -- that nothing is refused here.
-use Rattle.std.specs.Prelude.{◌≡◌, length}
+use Rattle.std.specs.Prelude.{◌≡◌, length, ◌∷◌, ◌-◌, ◌*◌, ◌^◌, ◌≤◌}
 use Rattle.rules.specs.Instant.{due, sooner, step_a, step_e, step_f, at_g, occurred}
 use Rattle.rules.specs.Registers.{phase_in}
 use Rattle.rules.specs.Steps.{Stands, CopiesOut}
 use Rattle.rules.specs.Kept.{Kept, kept, Whole, by_task, Beside, beside, registers_in, read}
 use Rattle.entries.specs.Entries.{size}
 use Rattle.rules.specs.Entries.{done_entries, entries}
-use Rattle.run.specs.Types.{List, [], ◌∷◌, ℕ, ◌-◌, ◌*◌, ◌^◌, ◌≤◌, RecordEntry, IntervalEnded, State, Stage, Closed, NoInterval, Span, Batch, Advanced}
+use Rattle.run.specs.Types.{List, [], ℕ, RecordEntry, IntervalEnded, State, Stage, Closed, NoInterval, Span, Batch, Advanced}
 use Rattle.run.specs.Listed.{releases_at}
 use Rattle.run.specs.Run.{first_time, released_at, released_after}
 use Rattle.run.specs.Putting.{Puts}

@@ -1,7 +1,7 @@
 -- An input's entries, checked entry by entry: its head, then release entries rising strictly by time and then task number, no more of them
 -- than `limits.releases`.
-use Rattle.run.specs.Types.{Bool, true, false, cond, not, ◌&&◌, ◌||◌, List, [], ◌∷◌, ℕ, zero, suc, ◌+◌, Release, Malformed, TaskEntry, ReleaseEntry, SpacingEntry, Last, NoneBefore, Before, Head, Refusal, NoRefusal, Alone, AtEntry}
-use Rattle.std.specs.Prelude.{ltb, leb, eqb, length}
+use Rattle.run.specs.Types.{Bool, true, false, cond, not, List, [], ℕ, zero, suc, Release, Malformed, TaskEntry, ReleaseEntry, SpacingEntry, Last, NoneBefore, Before, Head, Refusal, NoRefusal, Alone, AtEntry}
+use Rattle.std.specs.Prelude.{ltb, leb, eqb, length, ◌&&◌, ◌||◌, ◌∷◌, ◌+◌}
 use Rattle.sets.specs.Sets.{member}
 use Rattle.entries.specs.Entries.{size, entry_at}
 use Rattle.entries.specs.Limits as limits

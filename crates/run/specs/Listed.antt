@@ -1,6 +1,6 @@
 -- The releases of an input that was checked, read from its bytes: whole entries from a place to the end.
-use Rattle.run.specs.Types.{List, [], ◌∷◌, ℕ, zero, suc, ◌+◌, Release}
-use Rattle.std.specs.Prelude.{◌-◌, ◌/◌, length}
+use Rattle.run.specs.Types.{List, [], ℕ, zero, suc, Release}
+use Rattle.std.specs.Prelude.{◌-◌, ◌/◌, length, ◌∷◌, ◌+◌}
 use Rattle.entries.specs.Entries.{size, release_at}
 
 unfoldable pub listed : ℕ → List ℕ → ℕ → List Release

@@ -1,7 +1,7 @@
 -- The entries of an instant, put into the front of a lent slice one behind the other, as far as they fit whole.
-use Rattle.std.specs.Prelude.{◌≡◌, leb, length}
+use Rattle.std.specs.Prelude.{◌≡◌, leb, length, ◌∷◌, ◌+◌}
 use Rattle.entries.specs.Entries.{laid, entry_bytes, each}
-use Rattle.run.specs.Types.{cond, List, [], ◌∷◌, ℕ, ◌+◌, RecordEntry}
+use Rattle.run.specs.Types.{cond, List, [], ℕ, RecordEntry}
 
 -- bytes laid over a slice from a place on, where they fit
 abbrev pub put_at : ℕ → List ℕ → List ℕ → List ℕ

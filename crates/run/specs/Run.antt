@@ -1,8 +1,8 @@
 -- The run of a file: its releases and all due times, instant by instant, with no mark call, until nothing is pending; and its record, in
 -- the order in which things occur. No instant of a file's run is refused, so that nothing is said of refusals here: the moments are what
 -- the calls answer that feed the file to a dispatcher (record/specs/FileClaim `gives_record`).
-use Rattle.run.specs.Types.{true, false, List, [], ◌∷◌, ◌++◌, ℕ, zero, suc, Release, Head, State, RecordEntry, Due, Never, Tick, Occurred}
-use Rattle.std.specs.Prelude.{eqb, length}
+use Rattle.run.specs.Types.{true, false, List, [], ℕ, zero, suc, Release, Head, State, RecordEntry, Due, Never, Tick, Occurred}
+use Rattle.std.specs.Prelude.{eqb, length, ◌∷◌, ◌++◌}
 use Rattle.sets.specs.Sets.{insert}
 use Rattle.entries.specs.Entries.{entry_bytes, each}
 use Rattle.entries.specs.Limits.{budget}

@@ -11,6 +11,12 @@ use entries::{CallEntry, limits};
 use streams::Sized;
 use table::Refusal;
 
+// A piece of the input.
+const INPUT: usize = 65536;
+
+// Room for many lines.
+const LINES: usize = 4096;
+
 // The dispatcher after the whole calls at the start of a slice, how many bytes they took, and whether no write failed.
 #[derive(Clone, Copy)]
 struct Served {
@@ -30,7 +36,7 @@ struct Progress {
 }
 
 // Serves the whole calls at the start of `s`, with `out` to gather their lines in, as far as they can be printed.
-fn serve(d: Dispatcher, s: &[u8], out: &mut [u8]) -> Served
+fn serve(rt: HostRuntime, d: Dispatcher, s: &[u8], out: &mut [u8]) -> Served
     ensures { result.taken ≤ length s.now }
 {
     let mut len = 0;
@@ -44,7 +50,7 @@ fn serve(d: Dispatcher, s: &[u8], out: &mut [u8]) -> Served
         }
         let answered = call_entries::answer(state, entry);
         let text = answered.text;
-        let kept = printing::gather(b"session", out, len, text);
+        let kept = printing::gather(rt, b"session", out, len, text);
         if !kept.good {
             return Served {
                 state,
@@ -57,7 +63,7 @@ fn serve(d: Dispatcher, s: &[u8], out: &mut [u8]) -> Served
         state = next;
         at += size;
     }
-    let good = streams::write_front(b"session", out, len);
+    let good = streams::write_front(rt, b"session", out, len);
     Served {
         state,
         taken: at,
@@ -75,11 +81,11 @@ fn unfinished(rest: &[u8]) -> bool {
 }
 
 // Reads once, and serves the whole calls that are there then.
-fn turn(input: &mut [u8], out: &mut [u8], kept: usize, d: Dispatcher) -> Progress
+fn turn(rt: HostRuntime, input: &mut [u8], out: &mut [u8], kept: usize, d: Dispatcher) -> Progress
     requires { kept ≤ length input.old }
     ensures { result.kept ≤ length input.old }
 {
-    let got = streams::read_behind(b"session", input, kept);
+    let got = streams::read_behind(rt, b"session", input, kept);
     let end = got.count;
     if end == kept {
         return Progress {
@@ -89,7 +95,7 @@ fn turn(input: &mut [u8], out: &mut [u8], kept: usize, d: Dispatcher) -> Progres
             good: got.good,
         };
     }
-    let served = serve(d, &input[..end], out);
+    let served = serve(rt, d, &input[..end], out);
     let left = streams::keep(input, served.taken, end);
     let more = unfinished(&input[..left]);
     let state = served.state;
@@ -103,13 +109,13 @@ fn turn(input: &mut [u8], out: &mut [u8], kept: usize, d: Dispatcher) -> Progres
 
 // A proved loop has to end, and nothing says that the input does. So the loop counts its turns down, from a number that no run
 // uses up. What is kept at the end is a call cut short, or an entry of another kind.
-fn run(input: &mut [u8], out: &mut [u8], d: Dispatcher) {
+fn run(rt: HostRuntime, input: &mut [u8], out: &mut [u8], d: Dispatcher) {
     let mut state = d;
     let mut kept = 0;
     let mut more = true;
     let mut turns = u64::MAX;
     while more && turns > 0 {
-        let t = turn(input, out, kept, state);
+        let t = turn(rt, input, out, kept, state);
         if !t.good {
             return;
         }
@@ -120,43 +126,43 @@ fn run(input: &mut [u8], out: &mut [u8], d: Dispatcher) {
         turns -= 1;
     }
     if kept > 0 {
-        printing::print_text(b"session", lines::cut_short_line());
+        printing::print_text(rt, b"session", lines::cut_short_line());
     }
 }
 
 // Reads the opening bytes, and keeps those that are enough. The rest only has to be there.
-fn read_opening(input: &mut [u8], space: &mut [u8]) -> Sized
+fn read_opening(rt: HostRuntime, input: &mut [u8], space: &mut [u8]) -> Sized
     requires { head_most ≤ length input.old }
     ensures { result.kept ≤ head_most }
 {
-    streams::read_sized(b"session", &mut input[..limits::HEAD_MOST], space)
+    streams::read_sized(rt, b"session", &mut input[..limits::HEAD_MOST], space)
 }
 
-fn drive(input: &mut [u8], out: &mut [u8])
+fn drive(rt: HostRuntime, input: &mut [u8], out: &mut [u8])
     requires { head_most ≤ length input.old }
 {
-    let head = read_opening(input, out);
+    let head = read_opening(rt, input, out);
     if !head.good {
         return;
     }
     if !head.whole {
-        printing::print_text(b"session", lines::cut_short_line());
+        printing::print_text(rt, b"session", lines::cut_short_line());
         return;
     }
     let kept = head.kept;
     let opening = guarantees::open(&input[..kept]);
     let refusal = opening.refusal;
-    if !printing::print_text(b"session", lines::opening_lines(refusal)) {
+    if !printing::print_text(rt, b"session", lines::opening_lines(refusal)) {
         return;
     }
     if let Refusal::NoRefusal = refusal {
         let state = opening.state;
-        run(input, out, state);
+        run(rt, input, out, state);
     }
 }
 
-fn main() {
-    let mut input = io::large_buffer();
-    let mut out = io::buffer();
-    drive(&mut input, &mut out);
+fn main(rt: HostRuntime) {
+    let mut input = [0u8; INPUT];
+    let mut out = [0u8; LINES];
+    drive(rt, &mut input, &mut out);
 }

@@ -1,12 +1,7 @@
 -- What stands at the front of a slice: bytes that are moved there one by one, and bytes that stay.
-use mathlib.Core.Path.{◌≡◌, refl, sym, ap, ◌∙◌}
-use mathlib.Core.List.{List, [], ◌∷◌, ◌++◌}
-use Prim.Native.Nat.{ℕ, suc, ◌+◌, ◌-◌, ◌≤◌, ◌<◌, min}
-use native.Mathlib.Omega.{arith}
-use native.Mathlib.Numerals.{add-one}
-use native.Mathlib.Nat.{add_comm}
-use lib.ListN.{length, get_or, set, take, drop, length-append, length-take, length-drop}
-use lib.Seq.{slice, length-take-le, take-suc, take-length, drop-cons, set_at, append_snoc, get_or-append-add, get_or-drop, get_or-take, take-take}
+use Rattle.std.proofs.Common.{◌≡◌, sym, ap, ◌∙◌, List, ◌∷◌, ◌++◌, ℕ, suc, ◌+◌, ◌-◌, ◌≤◌, ◌<◌, min, arith, add-one, add_comm, length, get_or, take, drop, length-append, length-take, length-drop, drop-cons}
+use Rattle.std.proofs.Math.ListN.{set}
+use Rattle.std.proofs.Math.Seq.{slice, length-take-le, take-suc, take-length, set_at, append_snoc, get_or-append-add, get_or-drop, get_or-take, take-take}
 use Rattle.streams.specs.Fronts.{Keeps}
 
 -- ---- What is moved

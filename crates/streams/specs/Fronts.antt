@@ -1,7 +1,10 @@
 -- What stands at the front of a slice: bytes that are read behind it, and bytes that are kept.
 use Rattle.std.specs.Prelude.{◌≡◌, List, ◌++◌, ℕ, ◌≤◌, min, length, take, drop}
 use Rattle.std.proofs.Math.Seq.{slice}
-use Rattle.io.specs.Counts.{IsPrefixLen}
+
+-- so many bytes stand at the front of a slice
+abbrev pub IsPrefixLen : ℕ → List ℕ → Type 0
+IsPrefixLen n xs = (n ≤ length xs) × (n ≡ length (take n xs))
 
 -- bytes are read behind the first ones, which stay, and counted with them
 abbrev pub ReadsBehind : ℕ → List ℕ → ℕ → List ℕ → Type 0

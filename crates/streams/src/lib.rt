@@ -2,27 +2,25 @@
 // standard error, behind the program's name, and the caller is told to stop.
 #![tactic(auto)]
 
+mod failures;
+mod places;
 mod sized;
 mod source;
 
 ghost use Rattle.std.specs.Prelude.{◌≡◌, true, false, ◌<◌, min, length};
 ghost use Rattle.streams.specs.Fronts.{ReadsBehind, Keeps};
 
-use libc::{STDERR_FILENO, STDIN_FILENO, STDOUT_FILENO};
+pub use failures::tell;
+use failures::{Stream, fail};
 pub use sized::{Sized, read_sized};
 pub use source::{Source, go_back, put_aside, read_again, twice};
+use std::io::Print;
 
 // How many bytes a read put at the front of what it was lent, and whether it came to the end of what was asked for without a failure.
 #[derive(Clone, Copy)]
 pub struct Got {
     pub count: usize,
     pub good: bool,
-}
-
-// Says that a call failed on one of the program's streams.
-fn fail(name: &[u8], stream: &[u8]) {
-    io::write_all(STDERR_FILENO, name);
-    os::fail(stream);
 }
 
 fn least(a: usize, b: usize) -> usize
@@ -33,20 +31,22 @@ fn least(a: usize, b: usize) -> usize
 
 // One read of standard input behind the first `done` bytes of `to`, which stay, counted with them. No more bytes and no failure is the end
 // of the input; a read that fails put none.
-pub fn read_behind(name: &[u8], to: &mut [u8], done: usize) -> Got
+pub fn read_behind(rt: HostRuntime, name: &[u8], to: &mut [u8], done: usize) -> Got
     ensures reads_behind { ReadsBehind done to.old result.count to.new }
     ensures count_value { result.good ≡ false → result.count ≡ min done (length to.old) }
 {
-    source::read_behind(name, STDIN_FILENO, to, done)
+    let mut input = rt.stdin();
+    source::read_behind(rt, name, Stream::Input, &mut input, to, done)
 }
 
 // Reads behind the first `done` bytes of `to`, which stay, until it is full or the input ends, counted with them. Where a read fails, what
 // came before it is no input, and does not fill `to`.
-pub fn fill(name: &[u8], to: &mut [u8], done: usize) -> Got
+pub fn fill(rt: HostRuntime, name: &[u8], to: &mut [u8], done: usize) -> Got
     ensures reads_behind { ReadsBehind done to.old result.count to.new }
     ensures count_in_bounds { result.good ≡ false → result.count < length to.new }
 {
-    source::fill(name, STDIN_FILENO, to, done)
+    let mut input = rt.stdin();
+    source::fill(rt, name, Stream::Input, &mut input, to, done)
 }
 
 // Moves the bytes from `from` up to `end` to the front, and answers how many there are.
@@ -64,23 +64,25 @@ pub fn keep(input: &mut [u8], from: usize, end: usize) -> usize
 }
 
 // Writes all of `bytes`, and answers whether that was possible: always, where there is nothing to write.
-pub fn write(name: &[u8], bytes: &[u8]) -> bool
+pub fn write(rt: HostRuntime, name: &[u8], bytes: &[u8]) -> bool
     ensures { length bytes.now ≡ 0 → result ≡ true }
 {
     if bytes.len() == 0 {
         return true;
     }
-    let good = io::write_all(STDOUT_FILENO, bytes);
-    if !good {
-        fail(name, b": standard output");
+    match rt.stdout().write_all(bytes) {
+        Ok(()) => true,
+        Err(error) => {
+            fail(rt, name, Stream::Output, error);
+            false
+        }
     }
-    good
 }
 
 // Writes the first `count` of `bytes`, or all where there are fewer, and answers whether that was possible.
-pub fn write_front(name: &[u8], bytes: &[u8], count: usize) -> bool
+pub fn write_front(rt: HostRuntime, name: &[u8], bytes: &[u8], count: usize) -> bool
     ensures { min count (length bytes.now) ≡ 0 → result ≡ true }
 {
     let n = least(count, bytes.len());
-    write(name, &bytes[..n])
+    write(rt, name, &bytes[..n])
 }

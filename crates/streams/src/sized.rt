@@ -19,22 +19,22 @@ struct Skipped {
 }
 
 // Reads up to `count` bytes to the front of `to`, fewer only where the input ends or a read fails.
-fn read(name: &[u8], to: &mut [u8], count: usize) -> Got
+fn read(rt: HostRuntime, name: &[u8], to: &mut [u8], count: usize) -> Got
     requires { count ≤ length to.old }
     ensures count_le_count { result.count ≤ count }
     ensures count_lt_count { result.good ≡ false → result.count < count }
 {
-    fill(name, &mut to[..count], 0)
+    fill(rt, name, &mut to[..count], 0)
 }
 
 // Reads `count` bytes and drops them, and answers whether they were there and no read failed.
-fn skip(name: &[u8], space: &mut [u8], count: usize) -> Skipped
+fn skip(rt: HostRuntime, name: &[u8], space: &mut [u8], count: usize) -> Skipped
     ensures { result.whole ≡ true → result.good ≡ true }
 {
     let mut left = count;
     while left > 0 {
         let most = least(left, space.len());
-        let got = read(name, space, most);
+        let got = read(rt, name, space, most);
         if got.count == 0 {
             return Skipped {
                 whole: false,
@@ -57,12 +57,12 @@ fn skip(name: &[u8], space: &mut [u8], count: usize) -> Skipped
 
 // Reads a length and as many bytes. Those for which there is room are kept at the front of `to`; the rest only has to be there, and is
 // dropped by way of `space`.
-pub fn read_sized(name: &[u8], to: &mut [u8], space: &mut [u8]) -> Sized
+pub fn read_sized(rt: HostRuntime, name: &[u8], to: &mut [u8], space: &mut [u8]) -> Sized
     ensures kept_in_bounds { result.kept ≤ length to.old }
     ensures good_value { result.whole ≡ true → result.good ≡ true }
 {
     let mut first = [0u8; 4];
-    let told = fill(name, &mut first, 0);
+    let told = fill(rt, name, &mut first, 0);
     if told.count < 4 {
         return Sized {
             kept: 0,
@@ -72,7 +72,7 @@ pub fn read_sized(name: &[u8], to: &mut [u8], space: &mut [u8]) -> Sized
     }
     let size = words::get_u32(&first, 0) as usize;
     let kept = least(size, to.len());
-    let got = read(name, to, kept);
+    let got = read(rt, name, to, kept);
     if got.count < kept {
         return Sized {
             kept: 0,
@@ -80,7 +80,7 @@ pub fn read_sized(name: &[u8], to: &mut [u8], space: &mut [u8]) -> Sized
             good: got.good,
         };
     }
-    let rest = skip(name, space, size - kept);
+    let rest = skip(rt, name, space, size - kept);
     Sized {
         kept,
         whole: rest.whole,

@@ -1,14 +1,14 @@
 -- What goes on now, over the numbers. Assumes nothing.
+use Rattle.std.proofs.Common.{◌≡◌}
 use mathlib.Core.Path.{ap₂}
-use Rattle.rules.specs.Types.{Bool, true, false, cond, List, ℕ, ◌≡◌, refl, sym, ap, ◌∙◌, State, Phase, Within, Registers}
-use Rattle.rules.specs.declared.View.{View}
+use Rattle.rules.specs.Types.{Bool, true, false, cond, List, ℕ, refl, ap, ◌∙◌, Registers}
 use borrow.Author.Tests.{eqb-true, eq-eqb, ne_eqb}
 use lib.Dec.{eqb}
 use lib.ListN.{get_or, set}
 use Rattle.sets.proofs.Laws.{by-test}
 use Rattle.entries.specs.Entries.{task_byte}
 use Rattle.rules.specs.Registers.{as_processor, as_copyout, as_copyin, interval_in, phase_in, state_in}
-use Rattle.rules.specs.View.{on_processor, copied_in, copied_out, shown_half, processor_until, copyin_until, copyout_until, viewed_in, viewed}
+use Rattle.rules.specs.View.{on_processor, copied_in, copied_out, shown_half, processor_until, copyin_until, copyout_until, viewed}
 use Rattle.rules.specs.Kept.{Kept, Beside, registers_in, read}
 use Rattle.views.specs.Showing.{ticks_of, units_of, stored_if}
 

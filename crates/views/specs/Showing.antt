@@ -5,7 +5,7 @@ use Rattle.rules.specs.Types.{NoTask}
 use Rattle.rules.specs.declared.View.{View}
 use Rattle.rules.specs.Registers.{as_processor}
 use Rattle.rules.specs.View.{on_processor, processor_until, viewed}
-use Rattle.rules.specs.Kept.{kept, Beside, beside, read}
+use Rattle.rules.specs.Kept.{kept, Beside, read}
 
 abbrev pub OnProcessor : ℕ → Bool → Type 0
 OnProcessor kind x =

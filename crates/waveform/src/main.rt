@@ -4,7 +4,7 @@
 #![tactic(auto)]
 
 ghost use Rattle.std.specs.Prelude.{◌≤◌, length};
-ghost use Rattle.io.specs.Counts.{IsPrefixLen};
+ghost use Rattle.streams.specs.Fronts.{IsPrefixLen};
 ghost use Rattle.run.specs.Cut.{file_most};
 
 use entries::limits;
@@ -16,13 +16,13 @@ use table::{Head, Refusal};
 const LINE: usize = 192;
 
 // What an instant adds, where there are the views before and after it; whether that could be written.
-fn write_instant(begun: bool, t: u64, before: View, after: View) -> bool {
+fn write_instant(rt: HostRuntime, begun: bool, t: u64, before: View, after: View) -> bool {
     let mut text = [0u8; waves::ROOM];
     let n = waves::put_instant(&mut text, begun, t, before, after);
-    streams::write_front(b"waveform", &text, n)
+    streams::write_front(rt, b"waveform", &text, n)
 }
 
-fn write_run(input: &[u8], head: Head)
+fn write_run(rt: HostRuntime, input: &[u8], head: Head)
     requires { head.end ≤ length input.now }
 {
     let mut entries = [0u8; limits::INSTANT_MOST];
@@ -39,7 +39,7 @@ fn write_run(input: &[u8], head: Head)
         }
         d = x.state;
         let now = views::viewed_of(d);
-        if !write_instant(begun, d.times[at::LAST], seen, now) {
+        if !write_instant(rt, begun, d.times[at::LAST], seen, now) {
             return;
         }
         from += x.read;
@@ -48,50 +48,44 @@ fn write_run(input: &[u8], head: Head)
         left -= 1;
     }
     if !begun {
-        write_instant(false, 0, seen, seen);
+        write_instant(rt, false, 0, seen, seen);
     }
 }
 
-// Writes a line to standard error, behind who says it.
-fn tell(who: &[u8], line: &[u8]) {
-    io::write_all(libc::STDERR_FILENO, who);
-    io::write_all(libc::STDERR_FILENO, line);
-}
-
 // Says on standard error why nothing is written.
-fn say(refusal: Refusal) {
+fn say(rt: HostRuntime, refusal: Refusal) {
     let mut out = [0u8; LINE];
     let count = lines::put(lines::refused_input_line(refusal), &mut out);
-    tell(b"waveform: the input is refused: ", &out[..count]);
+    streams::tell(rt, b"waveform: the input is refused: ", &out[..count]);
 }
 
-fn answer(input: &[u8]) {
+fn answer(rt: HostRuntime, input: &[u8]) {
     let head = run::check_file(input);
     let refusal = head.refusal;
     match refusal {
         Refusal::NoRefusal => {
-            if streams::write(b"waveform", &waves::header()) {
-                write_run(input, head);
+            if streams::write(rt, b"waveform", &waves::header()) {
+                write_run(rt, input, head);
             }
         }
-        Refusal::Alone(_) => say(refusal),
-        Refusal::AtEntry(_, _) => say(refusal),
+        Refusal::Alone(_) => say(rt, refusal),
+        Refusal::AtEntry(_, _) => say(rt, refusal),
     }
 }
 
 // Reads as much of an input as there is room for, which is enough: run/specs/Cut, `ReadFromFront`. What stands behind it is not read.
-fn read(input: &mut [u8]) -> Got
+fn read(rt: HostRuntime, input: &mut [u8]) -> Got
     requires { file_most ≤ length input.old }
     ensures { IsPrefixLen result.count input.new }
 {
-    streams::fill(b"waveform", input, 0)
+    streams::fill(rt, b"waveform", input, 0)
 }
 
-fn main() {
+fn main(rt: HostRuntime) {
     let mut input = [0u8; limits::FILE_MOST];
-    let got = read(&mut input);
+    let got = read(rt, &mut input);
     if got.good {
         let count = got.count;
-        answer(&input[..count]);
+        answer(rt, &input[..count]);
     }
 }

@@ -1,6 +1,6 @@
 -- A dump along its run: what is put so far and what is to come make the whole. Assumes nothing.
 use mathlib.Core.Path.{◌≡◌, refl, sym, ap, ap₂, ◌∙◌, subst}
-use mathlib.Core.Bool.{Bool, true, false, cond, true≢false}
+use mathlib.Core.Bool.{Bool, true, false, true≢false}
 use mathlib.Core.List.{List, [], ◌∷◌, ◌++◌, append_assoc, append-nil}
 use Prim.Native.Nat.{ℕ, ◌+◌, ◌-◌, ◌*◌, ◌^◌, ◌≤◌, ◌<◌}
 use native.Mathlib.Omega.{arith}
@@ -10,18 +10,17 @@ use lib.ListN.{length, take, drop, length-append}
 use Rattle.sets.proofs.Laws.{by-test}
 use Rattle.entries.specs.Entries.{laid}
 use Rattle.rules.specs.Instant.{at_g}
-use Rattle.rules.specs.Steps.{Stands}
 use Rattle.rules.specs.Kept.{Kept, Beside, read}
-use Rattle.run.specs.Types.{State, Release, Never}
+use Rattle.run.specs.Types.{State}
 use Rattle.run.specs.declared.Advanced.{Advanced}
 use Rattle.run.specs.Listed.{releases_at}
-use Rattle.run.specs.Run.{Moment, released_at, next_time, moment, run}
+use Rattle.run.specs.Run.{Moment, released_at, run}
 use Rattle.run.specs.Advance.{Advances}
 use Rattle.run.proofs.Slices.{laid_none, laid_both}
 use Rattle.pieces.proofs.Reaching.{along, none_before, next_made, steps_made, reads_within, leads_on}
 use Rattle.record.specs.Cursor.{Cursor, Served, KeptAt}
-use Rattle.record.proofs.Running.{Fed, fed, behind, comes_early, none_left, over}
-use Rattle.waves.specs.Types.{Shown, Drawn}
+use Rattle.record.proofs.Running.{fed, behind, comes_early, none_left, over}
+use Rattle.waves.specs.Types.{Shown}
 use Rattle.waves.specs.Dump.{Sample, header, wires, wire, mark, all, if_new, changed, same, change, changes, dump}
 use Rattle.waves.specs.Samples.{seen, samples, from_zero}
 use Rattle.waves.specs.Drawing.{start, turn, rest_of, run_rest, Space, Drew}

@@ -1,9 +1,10 @@
 -- A small dump, as the definitions give it: what changes, what stays, and an instant at which nothing does.
+use Rattle.std.proofs.Common.{◌∷◌, ◌++◌}
 use mathlib.Core.Path.{◌≡◌, refl}
 use Prim.Native.String.{String}
 use Rattle.lines.specs.Lines.{digits, decimal}
-use Rattle.waves.specs.Types.{List, [], ◌∷◌, ◌++◌, ℕ}
-use Rattle.waves.specs.Dump.{Sample, ascii, line, header, wires, wire, all, changed, mark, change, changes, dump}
+use Rattle.waves.specs.Types.{List, [], ℕ}
+use Rattle.waves.specs.Dump.{ascii, line, header, wires, wire, all, changed, mark, change, changes, dump}
 
 unfoldable lines : List String → List ℕ
 lines [] = []

@@ -9,7 +9,7 @@ use native.Mathlib.Omega.{arith}
 use borrow.Author.Tests.{ne_eqb}
 use lib.Dec.{eqb}
 use lib.ListN.{length, get_or, take, drop, set, length-append, take-append-drop}
-use lib.Seq.{length-take-le, take_all, take_at, take-suc, drop-cons, drop-drop, append_snoc, set_at}
+use lib.Seq.{length-take-le, take_at, take-suc, drop-cons, drop-drop, append_snoc, set_at}
 use Rattle.words.proofs.Laws.{lent}
 use Rattle.entries.specs.Entries.{laid}
 use Rattle.run.proofs.Slices.{laid_none, laid_both, laid_length}

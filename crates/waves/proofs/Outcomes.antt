@@ -1,19 +1,16 @@
 -- The outcomes of an input: its refusals are the file's, and of an accepted one the dump is that of its run. Assumes nothing.
 use mathlib.Core.Path.{◌≡◌, refl, sym, ap, ◌∙◌}
-use mathlib.Core.Bool.{true, false}
 use mathlib.Core.List.{List}
 use Prim.Native.Nat.{ℕ}
 use native.Mathlib.Omega.{arith}
 use lib.Dec.{leb}
 use lib.ListN.{length}
 use Rattle.sets.proofs.Laws.{by-test}
-use Rattle.table.specs.Head.{head_of}
 use Rattle.table.specs.declared.Refusal.{Refusal}
 use Rattle.run.specs.Files.{Checked, Rejected, Releases, releases_of}
 use Rattle.run.specs.Listed.{releases_at}
 use Rattle.run.specs.Run.{moments_of, record_bytes}
 use Rattle.run.proofs.Listing.{how_many}
-use Rattle.record.specs.Cursor.{ReadWhole}
 use Rattle.record.specs.Writing.{Wrote, written, written_of, file}
 use Rattle.record.proofs.Outcomes.{AllRead, listed_all}
 use Rattle.waves.specs.Types.{Head, RefusedInput}

@@ -1,19 +1,20 @@
 -- A dump's bytes, read by the viewer: words, numbers, marks and values. Assumes nothing.
+use Rattle.std.proofs.Common.{◌&&◌, ◌∷◌, ◌++◌, ◌+◌, ◌*◌}
 use mathlib.Core.Path.{◌≡◌, refl, sym, ap, ◌∙◌, subst}
 use mathlib.Core.Bool.{true≢false}
 use Prim.Native.Nat.{◌/◌, ◌%◌, ◌≤◌, ◌<◌}
 use native.Mathlib.Omega.{arith}
-use borrow.Author.Tests.{eqb-true, eqb-false, ne_eqb, lt-ltb, le-ltb, ltb-true, ltb-false, le-leb, leb-true}
+use borrow.Author.Tests.{eqb-true, eqb-false, ne_eqb, lt-ltb, ltb-true, ltb-false, le-leb}
 use lib.Dec.{eqb, ltb, leb}
 use mathlib.Core.List.{append_assoc}
 use Rattle.sets.proofs.Laws.{by-test}
 use Rattle.lines.specs.Lines.{decimal, newline}
 use Rattle.lines.proofs.Laws.{one_digit, last_digit}
-use mathlib.Core.Bool.{not, ◌||◌}
+use mathlib.Core.Bool.{not}
 use Prim.Native.Nat.{zero, suc, ◌-◌}
-use Rattle.waves.specs.Types.{Bool, true, false, cond, ◌&&◌, List, [], ◌∷◌, ◌++◌, ℕ, ◌+◌, ◌*◌, Shown}
-use Rattle.waves.specs.Dump.{Sample, header, digit, wires, wire, all, changed, mark, change, changes, dump}
-use Rattle.waves.specs.Viewer.{blank, Parted, gathered, parted, words, alike, Number, NoNumber, Is, number_from, number, Event, At, Put, Events, Unread, Reads, with_event, Pending, Nothing, Value, timed, events}
+use Rattle.waves.specs.Types.{Bool, true, false, List, [], ℕ}
+use Rattle.waves.specs.Dump.{digit, wires, wire, mark}
+use Rattle.waves.specs.Viewer.{blank, gathered, parted, words, Number, NoNumber, Is, number_from, number, At, Put, Events, Unread, with_event, Nothing, Value, timed, events}
 
 -- ---- words
 

@@ -1,19 +1,18 @@
 -- A dump of samples, read by the viewer: its events, and what they show at every tick. Assumes nothing.
+use Rattle.std.proofs.Common.{◌&&◌, ◌∷◌, ◌++◌}
 use mathlib.Core.Path.{◌≡◌, refl, sym, ap, ◌∙◌, subst}
 use mathlib.Core.Bool.{true≢false}
 use mathlib.Core.List.{append_assoc}
 use Prim.Native.Nat.{◌≤◌, ◌<◌}
 use native.Mathlib.Omega.{arith}
-use borrow.Author.Tests.{eqb-true, eqb-false, lt-ltb, leb-true, leb-false, lt-leb, le-leb}
-use lib.Dec.{eqb, ltb, leb}
+use borrow.Author.Tests.{eqb-true, lt-ltb, leb-false, lt-leb, le-leb}
+use lib.Dec.{eqb, leb}
 use Rattle.sets.proofs.Laws.{by-test}
-use mathlib.Core.Bool.{not, ◌||◌}
-use Prim.Native.Nat.{zero, suc}
-use Rattle.waves.specs.Types.{Bool, true, false, cond, ◌&&◌, List, [], ◌∷◌, ◌++◌, ℕ, ◌+◌, Shown}
+use mathlib.Core.Bool.{not}
+use Rattle.waves.specs.Types.{Bool, true, false, cond, List, [], ℕ, Shown}
 use Rattle.waves.specs.Dump.{Sample, ascii, line, header, wires, wire, all, if_new, changed, mark, same, change, changes, dump}
-use Rattle.waves.specs.Viewer.{blank, gathered, parted, words, alike, Number, NoNumber, Is, number_from, Variable, Declared, Declares, Section, Outside, declared, Event, At, Put, Events, Reads, with_event, Pending, Nothing, events, Read, NoDump, Dump, with_variables, behind, read, value_at, named, shows, after, rise, valued, last_of, other, fresh}
-use Rattle.waves.specs.Readable.{Fits, Later, Readable, shown_at}
-use Rattle.run.specs.Files.{Releases, releases_of}
+use Rattle.waves.specs.Viewer.{blank, gathered, parted, words, alike, Number, NoNumber, Is, number_from, Declares, Outside, declared, Event, At, Put, Events, Reads, with_event, events, Read, Dump, with_variables, behind, read, value_at, named, shows, rise, valued, last_of, other, fresh}
+use Rattle.waves.specs.Readable.{Fits, Later, shown_at}
 use Rattle.waves.specs.Samples.{shown_of, samples_of, values_at}
 use Rattle.waves.specs.Viewed.{variables, Views, DumpViews, AcceptedViews}
 use Rattle.waves.proofs.Readable.{samples_tell}

@@ -1,7 +1,7 @@
 -- A whole dump: the header, the instants, and the start where there was none. Assumes nothing.
 use mathlib.Core.Path.{◌≡◌, refl, sym, ap, ap₂, ◌∙◌, subst}
-use mathlib.Core.Bool.{Bool, true, false, cond}
-use mathlib.Core.List.{List, [], ◌++◌, append-nil}
+use mathlib.Core.Bool.{Bool, true, false}
+use mathlib.Core.List.{List, ◌++◌, append-nil}
 use Prim.Native.Nat.{ℕ, ◌+◌, ◌≤◌}
 use native.Mathlib.Nat.{zero-add}
 use native.Mathlib.Omega.{arith}
@@ -11,19 +11,18 @@ use Rattle.rules.specs.Calls.{opened}
 use Rattle.table.specs.declared.Head.{Head}
 use Rattle.dispatcher.specs.Dispatcher.{state_of}
 use Rattle.dispatcher.specs.declared.Dispatcher.{Dispatcher}
-use Rattle.run.specs.Types.{State}
 use Rattle.run.specs.Listed.{releases_at}
 use Rattle.run.specs.Run.{run}
 use Rattle.sets.proofs.Laws.{by-test}
 use Rattle.run.proofs.Slices.{laid_both, laid_length}
 use Rattle.record.specs.Cursor.{Cursor, start as start_of_lem, KeptAt}
 use Rattle.record.proofs.Running.{is_start}
-use Rattle.waves.specs.Types.{Shown, Drawn}
+use Rattle.waves.specs.Types.{Drawn}
 use Rattle.waves.specs.Dump.{ascii, line, header}
 use Rattle.waves.specs.Samples.{seen, samples}
 use Rattle.waves.specs.Drawing.{start, run_rest, run_dump, Space, Drew, Draws}
 use Rattle.waves.proofs.Seeing.{at_opening}
-use Rattle.waves.proofs.Drawing.{whole_dump, start_most}
+use Rattle.waves.proofs.Drawing.{whole_dump}
 
 pub header_size : length header ≡ 191
 unfolding header line ascii

@@ -1,5 +1,5 @@
 -- How far a dump has come: what each instant adds to it, and what is left.
-use Rattle.std.specs.Prelude.{◌≡◌, ◌≤◌, ◌<◌, eqb, length}
+use Rattle.std.specs.Prelude.{◌≡◌, ◌≤◌, ◌<◌, eqb, length, ◌∷◌, ◌++◌, ◌+◌}
 use Rattle.entries.specs.Entries.{laid}
 use Rattle.rules.specs.Kept.{Beside, kept, read}
 use Rattle.rules.specs.declared.View.{View}
@@ -7,7 +7,7 @@ use Rattle.rules.specs.View.{shown_half}
 use Rattle.run.specs.Listed.{releases_at}
 use Rattle.run.specs.Run.{run}
 use Rattle.record.specs.Cursor.{Cursor, Served, budget_at, start as start_of_lem}
-use Rattle.waves.specs.Types.{Bool, true, false, cond, List, [], ◌∷◌, ◌++◌, ℕ, ◌+◌, State, Head, Shown, Drawn}
+use Rattle.waves.specs.Types.{Bool, true, false, cond, List, [], ℕ, State, Head, Shown, Drawn}
 use Rattle.waves.specs.Dump.{Sample, mark, all, change, dump}
 use Rattle.waves.specs.Samples.{seen, samples, from_zero}
 use Rattle.waves.specs.Printing.{Lays}

@@ -1,10 +1,10 @@
 -- A value change dump of IEEE 1364, as bytes, of samples: the four values of 5/13 from a time on. It knows nothing of runs.
-use Rattle.std.specs.Prelude.{◌/◌, ◌%◌, eqb}
+use Rattle.std.specs.Prelude.{◌/◌, ◌%◌, eqb, ◌&&◌, ◌∷◌, ◌++◌, ◌+◌}
 use Prim.Native.Char.{code}
 use Prim.Native.String.{String}
 use Prim.Native.String.{[] as nil, ◌∷◌ as cons}
 use Rattle.lines.specs.Lines.{decimal, newline}
-use Rattle.waves.specs.Types.{Bool, cond, ◌&&◌, List, [], ◌∷◌, ◌++◌, ℕ, ◌+◌, Shown}
+use Rattle.waves.specs.Types.{Bool, cond, List, [], ℕ, Shown}
 
 -- what shows from a time on
 pub record Sample : Type 0 where

@@ -1,7 +1,7 @@
 -- Bytes put into a slice from a place on.
-use Rattle.std.specs.Prelude.{◌≡◌, length, ◌≤◌}
+use Rattle.std.specs.Prelude.{◌≡◌, length, ◌≤◌, ◌+◌}
 use Rattle.entries.specs.Entries.{laid}
-use Rattle.waves.specs.Types.{List, ℕ, ◌+◌}
+use Rattle.waves.specs.Types.{List, ℕ}
 
 -- there is room for them, to the byte
 pub record Room (at : ℕ) (bytes s : List ℕ) : Type 0 where

@@ -1,8 +1,8 @@
 -- What whoever reads a dump may rely on: of a run's samples the first is at time 0, their times rise strictly, and each value fits its
 -- wires; and what they show at a tick are the run's values.
-use Rattle.std.specs.Prelude.{◌≡◌, ◌≤◌, ◌<◌, leb}
+use Rattle.std.specs.Prelude.{◌≡◌, ◌≤◌, ◌<◌, leb, ◌∷◌}
 use Rattle.run.specs.Files.{Releases, releases_of}
-use Rattle.waves.specs.Types.{cond, List, [], ◌∷◌, ℕ, Release, Shown}
+use Rattle.waves.specs.Types.{cond, List, [], ℕ, Release, Shown}
 use Rattle.waves.specs.Dump.{Sample}
 use Rattle.waves.specs.Samples.{shown_of, samples_of, values_at}
 

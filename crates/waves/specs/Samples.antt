@@ -1,11 +1,11 @@
 -- What a run shows: the values of 5/13 after each instant's steps.
-use Rattle.std.specs.Prelude.{eqb, leb}
+use Rattle.std.specs.Prelude.{eqb, leb, ◌∷◌}
 use Rattle.entries.specs.Entries.{task_byte}
 use Rattle.table.specs.Head.{head_of}
 use Rattle.rules.specs.View.{values}
 use Rattle.rules.specs.Calls.{opened}
 use Rattle.run.specs.Run.{Moment, moments_of}
-use Rattle.waves.specs.Types.{cond, List, [], ◌∷◌, ℕ, State, Release, Head, Values, Shown}
+use Rattle.waves.specs.Types.{cond, List, [], ℕ, State, Release, Head, Values, Shown}
 use Rattle.waves.specs.Dump.{Sample}
 
 -- "255 means nobody"

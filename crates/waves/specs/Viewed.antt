@@ -1,8 +1,8 @@
 -- What a viewer shows of a dump.
-use Rattle.std.specs.Prelude.{◌≡◌}
+use Rattle.std.specs.Prelude.{◌≡◌, ◌∷◌}
 use Rattle.run.specs.Files.{Releases, releases_of}
 use Rattle.record.specs.Writing.{WroteInNumbers}
-use Rattle.waves.specs.Types.{true, false, List, [], ◌∷◌, ℕ, Release, Outcome, Shown}
+use Rattle.waves.specs.Types.{true, false, List, [], ℕ, Release, Outcome, Shown}
 use Rattle.waves.specs.Dump.{Sample, ascii, dump}
 use Rattle.waves.specs.Samples.{shown_of, samples_of, values_at}
 use Rattle.waves.specs.Readable.{Readable, shown_at}

@@ -1,7 +1,7 @@
 -- A viewer: it reads a value change dump as IEEE 1364 has it, as far as dumps of wires go, and shows each variable's value at every tick.
 -- It does not know how a dump is made.
-use Rattle.std.specs.Prelude.{eqb, ltb, leb, not, ◌||◌, ◌-◌}
-use Rattle.waves.specs.Types.{Bool, true, false, cond, ◌&&◌, List, [], ◌∷◌, ◌++◌, ℕ, ◌+◌, ◌*◌}
+use Rattle.std.specs.Prelude.{eqb, ltb, leb, not, ◌||◌, ◌-◌, ◌&&◌, ◌∷◌, ◌+◌, ◌*◌}
+use Rattle.waves.specs.Types.{Bool, true, false, cond, List, [], ℕ}
 use Rattle.waves.specs.Dump.{ascii}
 
 -- ---- Words, parted by blanks: space, tab, newline

@@ -8,7 +8,6 @@ use Rattle.rules.specs.Tickets.{Ticketed, TicketedStep, Enquiry}
 use Rattle.dispatcher.specs.Dispatcher.{ticketed_of}
 use Rattle.dispatcher.proofs.Numbered.{ticketed, mark_ticketed, marks_ticketed}
 use Rattle.call_entries.specs.Calls.{Reply}
-use borrow.Author.Rules.{rules}
 use Rattle.call_entries.proofs.answer.Goals as goal
 
 abbrev reply : Ticketed → Text → Reply

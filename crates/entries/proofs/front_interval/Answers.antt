@@ -5,7 +5,6 @@ use Prim.Native.Nat.{ℕ}
 use Rattle.words.specs.Words.{number_at}
 use Rattle.entries.specs.Types.{MaybeTask, IntervalEntry}
 use Rattle.entries.specs.Entries.{task_of, interval_at}
-use borrow.Author.Rules.{rules}
 use Rattle.entries.proofs.front_interval.Goals as goal
 
 module _ (s : List ℕ) (begin end half work fate : ℕ) (task copiedout chosen promoted : MaybeTask) where

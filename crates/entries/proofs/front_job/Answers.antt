@@ -5,7 +5,6 @@ use Prim.Native.Nat.{ℕ}
 use Rattle.words.specs.Words.{number_at}
 use Rattle.entries.specs.Types.{JobEntry}
 use Rattle.entries.specs.Entries.{job_at}
-use borrow.Author.Rules.{rules}
 use Rattle.entries.proofs.front_job.Goals as goal
 
 module _ (s : List ℕ) (task release start completion blocked : ℕ) where

@@ -1,6 +1,5 @@
 -- `entries::front_release` meets its contract: field by field. Assumes nothing.
 use Rattle.entries.specs.Entries.{release_at}
-use borrow.Author.Rules.{rules}
 use Rattle.entries.proofs.front_release.Goals as goal
 
 pub returns : goal.returns

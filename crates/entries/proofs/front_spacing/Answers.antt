@@ -1,6 +1,5 @@
 -- `entries::front_spacing` meets its contract: field by field. Assumes nothing.
 use Rattle.entries.specs.Entries.{spacing_at}
-use borrow.Author.Rules.{rules}
 use Rattle.entries.proofs.front_spacing.Goals as goal
 
 pub returns : goal.returns

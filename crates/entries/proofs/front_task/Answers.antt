@@ -5,7 +5,6 @@ use Prim.Native.Nat.{ℕ}
 use Rattle.words.specs.Words.{number_at}
 use Rattle.entries.specs.Types.{TaskParameters}
 use Rattle.entries.specs.Entries.{task_at}
-use borrow.Author.Rules.{rules}
 use Rattle.entries.proofs.front_task.Goals as goal
 
 module _ (s : List ℕ) (number priority mark copyin execution copyout : ℕ) where

@@ -1,6 +1,5 @@
 -- `entries::put_release` meets its contract: an entry of its kind. Assumes nothing.
 use Rattle.entries.specs.Entries.{release_bytes}
-use borrow.Author.Rules.{rules}
 use Rattle.entries.proofs.put_release.Goals as goal
 
 pub returns : goal.returns

@@ -1,6 +1,5 @@
 -- `entries::put_skipped` meets its contract: an entry of its kind. Assumes nothing.
 use Rattle.entries.specs.Entries.{skipped_bytes}
-use borrow.Author.Rules.{rules}
 use Rattle.entries.proofs.put_skipped.Goals as goal
 
 pub returns : goal.returns

@@ -1,7 +1,6 @@
 -- `exports_instants::gateway_commit_v5` meets its contract: by the ticket. Assumes nothing.
 use Rattle.rules.specs.Kept.{kept, beside, by_task}
 use Rattle.exports_instants.proofs.Keeping.{not_present, present}
-use borrow.Author.Rules.{rules}
 use Rattle.exports_instants.proofs.gateway_commit_v5.Goals as goal
 
 pub returns-then-given-present : goal.returns-then-given-present

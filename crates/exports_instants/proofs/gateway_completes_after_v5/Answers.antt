@@ -2,7 +2,6 @@
 use mathlib.Core.Path.{◌∙◌, ap}
 use mathlib.Core.Bool.{Bool}
 use lib.ListN.{get_or}
-use borrow.Author.Rules.{rules}
 use Rattle.guarantees.specs.Figure.{completes_after}
 use Rattle.exports_instants.proofs.gateway_completes_after_v5.Goals as goal
 

@@ -1,7 +1,6 @@
 -- `exports_instants::gateway_enquire_v5` meets its contract: the instant of a copy, and what goes on then. Assumes nothing.
 use Rattle.rules.specs.Kept.{kept, beside, by_task}
 use Rattle.exports_instants.proofs.Keeping.{not_shown, looked}
-use borrow.Author.Rules.{rules}
 use Rattle.exports_instants.proofs.gateway_enquire_v5.Goals as goal
 
 pub returns-then-number-ne0 : goal.returns-then-number-ne0

@@ -1,7 +1,6 @@
 -- `exports_instants::gateway_instant_v5` meets its contract: the refusals in their order, then the steps. Assumes nothing.
 use Rattle.rules.specs.Kept.{kept, beside, by_task}
 use Rattle.exports_instants.proofs.Keeping.{refused_at, served_at}
-use borrow.Author.Rules.{rules}
 use Rattle.exports_instants.proofs.gateway_instant_v5.Goals as goal
 
 pub returns-then-number-ne0 : goal.returns-then-number-ne0

@@ -2,7 +2,6 @@
 use Rattle.guarantees.specs.Types.{Mark}
 use Rattle.rules.specs.Kept.{kept}
 use Rattle.exports_instants.proofs.Keeping.{mark_refused_at, marked_at}
-use borrow.Author.Rules.{rules}
 use Rattle.exports_instants.proofs.gateway_mark_v5.Goals as goal
 
 pub returns-then-number-ne0 : goal.returns-then-number-ne0

@@ -3,7 +3,6 @@ use mathlib.Core.Path.{ap, ◌∙◌}
 use mathlib.Core.List.{[], ◌∷◌}
 use Rattle.rules.specs.declared.View.{View}
 use Rattle.views.specs.Showing.{ticks_of, units_of}
-use borrow.Author.Rules.{rules}
 use Rattle.exports_instants.proofs.gateway_now_v5.Goals as goal
 
 pub returns : goal.returns

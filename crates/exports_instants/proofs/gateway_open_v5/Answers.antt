@@ -3,7 +3,6 @@ use mathlib.Core.Path.{sym, ap, ap₂}
 use Rattle.table.specs.Refusals.{refusal_number}
 use Rattle.rules.specs.Kept.{read}
 use Rattle.exports_instants.proofs.Keeping.{opened_at, not_opened_at, is_alone, is_at_entry}
-use borrow.Author.Rules.{rules}
 use Rattle.exports_instants.proofs.gateway_open_v5.Goals as goal
 
 pub returns-in-NoRefusal : goal.returns-in-NoRefusal

@@ -4,7 +4,6 @@ use mathlib.Core.List.{List}
 use Prim.Native.Nat.{ℕ}
 use Rattle.record.specs.declared.Outcome.{Outcome}
 use Rattle.reading.specs.Acceptance.{Accepts}
-use borrow.Author.Rules.{rules}
 use Rattle.record.specs.Writing.{outcome_number, outcome_value}
 use Rattle.exports_reading.proofs.gateway_read.Goals as goal
 
@@ -14,10 +13,9 @@ as_read {tasks = tasks} {stored = stored} {before = before} {after = after} e h 
 pub returns : goal.returns
 returns c =
     let read = c.read-outcome.ensures in
-    let wrote = read.read in (
-      c.number_of.ensures ∙ ap outcome_number wrote.outcome_is,
-      (
-        c.value_of.ensures ∙ ap outcome_value wrote.outcome_is,
-        (wrote.holds, as_read wrote.outcome_is read.accepts),
-      ),
-    )
+    let wrote = read.read in record {
+      value = c.number_of.ensures ∙ ap outcome_number wrote.outcome_is;
+      value_after = c.value_of.ensures ∙ ap outcome_value wrote.outcome_is;
+      out_after = wrote.holds;
+      accepts = as_read wrote.outcome_is read.accepts;
+    }

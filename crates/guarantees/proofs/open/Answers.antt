@@ -1,6 +1,5 @@
 -- `guarantees::open` meets its contract: opening, with demand 3. Assumes nothing.
 use mathlib.Core.Path.{◌≡◌, sym, ap, ◌∙◌, subst}
-use borrow.Author.Rules.{rules}
 use Rattle.table.specs.Refusals.{refusal_number, refusal_place}
 use Rattle.rules.specs.Calls.{opening}
 use Rattle.dispatcher.specs.declared.Opening as dispatcher

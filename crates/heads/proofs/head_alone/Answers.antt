@@ -1,7 +1,6 @@
 -- `heads::head_alone` meets its contract: by what the head was read to. Assumes nothing.
 use borrow.Author.Tests.{eq-eqb, ne_eqb}
 use Rattle.table.specs.Head.{head_alone}
-use borrow.Author.Rules.{rules}
 use Rattle.heads.proofs.head_alone.Goals as goal
 
 pub returns-then-s-eq0 : goal.returns-then-s-eq0

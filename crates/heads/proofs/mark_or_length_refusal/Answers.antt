@@ -1,7 +1,6 @@
 -- `heads::mark_or_length_refusal` meets its contract: by the tests on the way to each answer. Assumes nothing.
 use borrow.Author.Tests.{lt-ltb, le-ltb}
 use Rattle.table.specs.Head.{mark_or_length_refusal}
-use borrow.Author.Rules.{rules}
 use Rattle.heads.proofs.mark_or_length_refusal.Goals as goal
 
 pub returns-then-p-gt1 : goal.returns-then-p-gt1

@@ -1,7 +1,6 @@
 -- `heads::number_refused` meets its contract: by its test. Assumes nothing.
 use borrow.Author.Tests.{le-leb, lt-leb}
 use Rattle.table.specs.Head.{number_refused}
-use borrow.Author.Rules.{rules}
 use Rattle.heads.proofs.number_refused.Goals as goal
 
 pub returns-then-n-ge-TASKS : goal.returns-then-n-ge-TASKS

@@ -1,5 +1,4 @@
 -- `heads::spacing_refusal` meets its contract: by the tests on the way to each answer. Assumes nothing.
-use borrow.Author.Rules.{rules}
 use Rattle.table.specs.Head.{spacing_refusal}
 use Rattle.std.proofs.Common.{ap, not}
 use Rattle.heads.proofs.spacing_refusal.Goals as goal

@@ -1,6 +1,5 @@
 -- `heads::task_refusal` meets its contract: by the tests on the way to each answer. Assumes nothing.
 use borrow.Author.Tests.{eq-eqb, ne_eqb}
-use borrow.Author.Rules.{rules}
 use Rattle.table.specs.Head.{task_refusal}
 use Rattle.heads.proofs.task_refusal.Goals as goal
 

@@ -1,6 +1,5 @@
 -- `heads::ticks_refused` meets its contract: by the tests on the way to each answer. Assumes nothing.
 use borrow.Author.Tests.{eq-eqb, ne_eqb, lt-ltb, le-ltb}
-use borrow.Author.Rules.{rules}
 use Rattle.table.specs.Head.{ticks_refused}
 use Rattle.heads.proofs.ticks_refused.Goals as goal
 

@@ -1,7 +1,6 @@
 -- `heads::with_marked` meets its contract: by its test. Assumes nothing.
 use borrow.Author.Tests.{eq-eqb, ne_eqb}
 use Rattle.table.specs.Head.{with_marked}
-use borrow.Author.Rules.{rules}
 use Rattle.heads.proofs.with_marked.Goals as goal
 
 pub returns-then-p-eq1 : goal.returns-then-p-eq1

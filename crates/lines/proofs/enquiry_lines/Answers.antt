@@ -1,5 +1,4 @@
 -- `lines::enquiry_lines` meets its contract: by cases. Assumes nothing.
-use borrow.Author.Rules.{rules}
 use Rattle.lines.proofs.enquiry_lines.Goals as goal
 
 pub returns-in-Refused : goal.returns-in-Refused

@@ -1,7 +1,6 @@
 -- `lines::interval_line` meets its contract. Assumes nothing.
 use native.Mathlib.Omega.{arith}
 use Rattle.lines.proofs.Laws.{printed}
-use borrow.Author.Rules.{rules}
 use Rattle.lines.proofs.interval_line.Goals as goal
 
 pub returns : goal.returns

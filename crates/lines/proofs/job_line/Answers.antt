@@ -1,7 +1,6 @@
 -- `lines::job_line` meets its contract. Assumes nothing.
 use native.Mathlib.Omega.{arith}
 use Rattle.lines.proofs.Laws.{printed}
-use borrow.Author.Rules.{rules}
 use Rattle.lines.proofs.job_line.Goals as goal
 
 pub returns : goal.returns

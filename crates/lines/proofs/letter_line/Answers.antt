@@ -1,7 +1,6 @@
 -- `lines::letter_line` meets its contract. Assumes nothing.
 use Rattle.lines.proofs.Laws.{printed, ◌then◌}
 use native.Mathlib.Omega.{arith}
-use borrow.Author.Rules.{rules}
 use Rattle.lines.proofs.letter_line.Goals as goal
 
 pub returns : goal.returns

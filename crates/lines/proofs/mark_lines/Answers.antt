@@ -1,5 +1,4 @@
 -- `lines::mark_lines` meets its contract: by cases. Assumes nothing.
-use borrow.Author.Rules.{rules}
 use Rattle.lines.proofs.mark_lines.Goals as goal
 
 pub returns-in-MarkRefused : goal.returns-in-MarkRefused

@@ -1,5 +1,4 @@
 -- `lines::opening_lines` meets its contract: by cases. Assumes nothing.
-use borrow.Author.Rules.{rules}
 use Rattle.lines.proofs.opening_lines.Goals as goal
 
 pub returns-in-NoRefusal : goal.returns-in-NoRefusal

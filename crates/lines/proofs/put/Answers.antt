@@ -2,10 +2,10 @@
 -- Assumes nothing.
 use mathlib.Core.Path.{◌≡◌, refl, ap, ◌∙◌}
 use mathlib.Core.List.{List, ◌++◌}
-use Prim.Native.Nat.{ℕ, ◌-◌, ◌≤◌}
+use Prim.Native.Nat.{ℕ}
 use native.Mathlib.Omega.{arith}
 use borrow.Author.Rules.{rules}
-use lib.ListN.{length, get_or, take, drop, set, length-set}
+use lib.ListN.{get_or, take, drop, set, length-set}
 use Rattle.lines.proofs.Laws.{copied, all_copied, too_short}
 use Rattle.lines.proofs.put.Goals as goal
 

@@ -2,7 +2,6 @@
 use native.Mathlib.Omega.{arith}
 use Rattle.lines.specs.Lines.{refused_input_line}
 use Rattle.lines.proofs.Laws.{printed, ◌then◌}
-use borrow.Author.Rules.{rules}
 use Rattle.lines.proofs.refused_input_line.Goals as goal
 
 pub returns : goal.returns

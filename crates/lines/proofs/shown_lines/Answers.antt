@@ -5,7 +5,6 @@ use Rattle.entries.proofs.Each.{each_both}
 use Rattle.rules.specs.Entries.{done_entries, closed_entries}
 use Rattle.lines.specs.Lines.{line_of, shown_lines}
 use Rattle.lines.proofs.Laws.{printed, ◌then◌}
-use borrow.Author.Rules.{rules}
 use Rattle.lines.proofs.shown_lines.Goals as goal
 
 pub returns : goal.returns

@@ -2,7 +2,6 @@
 use native.Mathlib.Omega.{arith}
 use Rattle.lines.specs.Lines.{timed_line}
 use Rattle.lines.proofs.Laws.{printed, ◌then◌}
-use borrow.Author.Rules.{rules}
 use Rattle.lines.proofs.timed_line.Goals as goal
 
 pub returns : goal.returns

@@ -1,14 +1,10 @@
 -- `pieces::next_piece` meets its contract: each instant goes on with the piece, until the run's end, the budget's or that of the room. Assumes nothing.
-use mathlib.Core.Path.{◌≡◌, refl, ap, ◌∙◌}
-use mathlib.Core.Bool.{false}
-use mathlib.Core.Logic.{⊎_elim, inl, inr}
+use mathlib.Core.Path.{refl, ap, ◌∙◌}
+use mathlib.Core.Logic.{inl, inr}
 use native.Mathlib.Omega.{arith}
-use lib.ListN.{length}
-use Rattle.rules.specs.Kept.{kept, by_task, beside}
-use Rattle.dispatcher.specs.Dispatcher.{state_of}
+use Rattle.rules.specs.Kept.{beside}
 use Rattle.run.proofs.Slices.{rest_same}
-use Rattle.pieces.proofs.Reaching.{Reached, begins, at_last, reads, puts, moves, same_kept, same_by_task, ends, stops}
-use borrow.Author.Rules.{rules}
+use Rattle.pieces.proofs.Reaching.{begins, at_last, reads, puts, moves, same_kept, same_by_task, ends, stops}
 use Rattle.pieces.proofs.next_piece.Goals as goal
 use Rattle.pieces.proofs.next_piece.Goals.{else-loop-left-test, then-loop-left-test+then-out-size-lt-INSTANT_MOST, then-loop-left-test+else-out-size-lt-INSTANT_MOST+then-x}
 
@@ -54,16 +50,16 @@ returns c =
     let d = c.args.d in
     let others = beside d.priority d.columns in
     elim c.loop-left-test.branch [
-      else-loop-left-test w ↦
-        stops d v.invariant.0 (same_kept w.times-is w.sets-is w.codes-is) (ap others (same_by_task w.release-is w.blocked-is w.waits-is)) w.out-is
-        (w.ended-is ∙ v.invariant.1) w.left-is (inl (w.left-is ∙ w.loop-left-test.false))
+      | else-loop-left-test w ↦
+          stops d v.invariant.0 (same_kept w.times-is w.sets-is w.codes-is) (ap others (same_by_task w.release-is w.blocked-is w.waits-is)) w.out-is
+          (w.ended-is ∙ v.invariant.1) w.left-is (inl (w.left-is ∙ w.loop-left-test.false))
       | then-loop-left-test+then-out-size-lt-INSTANT_MOST w ↦
-        stops d v.invariant.0 (same_kept w.times-is w.sets-is w.codes-is) (ap others (same_by_task w.release-is w.blocked-is w.waits-is)) w.out-is
-        (w.ended-is ∙ v.invariant.1) w.left-is (inr (omega (arith, w.if-out-size-lt-INSTANT_MOST.true, v.invariant.0.same, v.invariant.0.fits)))
+          stops d v.invariant.0 (same_kept w.times-is w.sets-is w.codes-is) (ap others (same_by_task w.release-is w.blocked-is w.waits-is)) w.out-is
+          (w.ended-is ∙ v.invariant.1) w.left-is (inr (omega (arith, w.if-out-size-lt-INSTANT_MOST.true, v.invariant.0.same, v.invariant.0.fits)))
       | then-loop-left-test+else-out-size-lt-INSTANT_MOST+then-x w ↦
-        let made = w.advance-x.ensures in
-        let stop = made.ended w.if-x.true in
-        ends d v.invariant.0 (same_kept w.times-is w.sets-is w.codes-is ∙ stop.numbers_are) (ap others (same_by_task w.release-is w.blocked-is w.waits-is) ∙ stop.beside_is)
-        (w.out-is ∙ rest_same v.size v.out _ stop.slice_is)
-        w.ended-is w.left-is (at_last v.invariant.0 made w.if-x.true)
+          let made = w.advance-x.ensures in
+          let stop = made.ended w.if-x.true in
+          ends d v.invariant.0 (same_kept w.times-is w.sets-is w.codes-is ∙ stop.numbers_are) (ap others (same_by_task w.release-is w.blocked-is w.waits-is) ∙ stop.beside_is)
+          (w.out-is ∙ rest_same v.size v.out _ stop.slice_is)
+          w.ended-is w.left-is (at_last v.invariant.0 made w.if-x.true)
     ]

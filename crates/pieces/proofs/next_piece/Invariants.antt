@@ -1,13 +1,8 @@
-use mathlib.Core.Path.{◌≡◌, refl, ap, ◌∙◌}
+use mathlib.Core.Path.{◌≡◌}
 use mathlib.Core.Bool.{false}
-use mathlib.Core.Logic.{⊎_elim, inl, inr}
-use native.Mathlib.Omega.{arith}
-use lib.ListN.{length}
 use Rattle.rules.specs.Kept.{kept, by_task, beside}
 use Rattle.dispatcher.specs.Dispatcher.{state_of}
-use Rattle.run.proofs.Slices.{rest_same}
-use Rattle.pieces.proofs.Reaching.{Reached, begins, at_last, reads, puts, moves, same_kept, same_by_task, ends, stops}
-use borrow.Author.Rules.{rules}
+use Rattle.pieces.proofs.Reaching.{Reached}
 use Rattle.pieces.proofs.next_piece.Given as goal
 
 abbrev pub invariant-loop-left : goal.invariant-loop-left

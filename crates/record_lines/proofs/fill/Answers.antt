@@ -1,10 +1,7 @@
 -- `record_lines::fill` meets its contract. The loop's invariant: the slice holds the lines of the entries passed. The measure is how many
 -- bytes of the record are left. Assumes nothing.
-use mathlib.Core.Path.{◌≡◌, refl}
-use Prim.Native.Nat.{◌-◌}
+use mathlib.Core.Path.{refl}
 use native.Mathlib.Omega.{arith}
-use lib.ListN.{length}
-use Rattle.record_lines.specs.Lines.{HoldsLines}
 use Rattle.record_lines.proofs.Filling.{none_yet, goes_on, turned, stopped}
 use borrow.Author.Rules.{rules}
 use Rattle.record_lines.proofs.fill.Goals as goal

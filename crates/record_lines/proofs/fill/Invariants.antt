@@ -1,10 +1,7 @@
-use mathlib.Core.Path.{◌≡◌, refl}
+use mathlib.Core.Path.{◌≡◌}
 use Prim.Native.Nat.{◌-◌}
-use native.Mathlib.Omega.{arith}
 use lib.ListN.{length}
 use Rattle.record_lines.specs.Lines.{HoldsLines}
-use Rattle.record_lines.proofs.Filling.{none_yet, goes_on, turned, stopped}
-use borrow.Author.Rules.{rules}
 use Rattle.record_lines.proofs.fill.Given as goal
 
 abbrev pub invariant-loop-line : goal.invariant-loop-line

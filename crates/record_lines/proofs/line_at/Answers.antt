@@ -8,7 +8,6 @@ use Rattle.record_lines.specs.Types.{RecordEntry}
 use Rattle.lines.specs.Lines.{line_of}
 use Rattle.record_lines.specs.Lines.{entry_line, entry_size}
 use Rattle.record_lines.proofs.Laws.{size_fits}
-use borrow.Author.Rules.{rules}
 use Rattle.record_lines.proofs.line_at.Goals as goal
 
 pub overflow_add-result : goal.overflow_add-result

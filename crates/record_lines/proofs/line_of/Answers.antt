@@ -1,5 +1,4 @@
 -- `record_lines::line_of` meets its contract: by the entry's kind. Assumes nothing.
-use borrow.Author.Rules.{rules}
 use Rattle.record_lines.proofs.line_of.Goals as goal
 
 pub returns-in-MalformedRecord : goal.returns-in-MalformedRecord

@@ -1,5 +1,4 @@
 -- `sets::contains` meets its contract: `& 1` is the remainder by 2, and a mask has no bit past its 32. Assumes nothing.
-use borrow.Author.Rules.{rules}
 use mathlib.Core.Path.{sym}
 use Rattle.sets.proofs.Laws.{none_past}
 use Rattle.sets.proofs.Masks.{is_member}

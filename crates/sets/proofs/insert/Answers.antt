@@ -1,5 +1,4 @@
 -- `sets::insert` meets its contract: `|` with one bit, and no change past the 32. Assumes nothing.
-use borrow.Author.Rules.{rules}
 use Rattle.sets.proofs.Masks.{or_insert, insert_past}
 use Rattle.sets.proofs.insert.Goals as goal
 

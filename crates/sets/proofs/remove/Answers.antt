@@ -1,5 +1,4 @@
 -- `sets::remove` meets its contract: `&` with every bit but one, and no change past the 32. Assumes nothing.
-use borrow.Author.Rules.{rules}
 use Rattle.sets.proofs.Masks.{and_remove, remove_past}
 use Rattle.sets.proofs.remove.Goals as goal
 

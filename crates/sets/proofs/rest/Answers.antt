@@ -1,5 +1,4 @@
 -- `sets::rest` meets its contract: a set and one less have in common all members but the lowest. Assumes nothing.
-use borrow.Author.Rules.{rules}
 use Rattle.sets.proofs.Masks.{and_rest, rest_none}
 use Rattle.sets.proofs.rest.Goals as goal
 

@@ -1,5 +1,4 @@
 -- `views::show` meets its contract: by whether an interval is open. Assumes nothing.
-use borrow.Author.Rules.{rules}
 use Rattle.views.proofs.show.Goals as goal
 
 pub returns-then-codes-eq-NO_INTERVAL : goal.returns-then-codes-eq-NO_INTERVAL

@@ -3,7 +3,6 @@ use mathlib.Core.Path.{refl}
 use lib.ListN.{get_or}
 use Rattle.rules.specs.Kept.{kept}
 use Rattle.views.proofs.Views.{none_goes_on}
-use borrow.Author.Rules.{rules}
 use Rattle.views.proofs.show_none.Goals as goal
 
 pub returns : goal.returns

@@ -6,7 +6,6 @@ use lib.Dec.{eqb}
 use lib.ListN.{get_or}
 use Rattle.rules.specs.Kept.{kept}
 use Rattle.views.proofs.Views.{one_goes_on, three_stored}
-use borrow.Author.Rules.{rules}
 use Rattle.views.proofs.show_open.Goals as goal
 
 pub returns : goal.returns

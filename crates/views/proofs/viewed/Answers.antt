@@ -3,7 +3,6 @@ use mathlib.Core.Path.{ap, ◌∙◌}
 use Rattle.rules.specs.Kept.{kept}
 use Rattle.views.specs.Showing.{ticks_of, units_of}
 use Rattle.views.proofs.Views.{of_arrays}
-use borrow.Author.Rules.{rules}
 use Rattle.views.proofs.viewed.Goals as goal
 
 pub returns : goal.returns

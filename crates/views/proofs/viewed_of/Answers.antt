@@ -1,5 +1,4 @@
 -- `views::viewed_of` meets its contract. Assumes nothing.
-use borrow.Author.Rules.{rules}
 use Rattle.views.proofs.viewed_of.Goals as goal
 
 pub returns : goal.returns

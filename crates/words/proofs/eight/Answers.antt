@@ -1,7 +1,6 @@
 -- `words::eight` meets its contract: a number of eight bytes is its two parts. Assumes nothing.
 use native.Mathlib.Omega.{arith}
 use Rattle.words.proofs.Laws.{parts}
-use borrow.Author.Rules.{rules}
 use Rattle.words.proofs.eight.Goals as goal
 
 pub returns : goal.returns

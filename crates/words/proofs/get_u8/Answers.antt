@@ -1,7 +1,6 @@
 -- `words::get_u8` meets its contract: the byte at a place is the number of one byte there. Assumes nothing.
 use mathlib.Core.Path.{sym}
 use Rattle.words.proofs.Laws.{one_byte, past}
-use borrow.Author.Rules.{rules}
 use Rattle.words.proofs.get_u8.Goals as goal
 
 pub returns-then-at-s : goal.returns-then-at-s

@@ -1,10 +1,6 @@
-use borrow.Author.Rules.{rules}
-use native.Mathlib.Omega.{arith}
-use Prim.Native.Nat.{ℕ, ◌+◌, ◌-◌, ◌≤◌}
-use mathlib.Core.Path.{◌≡◌, subst}
+use Prim.Native.Nat.{◌≤◌}
 use lib.ListN.{length}
 use Rattle.words.specs.Words.{LeftAt}
-use Rattle.words.proofs.Laws.{left_none, left_more}
 use Rattle.words.proofs.left.Given as goal
 
 abbrev pub invariant-loop-i : goal.invariant-loop-i

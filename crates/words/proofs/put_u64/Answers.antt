@@ -3,7 +3,6 @@ use native.Mathlib.Omega.{arith}
 use lib.ListN.{length-set}
 use Rattle.words.specs.Words.{bytes_of}
 use Rattle.words.proofs.Laws.{stored, too_short}
-use borrow.Author.Rules.{rules}
 use Rattle.words.proofs.put_u64.Goals as goal
 
 pub returns-then-out-lt8 : goal.returns-then-out-lt8

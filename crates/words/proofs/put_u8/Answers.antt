@@ -2,7 +2,6 @@
 use native.Mathlib.Nat.{mod-eq_of_lt}
 use Rattle.words.specs.Words.{bytes_of}
 use Rattle.words.proofs.Laws.{stored, too_short}
-use borrow.Author.Rules.{rules}
 use Rattle.words.proofs.put_u8.Goals as goal
 
 pub returns-then-out-lt1 : goal.returns-then-out-lt1

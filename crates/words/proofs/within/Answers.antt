@@ -5,7 +5,6 @@ use native.Mathlib.Omega.{arith}
 use borrow.Author.Tests.{lt-leb}
 use lib.ListN.{length}
 use Rattle.words.proofs.Laws.{after}
-use borrow.Author.Rules.{rules}
 use Rattle.words.proofs.within.Goals as goal
 
 pub returns-then-at-s : goal.returns-then-at-s

@@ -1,5 +1,5 @@
 -- `dispatcher::Dispatcher::commit` meets its contract: by the ticket. Assumes nothing.
-use Rattle.std.proofs.Common.{rules, eq-eqb, ne_eqb}
+use Rattle.std.proofs.Common.{eq-eqb, ne_eqb}
 use Rattle.dispatcher.proofs.Numbered.{committed, not_committed}
 use Rattle.dispatcher.proofs.Dispatcher.commit.Goals as goal
 

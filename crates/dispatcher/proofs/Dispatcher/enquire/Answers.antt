@@ -1,6 +1,5 @@
 -- `dispatcher::Dispatcher::enquire` meets its contract: the instant of a copy, and the ticket. Assumes nothing.
 use Rattle.dispatcher.proofs.Numbered.{enquired}
-use Rattle.std.proofs.Common.{rules}
 use Rattle.dispatcher.proofs.Dispatcher.enquire.Goals as goal
 
 pub returns : goal.returns

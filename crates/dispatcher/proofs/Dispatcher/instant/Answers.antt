@@ -1,7 +1,7 @@
 -- `dispatcher::Dispatcher::instant` meets its contract: a call that meets no row is served, and one that meets one is refused with the state as it was. Assumes nothing.
-use Rattle.std.proofs.Common.{sym, refl, ◌∙◌, rules, eq-eqb, ne_eqb}
+use Rattle.std.proofs.Common.{sym, refl, ◌∙◌, eq-eqb, ne_eqb}
 use Rattle.rules.specs.Calls.{instant}
-use Rattle.dispatcher.specs.Dispatcher.{state_of, beside_of}
+use Rattle.dispatcher.specs.Dispatcher.{beside_of}
 use Rattle.dispatcher.proofs.Numbered.{answered}
 use Rattle.dispatcher.proofs.Dispatcher.instant.Goals as goal
 

@@ -1,5 +1,5 @@
 -- `dispatcher::Dispatcher::mark` meets its contract: a call that meets no row sets the mark, and one that meets one is refused with the state as it was. Assumes nothing.
-use Rattle.std.proofs.Common.{sym, refl, ◌∙◌, rules, eq-eqb, ne_eqb}
+use Rattle.std.proofs.Common.{sym, refl, ◌∙◌, eq-eqb, ne_eqb}
 use Rattle.rules.specs.Calls.{mark}
 use Rattle.dispatcher.specs.Dispatcher.{beside_of}
 use Rattle.dispatcher.proofs.Numbered.{mark_answered}

@@ -1,5 +1,5 @@
 -- `dispatcher::answering::closing_in` meets its contract: by its number. Assumes nothing.
-use Rattle.std.proofs.Common.{rules, eq-eqb, ne_eqb}
+use Rattle.std.proofs.Common.{eq-eqb, ne_eqb}
 use Rattle.dispatcher.proofs.answering.closing_in.Goals as goal
 
 pub returns-then-number-eq0 : goal.returns-then-number-eq0

@@ -1,5 +1,5 @@
 -- `dispatcher::answering::done_in` meets its contract: by whether there is one. Assumes nothing.
-use Rattle.std.proofs.Common.{rules, eq-eqb, ne_eqb}
+use Rattle.std.proofs.Common.{eq-eqb, ne_eqb}
 use Rattle.dispatcher.proofs.answering.done_in.Goals as goal
 
 pub returns-then-told-eq0 : goal.returns-then-told-eq0

@@ -1,6 +1,5 @@
 -- `dispatcher::answering::interval_in` meets its contract: field by field. Assumes nothing.
 use Rattle.dispatcher.specs.Telling.{interval_in}
-use Rattle.std.proofs.Common.{rules}
 use Rattle.dispatcher.proofs.answering.interval_in.Goals as goal
 
 pub returns : goal.returns

@@ -1,5 +1,4 @@
 -- `dispatcher::answering::job_in` meets its contract: field by field. Assumes nothing.
-use Rattle.std.proofs.Common.{rules}
 use Rattle.dispatcher.proofs.answering.job_in.Goals as goal
 
 pub returns : goal.returns

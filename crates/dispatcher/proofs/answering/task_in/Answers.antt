@@ -1,5 +1,5 @@
 -- `dispatcher::answering::task_in` meets its contract: by whether the word is a byte. Assumes nothing.
-use Rattle.std.proofs.Common.{rules, le-ltb, lt-ltb}
+use Rattle.std.proofs.Common.{le-ltb, lt-ltb}
 use Rattle.dispatcher.proofs.answering.task_in.Goals as goal
 
 pub returns-then-word-lt256 : goal.returns-then-word-lt256

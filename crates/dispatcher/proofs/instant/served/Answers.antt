@@ -1,5 +1,5 @@
 -- `dispatcher::instant::served` meets its contract: the steps, and what occurred read back. Assumes nothing.
-use Rattle.std.proofs.Common.{◌∙◌, rules}
+use Rattle.std.proofs.Common.{◌∙◌}
 use Rattle.dispatcher.specs.Dispatcher.{state_of}
 use Rattle.dispatcher.proofs.Numbered.{is_served}
 use Rattle.dispatcher.proofs.instant.served.Goals as goal

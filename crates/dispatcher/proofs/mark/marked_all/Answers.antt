@@ -1,5 +1,5 @@
 -- `dispatcher::marked_all` meets its contract: by whether there is a task, and whether the mark is 1. Assumes nothing.
-use Rattle.std.proofs.Common.{rules, eq-eqb, ne_eqb}
+use Rattle.std.proofs.Common.{eq-eqb, ne_eqb}
 use Rattle.dispatcher.proofs.Marking.{marks, no_marks}
 use Rattle.dispatcher.proofs.mark.marked_all.Goals as goal
 

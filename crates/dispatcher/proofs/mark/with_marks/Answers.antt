@@ -1,6 +1,5 @@
 -- `dispatcher::mark::with_marks` meets its contract: the sets with the marks, the next ticket, and all else as it was. Assumes nothing.
 use Rattle.dispatcher.specs.Dispatcher.{beside_of}
-use Rattle.std.proofs.Common.{rules}
 use Rattle.dispatcher.proofs.mark.with_marks.Goals as goal
 
 pub returns : goal.returns

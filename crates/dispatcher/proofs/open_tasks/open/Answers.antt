@@ -1,6 +1,5 @@
 -- `dispatcher::open` meets its contract: what opens is made of the head. Assumes nothing.
 use Rattle.rules.specs.Calls.{opening}
-use Rattle.std.proofs.Common.{rules}
 use Rattle.dispatcher.proofs.open_tasks.open.Goals as goal
 
 pub returns : goal.returns

@@ -1,5 +1,5 @@
 -- `dispatcher::refusing::mark_refusal` meets its contract: the tests in their order, each with those before it failed. Assumes nothing.
-use Rattle.std.proofs.Common.{rules, le-ltb, lt-ltb}
+use Rattle.std.proofs.Common.{le-ltb, lt-ltb}
 use borrow.Author.Tests.{not-true, not-false}
 use Rattle.rules.specs.Calls.{mark_refusal}
 use Rattle.rules.specs.Registers.{state_in}

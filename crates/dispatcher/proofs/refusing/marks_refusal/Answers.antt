@@ -1,5 +1,5 @@
 -- `dispatcher::refusing::marks_refusal` meets its contract: the tests in their order, each with those before it failed. Assumes nothing.
-use Rattle.std.proofs.Common.{rules, le-ltb, lt-ltb, eq-eqb, ne_eqb}
+use Rattle.std.proofs.Common.{le-ltb, lt-ltb, eq-eqb, ne_eqb}
 use Rattle.rules.specs.Calls.{unknown, marks_refusal}
 use Rattle.rules.specs.Registers.{state_in}
 use Rattle.dispatcher.proofs.refusing.marks_refusal.Goals as goal

@@ -1,5 +1,5 @@
 -- `dispatcher::refusing::not_after` meets its contract: by whether there was an instant. Assumes nothing.
-use Rattle.std.proofs.Common.{rules, eq-eqb, ne_eqb}
+use Rattle.std.proofs.Common.{eq-eqb, ne_eqb}
 use Rattle.dispatcher.proofs.refusing.not_after.Goals as goal
 
 pub returns-then-codes-eq0 : goal.returns-then-codes-eq0

@@ -1,5 +1,5 @@
 -- `dispatcher::refusing::refusal` meets its contract: the tests in their order, each with those before it failed. Assumes nothing.
-use Rattle.std.proofs.Common.{◌≡◌, ℕ, Bool, not, ◌&&◌, ap, ◌∙◌, rules, le-ltb, lt-ltb, eq-eqb, ne_eqb}
+use Rattle.std.proofs.Common.{◌≡◌, ℕ, Bool, not, ◌&&◌, ap, ◌∙◌, le-ltb, lt-ltb, eq-eqb, ne_eqb}
 use Rattle.sets.specs.Sets.{member, difference}
 use Rattle.sets.proofs.Laws.{none, empty, difference_member, difference_small}
 use Rattle.rules.specs.Calls.{refusal, unknown}

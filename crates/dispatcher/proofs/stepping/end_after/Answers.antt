@@ -1,5 +1,5 @@
 -- `dispatcher::stepping::end_after` meets its contract: the choice is made, and the interval closes where it is at its end. Assumes nothing.
-use Rattle.std.proofs.Common.{refl, rules}
+use Rattle.std.proofs.Common.{refl}
 use Rattle.rules.specs.Kept.{kept, beside, by_task}
 use Rattle.rules.proofs.Instants.{stays, closes_with, none_ends, behind}
 use Rattle.dispatcher.proofs.Composing.{closes_after, stays_after}

@@ -1,5 +1,5 @@
 -- `dispatcher::stepping::end_copyout` meets its contract: the job is told and completed, or none is. Assumes nothing.
-use Rattle.std.proofs.Common.{sym, refl, ap, ◌∙◌, rules}
+use Rattle.std.proofs.Common.{sym, ◌∙◌}
 use Rattle.rules.specs.Kept.{kept, beside, by_task}
 use Rattle.rules.proofs.Kept.{no_job_done}
 use Rattle.dispatcher.proofs.Composing.{job_ends, no_job_ends}

@@ -1,7 +1,6 @@
 -- `dispatcher::stepping::steps` meets its contract: the steps, one behind the other. Assumes nothing.
 use Rattle.rules.specs.Kept.{kept, beside, by_task}
 use Rattle.dispatcher.proofs.Composing.{composed}
-use Rattle.std.proofs.Common.{rules}
 use Rattle.dispatcher.proofs.stepping.steps.Goals as goal
 
 pub returns : goal.returns

@@ -1,5 +1,5 @@
 -- `dispatcher::telling::copyin_word` meets its contract: by whether a job was chosen. Assumes nothing.
-use Rattle.std.proofs.Common.{get_or, arith, rules, ne_eqb}
+use Rattle.std.proofs.Common.{get_or, arith, ne_eqb}
 use Rattle.rules.proofs.Parts.{copies_in}
 use Rattle.dispatcher.proofs.ReadBack.{word_of, no_word, no_copyin}
 use Rattle.dispatcher.proofs.telling.copyin_word.Goals as goal

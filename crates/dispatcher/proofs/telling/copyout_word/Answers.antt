@@ -1,5 +1,5 @@
 -- `dispatcher::telling::copyout_word` meets its contract: by whether there is a copy-out. Assumes nothing.
-use Rattle.std.proofs.Common.{get_or, rules, ne_eqb}
+use Rattle.std.proofs.Common.{get_or, ne_eqb}
 use Rattle.rules.proofs.Parts.{copies_out}
 use Rattle.dispatcher.proofs.ReadBack.{word_of, no_word, no_copyout}
 use Rattle.dispatcher.proofs.telling.copyout_word.Goals as goal

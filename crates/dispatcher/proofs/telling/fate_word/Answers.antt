@@ -1,5 +1,5 @@
 -- `dispatcher::telling::fate_word` meets its contract: by the kind. Assumes nothing.
-use Rattle.std.proofs.Common.{get_or, ◌∙◌, arith, rules}
+use Rattle.std.proofs.Common.{get_or, ◌∙◌, arith}
 use Rattle.rules.proofs.Parts.{no_fate_yet, fate_so_far}
 use Rattle.dispatcher.proofs.telling.fate_word.Goals as goal
 

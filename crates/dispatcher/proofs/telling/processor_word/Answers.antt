@@ -1,5 +1,5 @@
 -- `dispatcher::telling::processor_word` meets its contract: by whether the processor idled. Assumes nothing.
-use Rattle.std.proofs.Common.{get_or, rules, ne_eqb}
+use Rattle.std.proofs.Common.{get_or, ne_eqb}
 use Rattle.rules.proofs.Parts.{executes}
 use Rattle.dispatcher.proofs.ReadBack.{word_of, no_word, idles}
 use Rattle.dispatcher.proofs.telling.processor_word.Goals as goal

@@ -1,6 +1,5 @@
 -- `dispatcher::telling::promoted_word` meets its contract: by whether it is a task. Assumes nothing.
 use Rattle.dispatcher.proofs.ReadBack.{word_of, no_word, is_task, is_none}
-use Rattle.std.proofs.Common.{rules}
 use Rattle.dispatcher.proofs.telling.promoted_word.Goals as goal
 
 pub returns-then-n-lt-NO_TASK : goal.returns-then-n-lt-NO_TASK

@@ -1,6 +1,5 @@
 -- `dispatcher::telling::tell_due` meets its contract: by the tick, and at the last one by whether a phase is under way. Assumes nothing.
 use Rattle.dispatcher.proofs.Due.{tells_tick, tells_some, tells_none}
-use Rattle.std.proofs.Common.{rules}
 use Rattle.dispatcher.proofs.telling.tell_due.Goals as goal
 
 pub returns-then-tick : goal.returns-then-tick

@@ -1,6 +1,5 @@
 -- `dispatcher::telling::tell_interval` meets its contract: its nine words, from which it is read back. Assumes nothing.
 use Rattle.dispatcher.proofs.ReadBack.{tells}
-use Rattle.std.proofs.Common.{rules}
 use Rattle.dispatcher.proofs.telling.tell_interval.Goals as goal
 
 pub returns : goal.returns

@@ -1,5 +1,5 @@
 -- `dispatcher::telling::tell_job` meets its contract: its five words and the one that says that there is a job. Assumes nothing.
-use Rattle.std.proofs.Common.{◌≡◌, arith, rules}
+use Rattle.std.proofs.Common.{arith}
 use Rattle.dispatcher.specs.Telling.{job_told}
 use Rattle.dispatcher.proofs.telling.tell_job.Goals as goal
 

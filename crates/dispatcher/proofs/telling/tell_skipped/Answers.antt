@@ -1,5 +1,5 @@
 -- `dispatcher::telling::tell_skipped` meets its contract: its word. Assumes nothing.
-use Rattle.std.proofs.Common.{arith, rules}
+use Rattle.std.proofs.Common.{arith}
 use Rattle.dispatcher.proofs.telling.tell_skipped.Goals as goal
 
 pub returns : goal.returns

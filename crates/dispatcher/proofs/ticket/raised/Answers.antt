@@ -1,6 +1,5 @@
 -- `dispatcher::raised` meets its contract: the sum that wraps. Assumes nothing.
 use Rattle.rules.specs.Tickets.{raised}
-use Rattle.std.proofs.Common.{rules}
 use Rattle.dispatcher.proofs.ticket.raised.Goals as goal
 
 pub returns : goal.returns

@@ -2,7 +2,6 @@
 use borrow.Author.Tests.{le-leb, lt-leb, eq-eqb, ne_eqb}
 use Rattle.words.proofs.Laws.{one_byte}
 use Rattle.entries.specs.Calls.{call_at}
-use borrow.Author.Rules.{rules}
 use Rattle.entries.proofs.calls.call_at.Goals as goal
 
 pub returns-then-s-at : goal.returns-then-s-at

@@ -1,7 +1,6 @@
 -- `entries::instant_at` meets its contract: by the length that is left. Assumes nothing.
 use borrow.Author.Tests.{lt-leb, le-leb}
 use Rattle.entries.specs.Calls.{instant_at}
-use borrow.Author.Rules.{rules}
 use Rattle.entries.proofs.calls.instant_at.Goals as goal
 
 pub returns-then-s-at-lt-INSTANT_SIZE : goal.returns-then-s-at-lt-INSTANT_SIZE

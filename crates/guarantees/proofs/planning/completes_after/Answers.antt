@@ -1,6 +1,6 @@
 -- `guarantees::planning::completes_after` meets its contract: so many intervals of at most M, and the task's copy-out. Assumes nothing.
-use Rattle.guarantees.specs.Types.{◌≡◌, ap, ◌∙◌, ℕ, ◌+◌, ◌-◌, ◌*◌, ◌^◌, min}
-use borrow.Author.Rules.{rules}
+use Rattle.std.proofs.Common.{◌≡◌, ◌+◌, ◌-◌, ◌*◌, ◌^◌}
+use Rattle.guarantees.specs.Types.{◌∙◌, ℕ, min}
 use Rattle.guarantees.proofs.planning.completes_after.Goals as goal
 
 of_these : {r k m u k' m' u' : ℕ} → r ≡ min (k * m + u) (2 ^ 64 - 1) → k ≡ k' → m ≡ m' → u ≡ u' → r ≡ min (k' * m' + u') (2 ^ 64 - 1)

@@ -1,9 +1,9 @@
 -- `guarantees::planning::held` meets its contract: the product fits if and only if the quotient is not less than the count. Assumes nothing.
-use Rattle.guarantees.specs.Types.{◌≡◌, ℕ, ◌+◌, ◌-◌, ◌*◌, ◌^◌, ◌≤◌, ◌<◌, min}
+use Rattle.std.proofs.Common.{◌≡◌, ◌+◌, ◌-◌, ◌*◌, ◌^◌, ◌≤◌, ◌<◌}
+use Rattle.guarantees.specs.Types.{ℕ, min}
 use Prim.Native.Nat.{◌/◌}
 use native.Mathlib.Omega.{arith}
 use native.Mathlib.Nat.{mul-zero, le-div_iff_mul-le, div-lt_iff_lt-mul}
-use borrow.Author.Rules.{rules}
 use Rattle.guarantees.proofs.planning.held.Goals as goal
 
 -- the last number of 64 bits

@@ -1,5 +1,4 @@
 -- `guarantees::planning::intervals_by` meets its contract: by the mark. Assumes nothing.
-use borrow.Author.Rules.{rules}
 use Rattle.guarantees.proofs.planning.intervals_by.Goals as goal
 
 pub returns-then-marked : goal.returns-then-marked

@@ -1,8 +1,8 @@
 -- `guarantees::planning::longest_interval` meets its contract: the greatest of the tasks that the loop has passed. Assumes nothing.
-use Rattle.guarantees.specs.Types.{◌≡◌, refl, sym, ap, ◌∙◌, Bool, true, false, cond, List, ℕ, suc, ◌+◌, ◌-◌, ◌^◌, ◌≤◌, ◌<◌}
+use Rattle.std.proofs.Common.{◌≡◌, ◌+◌, ◌^◌, ◌≤◌, ◌<◌}
+use Rattle.guarantees.specs.Types.{refl, sym, ap, ◌∙◌, Bool, true, false, cond, List, ℕ, suc}
 use Prim.Native.Nat.{max}
 use native.Mathlib.Omega.{arith}
-use borrow.Author.Rules.{rules}
 use Rattle.sets.specs.Sets.{member}
 use Rattle.table.specs.Table.{copyin_length, execution_length, copyout_length}
 use Rattle.guarantees.specs.Figure.{greatest, longest_interval}

@@ -1,10 +1,7 @@
-use Rattle.guarantees.specs.Types.{◌≡◌, refl, sym, ap, ◌∙◌, Bool, true, false, cond, List, ℕ, suc, ◌+◌, ◌-◌, ◌^◌, ◌≤◌, ◌<◌}
-use Prim.Native.Nat.{max}
-use native.Mathlib.Omega.{arith}
-use borrow.Author.Rules.{rules}
-use Rattle.sets.specs.Sets.{member}
+use Rattle.std.proofs.Common.{◌≡◌, ◌+◌, ◌-◌, ◌^◌, ◌≤◌, ◌<◌}
+use Rattle.guarantees.specs.Types.{List, ℕ}
 use Rattle.table.specs.Table.{copyin_length, execution_length, copyout_length}
-use Rattle.guarantees.specs.Figure.{greatest, longest_interval}
+use Rattle.guarantees.specs.Figure.{greatest}
 use Rattle.guarantees.proofs.planning.longest_interval.Given as goal
 
 pub record Passed (columns : List ℕ) (present copyin copyout work k : ℕ) : Type 0 where

@@ -1,5 +1,4 @@
 -- `lines::Text::byte` meets its contract: the byte is stored behind those that are there. Assumes nothing.
-use borrow.Author.Rules.{rules}
 use Rattle.lines.proofs.Laws.{one_byte}
 use Rattle.lines.proofs.Text.byte.Goals as goal
 

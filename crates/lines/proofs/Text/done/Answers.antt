@@ -2,7 +2,6 @@
 use Rattle.entries.specs.Entries.{each}
 use Rattle.lines.specs.Types.{JobDone}
 use Rattle.lines.proofs.Laws.{nothing, one_entry}
-use borrow.Author.Rules.{rules}
 use Rattle.lines.proofs.Text.done.Goals as goal
 
 pub returns-in-NoJob : goal.returns-in-NoJob

@@ -1,7 +1,6 @@
 -- `lines::Text::due_field` meets its contract: by cases. Assumes nothing.
 use native.Mathlib.Omega.{arith}
 use Rattle.lines.proofs.Laws.{at_most}
-use borrow.Author.Rules.{rules}
 use Rattle.lines.proofs.Text.due_field.Goals as goal
 
 pub returns-in-Never : goal.returns-in-Never

@@ -1,7 +1,6 @@
 -- `lines::Text::enquiry` meets its contract: the fields one after the other. Assumes nothing.
 use Rattle.lines.specs.Lines.{enquiry_line}
 use Rattle.lines.proofs.Laws.{◌then◌}
-use borrow.Author.Rules.{rules}
 use Rattle.lines.proofs.Text.enquiry.Goals as goal
 
 pub returns : goal.returns

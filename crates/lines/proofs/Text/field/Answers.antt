@@ -1,7 +1,6 @@
 -- `lines::Text::field` meets its contract: the number has at most 20 digits. Assumes nothing.
 use native.Mathlib.Omega.{arith}
 use Rattle.lines.proofs.Laws.{short, at_most, ◌then◌}
-use borrow.Author.Rules.{rules}
 use Rattle.lines.proofs.Text.field.Goals as goal
 
 pub number-requires : goal.number-requires

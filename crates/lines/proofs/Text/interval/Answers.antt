@@ -2,7 +2,6 @@
 use native.Mathlib.Omega.{arith}
 use Rattle.lines.specs.Lines.{interval_line}
 use Rattle.lines.proofs.Laws.{◌then◌}
-use borrow.Author.Rules.{rules}
 use Rattle.lines.proofs.Text.interval.Goals as goal
 
 pub byte-requires-2 : goal.byte-requires-2

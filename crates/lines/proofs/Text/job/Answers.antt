@@ -1,7 +1,6 @@
 -- `lines::Text::job` meets its contract: the fields one after the other. Assumes nothing.
 use Rattle.lines.specs.Lines.{job_line}
 use Rattle.lines.proofs.Laws.{◌then◌}
-use borrow.Author.Rules.{rules}
 use Rattle.lines.proofs.Text.job.Goals as goal
 
 pub returns : goal.returns

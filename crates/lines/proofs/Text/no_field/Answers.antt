@@ -1,6 +1,5 @@
 -- `lines::Text::no_field` meets its contract. Assumes nothing.
 use Rattle.lines.proofs.Laws.{◌then◌}
-use borrow.Author.Rules.{rules}
 use Rattle.lines.proofs.Text.no_field.Goals as goal
 
 pub returns : goal.returns

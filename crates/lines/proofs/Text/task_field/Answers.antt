@@ -1,7 +1,6 @@
 -- `lines::Text::task_field` meets its contract: by cases. Assumes nothing.
 use native.Mathlib.Omega.{arith}
 use Rattle.lines.proofs.Laws.{at_most}
-use borrow.Author.Rules.{rules}
 use Rattle.lines.proofs.Text.task_field.Goals as goal
 
 pub returns-in-NoTask : goal.returns-in-NoTask

@@ -1,14 +1,12 @@
 -- `reading::collecting::collect` meets its contract: one entry after the other. Assumes nothing.
-use mathlib.Core.Path.{◌≡◌, refl, sym, ap, ◌∙◌, subst}
-use Prim.Native.Nat.{ℕ, ◌-◌}
+use mathlib.Core.Path.{refl, sym, ap, ◌∙◌, subst}
+use Prim.Native.Nat.{ℕ}
 use native.Mathlib.Omega.{arith}
-use lib.ListN.{length}
-use borrow.Author.Rules.{rules}
 use Rattle.entries.specs.Entries.{record_entry_size}
 use Rattle.entries.proofs.Places.{entry_within}
 use Rattle.reading.specs.Types.{AtEntry}
 use Rattle.reading.specs.Parts.{decoded, Collects}
-use Rattle.reading.proofs.Noting.{Collecting, begins, ends, faulty, whole_size, goes_on}
+use Rattle.reading.proofs.Noting.{begins, ends, faulty, whole_size, goes_on}
 use Rattle.reading.proofs.collecting.collect.Goals as goal
 
 pub loop-at-init : goal.loop-at-init

@@ -1,13 +1,7 @@
-use mathlib.Core.Path.{◌≡◌, refl, sym, ap, ◌∙◌, subst}
-use Prim.Native.Nat.{ℕ, ◌-◌}
-use native.Mathlib.Omega.{arith}
+use mathlib.Core.Path.{◌≡◌}
+use Prim.Native.Nat.{◌-◌}
 use lib.ListN.{length}
-use borrow.Author.Rules.{rules}
-use Rattle.entries.specs.Entries.{record_entry_size}
-use Rattle.entries.proofs.Places.{entry_within}
-use Rattle.reading.specs.Types.{AtEntry}
-use Rattle.reading.specs.Parts.{decoded, Collects}
-use Rattle.reading.proofs.Noting.{Collecting, begins, ends, faulty, whole_size, goes_on}
+use Rattle.reading.proofs.Noting.{Collecting}
 use Rattle.reading.proofs.collecting.collect.Given as goal
 
 abbrev pub invariant-loop-at : goal.invariant-loop-at

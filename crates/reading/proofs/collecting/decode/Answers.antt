@@ -1,5 +1,4 @@
 -- `reading::collecting::decode` meets its contract: by the entry's kind. Assumes nothing.
-use borrow.Author.Rules.{rules}
 use Rattle.reading.proofs.collecting.decode.Goals as goal
 
 pub returns-in-MalformedRecord : goal.returns-in-MalformedRecord

@@ -2,8 +2,6 @@
 use native.Mathlib.Omega.{arith}
 use borrow.Author.Tests.{not-true, not-false}
 use Rattle.reading.proofs.Noting.{notes_none, notes_full, notes_late, notes_one}
-use borrow.Author.Rules.{rules}
-use Rattle.std.proofs.Common.{ap, not}
 use Rattle.reading.proofs.collecting.note.Goals as goal
 
 pub returns-then-not-attested : goal.returns-then-not-attested

@@ -2,7 +2,6 @@
 use mathlib.Core.Path.{ap}
 use Rattle.record.specs.Writing.{outcome_number, outcome_value}
 use Rattle.reading.proofs.Outcomes.{accepted}
-use borrow.Author.Rules.{rules}
 use Rattle.reading.proofs.listing.read.Goals as goal
 
 pub returns : goal.returns

@@ -2,7 +2,6 @@
 use Rattle.record.proofs.Outcomes.{alone, at_entry}
 use Rattle.reading.proofs.Inputs.{refusal_is, opened_head}
 use Rattle.reading.proofs.Outcomes.{not_opened, opened}
-use borrow.Author.Rules.{rules}
 use Rattle.reading.proofs.listing.read_checked.Goals as goal
 
 pub read_opened-requires : goal.read_opened-requires

@@ -8,7 +8,6 @@ use Rattle.reading.specs.Parts.{ReadHead, releases_in}
 use Rattle.reading.proofs.Inputs.{read_head}
 use Rattle.reading.proofs.Laying.{input_length, in_room}
 use Rattle.reading.proofs.Outcomes.{listed_part, not_listed_part}
-use borrow.Author.Rules.{rules}
 use Rattle.reading.proofs.listing.read_listed.Goals as goal
 
 pub slice_bounds-yields-end : goal.slice_bounds-yields-end

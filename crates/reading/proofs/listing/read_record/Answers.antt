@@ -8,8 +8,6 @@ use lib.Seq.{length-take-le}
 use Rattle.record.proofs.Outcomes.{alone, at_entry}
 use Rattle.reading.proofs.Inputs.{opens_short}
 use Rattle.reading.proofs.Outcomes.{entry_refused, noted, impossible, possible, front_is, front_within, front_length}
-use borrow.Author.Rules.{rules}
-use Rattle.std.proofs.Common.{ap, not}
 use Rattle.reading.proofs.listing.read_record.Goals as goal
 
 pub returns-then-not-noted : goal.returns-then-not-noted

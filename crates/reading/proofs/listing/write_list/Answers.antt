@@ -1,13 +1,10 @@
 -- `reading::listing::write_list` meets its contract: the list fits or it does not. Assumes nothing.
 use mathlib.Core.Path.{refl, sym, ap, ◌∙◌}
-use mathlib.Core.List.{List, ◌++◌}
+use mathlib.Core.List.{◌++◌}
 use Prim.Native.Nat.{ℕ}
 use native.Mathlib.Nat.{zero-add}
-use native.Mathlib.Omega.{arith}
 use lib.ListN.{length, drop}
-use lib.Seq.{take_all}
 use Rattle.record.proofs.Outcomes.{fits, too_short}
-use borrow.Author.Rules.{rules}
 use Rattle.reading.proofs.listing.write_list.Goals as goal
 
 pub returns-then-out-list : goal.returns-then-out-list

@@ -1,9 +1,6 @@
 -- `reading::rebuilding::lay` meets its contract: one entry behind the other. Assumes nothing.
-use Prim.Native.Nat.{◌-◌}
 use native.Mathlib.Omega.{arith}
-use lib.ListN.{length}
-use borrow.Author.Rules.{rules}
-use Rattle.reading.proofs.Laying.{Laying, begins, size_is, goes_on, ends}
+use Rattle.reading.proofs.Laying.{begins, size_is, goes_on, ends}
 use Rattle.reading.proofs.rebuilding.lay.Goals as goal
 
 pub loop-i-init : goal.loop-i-init

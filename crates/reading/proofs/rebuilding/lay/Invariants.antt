@@ -1,8 +1,6 @@
 use Prim.Native.Nat.{◌-◌}
-use native.Mathlib.Omega.{arith}
 use lib.ListN.{length}
-use borrow.Author.Rules.{rules}
-use Rattle.reading.proofs.Laying.{Laying, begins, size_is, goes_on, ends}
+use Rattle.reading.proofs.Laying.{Laying}
 use Rattle.reading.proofs.rebuilding.lay.Given as goal
 
 abbrev pub invariant-loop-i : goal.invariant-loop-i

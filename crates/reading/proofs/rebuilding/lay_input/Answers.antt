@@ -1,6 +1,5 @@
 -- `reading::rebuilding::lay_input` meets its contract: the task entries, and the list behind them. Assumes nothing.
 use Rattle.reading.proofs.Laying.{rebuilt_from}
-use borrow.Author.Rules.{rules}
 use Rattle.reading.proofs.rebuilding.lay_input.Goals as goal
 
 pub returns : goal.returns

@@ -1,7 +1,6 @@
 -- `reading::rebuilding::rebuild` meets its contract: by whether there is room. Assumes nothing.
 use native.Mathlib.Omega.{arith}
 use Rattle.reading.proofs.Laying.{input_length, no_room}
-use borrow.Author.Rules.{rules}
 use Rattle.reading.proofs.rebuilding.rebuild.Goals as goal
 
 pub returns-then-out-tasks : goal.returns-then-out-tasks

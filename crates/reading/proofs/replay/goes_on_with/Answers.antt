@@ -8,7 +8,6 @@ use lib.ListN.{take, drop}
 use lib.Seq.{length-take-le}
 use Rattle.reading.specs.Parts.{Tells}
 use Rattle.reading.proofs.Holding.{too_few}
-use borrow.Author.Rules.{rules}
 use Rattle.reading.proofs.replay.goes_on_with.Goals as goal
 
 back : (at n : ℕ) → at + n - at ≡ n

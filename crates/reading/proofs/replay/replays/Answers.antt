@@ -1,15 +1,11 @@
 -- `reading::replay::replays` meets its contract: what the record has so far and what is to come make the whole. Assumes nothing.
-use mathlib.Core.Path.{◌≡◌, refl, sym, ap, ◌∙◌}
+use mathlib.Core.Path.{refl, sym, ap, ◌∙◌}
 use native.Mathlib.Omega.{arith}
-use lib.ListN.{length}
 use borrow.Author.Tests.{not-true, not-false}
 use Rattle.sets.proofs.Laws.{clash}
-use Rattle.dispatcher.specs.Dispatcher.{state_of}
 use Rattle.pieces.proofs.Reaching.{moves_on, same_slice}
-use Rattle.record.specs.Cursor.{run_bytes}
 use Rattle.record.proofs.Running.{within}
-use Rattle.reading.proofs.Holding.{Holding, begins, as_started, ended, whole_piece, differs, reaches, goes_on}
-use borrow.Author.Rules.{rules}
+use Rattle.reading.proofs.Holding.{begins, as_started, ended, whole_piece, differs, reaches, goes_on}
 use Rattle.std.proofs.Common.{not}
 use Rattle.reading.proofs.replay.replays.Goals as goal
 
@@ -29,7 +25,7 @@ pub slice_bounds-goes_on_with-end : goal.slice_bounds-goes_on_with-end
 slice_bounds-goes_on_with-end c = sym (same_slice c.next_piece-x.ensures ∙ c.loop-left.invariant.1)
 
 pub goes_on_with-requires : goal.goes_on_with-requires
-goes_on_with-requires c = let v = c.loop-left in record { at_in_bounds = v.invariant.0.within; n_in_bounds = whole_piece v.d v.invariant.0 c.next_piece-x.ensures; }
+goes_on_with-requires c = let v = c.loop-left in record { at_in_bounds = v.invariant.0.within; n_in_bounds = whole_piece v.d v.invariant.0 c.next_piece-x.ensures }
 
 pub returns-then-not-goes_on_with : goal.returns-then-not-goes_on_with
 returns-then-not-goes_on_with c =

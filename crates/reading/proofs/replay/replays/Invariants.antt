@@ -1,14 +1,8 @@
-use mathlib.Core.Path.{◌≡◌, refl, sym, ap, ◌∙◌}
-use native.Mathlib.Omega.{arith}
+use mathlib.Core.Path.{◌≡◌}
 use lib.ListN.{length}
-use borrow.Author.Tests.{not-true, not-false}
-use Rattle.sets.proofs.Laws.{clash}
 use Rattle.dispatcher.specs.Dispatcher.{state_of}
-use Rattle.pieces.proofs.Reaching.{moves_on, same_slice}
 use Rattle.record.specs.Cursor.{run_bytes}
-use Rattle.record.proofs.Running.{within}
-use Rattle.reading.proofs.Holding.{Holding, begins, as_started, ended, whole_piece, differs, reaches, goes_on}
-use borrow.Author.Rules.{rules}
+use Rattle.reading.proofs.Holding.{Holding}
 use Rattle.reading.proofs.replay.replays.Given as goal
 
 abbrev pub invariant-loop-left : goal.invariant-loop-left

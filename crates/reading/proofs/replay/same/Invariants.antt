@@ -1,13 +1,7 @@
-use mathlib.Core.Path.{◌≡◌, ap, subst}
-use mathlib.Core.Bool.{Bool, false≢true}
-use mathlib.Core.List.{List}
-use Prim.Native.Nat.{ℕ, ◌-◌, ◌≤◌}
-use native.Mathlib.Omega.{arith}
+use mathlib.Core.Path.{◌≡◌}
+use Prim.Native.Nat.{◌-◌, ◌≤◌}
 use lib.ListN.{length, take}
-use lib.Seq.{take_all}
-use borrow.Author.Rules.{rules}
 use Rattle.reading.specs.Parts.{Tells}
-use Rattle.reading.proofs.Holding.{alike_none, alike_more}
 use Rattle.reading.proofs.replay.same.Given as goal
 
 abbrev pub invariant-loop-i : goal.invariant-loop-i

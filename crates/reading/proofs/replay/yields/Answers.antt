@@ -13,7 +13,6 @@ use Rattle.reading.specs.Parts.{ReadHead}
 use Rattle.run.proofs.Advancing.{releases_within}
 use Rattle.record.proofs.Outcomes.{runs_whole, alone, at_entry}
 use Rattle.reading.proofs.Holding.{yields_accepted, yields_refused}
-use borrow.Author.Rules.{rules}
 use Rattle.reading.proofs.replay.yields.Goals as goal
 
 -- the head of an input that is accepted so far

@@ -1,15 +1,11 @@
 -- `record::go_on` meets its contract: what is put so far and what is to come make the rest of the record. Assumes nothing.
-use mathlib.Core.Path.{◌≡◌, refl, sym, ap, ◌∙◌}
-use Prim.Native.Nat.{◌≤◌}
+use mathlib.Core.Path.{refl, sym, ap, ◌∙◌}
 use native.Mathlib.Omega.{arith}
 use lib.ListN.{length}
 use lib.Seq.{length-take-le}
 use Rattle.entries.specs.Entries.{laid}
-use Rattle.dispatcher.specs.Dispatcher.{state_of}
 use Rattle.pieces.proofs.Reaching.{moves_on, grows, same_slice, front}
-use Rattle.record.specs.Cursor.{run_bytes}
-use Rattle.record.proofs.Running.{Progress, begins, spent, room, more, within}
-use borrow.Author.Rules.{rules}
+use Rattle.record.proofs.Running.{begins, spent, room, more, within}
 use Rattle.record.proofs.writing.go_on.Goals as goal
 
 pub loop-left-init : goal.loop-left-init

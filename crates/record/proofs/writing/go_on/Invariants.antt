@@ -1,14 +1,8 @@
-use mathlib.Core.Path.{◌≡◌, refl, sym, ap, ◌∙◌}
-use Prim.Native.Nat.{◌≤◌}
-use native.Mathlib.Omega.{arith}
+use mathlib.Core.Path.{◌≡◌}
 use lib.ListN.{length}
-use lib.Seq.{length-take-le}
-use Rattle.entries.specs.Entries.{laid}
 use Rattle.dispatcher.specs.Dispatcher.{state_of}
-use Rattle.pieces.proofs.Reaching.{moves_on, grows, same_slice, front}
 use Rattle.record.specs.Cursor.{run_bytes}
-use Rattle.record.proofs.Running.{Progress, begins, spent, room, more, within}
-use borrow.Author.Rules.{rules}
+use Rattle.record.proofs.Running.{Progress}
 use Rattle.record.proofs.writing.go_on.Given as goal
 
 abbrev pub invariant-loop-left : goal.invariant-loop-left

@@ -2,12 +2,11 @@
 use mathlib.Core.Path.{refl, ap, ◌∙◌}
 use mathlib.Core.List.{List, ◌++◌}
 use native.Mathlib.Omega.{arith}
-use Prim.Native.Nat.{ℕ, ◌-◌}
+use Prim.Native.Nat.{ℕ}
 use lib.ListN.{length, take, drop, length-drop}
-use lib.Seq.{drop-drop, take_all}
+use lib.Seq.{drop-drop}
 use Rattle.sets.proofs.Laws.{clash}
 use Rattle.words.proofs.Laws.{lent, rest_whole}
-use borrow.Author.Rules.{rules}
 use Rattle.record.proofs.writing.keep_piece.Goals as goal
 
 pub slice_bounds-copy-count : goal.slice_bounds-copy-count

@@ -1,7 +1,6 @@
 -- `record::run_over` meets its contract: a piece in the slice itself where the record is kept, and then the rest. Assumes nothing.
 use native.Mathlib.Omega.{arith}
 use Rattle.record.proofs.Running.{opened_room, from_start, ran_from_start, behind_first, ran_behind, within}
-use borrow.Author.Rules.{rules}
 use Rattle.record.proofs.writing.run_over.Goals as goal
 
 pub overflow_add-read : goal.overflow_add-read

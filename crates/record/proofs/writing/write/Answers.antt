@@ -1,5 +1,4 @@
 -- `record::write` meets its contract: what is written, with demand 3 for files. Assumes nothing.
-use borrow.Author.Rules.{rules}
 use Rattle.record.specs.FileClaim
 use Rattle.record.proofs.Outcomes.{in_numbers}
 use Rattle.record.proofs.FileClaim.{demand_3_files}

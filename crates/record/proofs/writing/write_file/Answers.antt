@@ -1,7 +1,6 @@
 -- `record::write_file` meets its contract: by what checking the file found. Assumes nothing.
 use mathlib.Core.Path.{refl}
 use Rattle.record.proofs.Outcomes.{runs_whole, record_whole, refused_whole, alone, at_entry}
-use borrow.Author.Rules.{rules}
 use Rattle.record.proofs.writing.write_file.Goals as goal
 
 pub write_run-requires : goal.write_run-requires

@@ -1,13 +1,9 @@
 -- `record::write_run` meets its contract: the record fits, by its bound or by its length, or it does not. Assumes nothing.
-use mathlib.Core.Path.{refl, sym, ap, ◌∙◌}
-use mathlib.Core.Bool.{true≢false, false≢true}
-use mathlib.Core.List.{List}
-use Prim.Native.Nat.{ℕ, ◌≤◌, ◌<◌}
+use mathlib.Core.Path.{refl, sym, ap}
+use mathlib.Core.Bool.{false≢true}
 use native.Mathlib.Omega.{arith}
 use lib.ListN.{length}
-use Rattle.record.specs.Cursor.{start, run_bytes, budget_at}
 use Rattle.record.proofs.Outcomes.{fits, too_short}
-use borrow.Author.Rules.{rules}
 use Rattle.record.proofs.writing.write_run.Goals as goal
 
 -- the slice is as it was when only the length was counted

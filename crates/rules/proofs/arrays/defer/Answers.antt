@@ -1,11 +1,8 @@
 -- `rules::arrays::defer` meets its contract: the tasks passed have the time. Assumes nothing.
-use Prim.Native.Nat.{◌-◌}
 use mathlib.Core.Path.{refl, ◌∙◌}
 use native.Mathlib.Omega.{arith}
-use borrow.Author.Rules.{rules}
-use Rattle.sets.specs.Sets.{lowest}
 use Rattle.rules.proofs.Members.{is_task_left, falls}
-use Rattle.rules.proofs.ByTask.{Stored, store_start, store, store_end, is_stamped}
+use Rattle.rules.proofs.ByTask.{store_start, store, store_end, is_stamped}
 use Rattle.rules.proofs.arrays.defer.Goals as goal
 
 pub loop-left-init : goal.loop-left-init

@@ -1,5 +1,4 @@
 -- `rules::arrays::original` meets its contract: by whether the task has a waiting release. Assumes nothing.
-use borrow.Author.Rules.{rules}
 use Rattle.rules.proofs.arrays.original.Goals as goal
 
 pub returns-then-contains : goal.returns-then-contains

@@ -1,13 +1,10 @@
 -- `rules::arrays::take` meets its contract: the tasks passed have their original times, and 0 as their count. Assumes nothing.
-use Prim.Native.Nat.{◌-◌}
 use mathlib.Core.Path.{refl, ◌∙◌}
 use native.Mathlib.Omega.{arith}
-use borrow.Author.Rules.{rules}
-use Rattle.sets.specs.Sets.{lowest}
 use Rattle.rules.specs.Instant.{original}
 use Rattle.rules.specs.Registers.{waits as waiting-releases}
 use Rattle.rules.proofs.Members.{is_task_left, falls}
-use Rattle.rules.proofs.ByTask.{Stored, store_start, store, store_end, is_stamped}
+use Rattle.rules.proofs.ByTask.{store_start, store, store_end, is_stamped}
 use Rattle.rules.proofs.arrays.take.Goals as goal
 
 pub loop-left-init : goal.loop-left-init

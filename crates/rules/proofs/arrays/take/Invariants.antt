@@ -1,12 +1,8 @@
 use Prim.Native.Nat.{◌-◌}
-use mathlib.Core.Path.{refl, ◌∙◌}
-use native.Mathlib.Omega.{arith}
-use borrow.Author.Rules.{rules}
 use Rattle.sets.specs.Sets.{lowest}
 use Rattle.rules.specs.Instant.{original}
 use Rattle.rules.specs.Registers.{waits as waiting-releases}
-use Rattle.rules.proofs.Members.{is_task_left, falls}
-use Rattle.rules.proofs.ByTask.{Stored, store_start, store, store_end, is_stamped}
+use Rattle.rules.proofs.ByTask.{Stored}
 use Rattle.rules.proofs.arrays.take.Given as goal
 
 abbrev pub invariant-loop-left : goal.invariant-loop-left

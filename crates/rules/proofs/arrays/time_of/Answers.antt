@@ -1,6 +1,5 @@
 -- `rules::arrays::time_of` meets its contract: past its end a list has 0. Assumes nothing.
 use mathlib.Core.Path.{sym}
-use borrow.Author.Rules.{rules}
 use lib.ListN.{get_or-eq_default}
 use Rattle.rules.proofs.arrays.time_of.Goals as goal
 

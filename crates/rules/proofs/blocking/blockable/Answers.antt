@@ -4,7 +4,6 @@ use Rattle.rules.specs.Types.{subst}
 use lib.ListN.{replicate}
 use Rattle.rules.specs.Steps.{BlockableIn}
 use Rattle.rules.proofs.Blocked.{idled_blocks, executed_blocks, gathers, none_gathered}
-use borrow.Author.Rules.{rules}
 use Rattle.rules.proofs.blocking.blockable.Goals as goal
 
 pub returns-then-kind-ne-IDLE : goal.returns-then-kind-ne-IDLE

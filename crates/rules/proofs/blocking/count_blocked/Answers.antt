@@ -8,7 +8,6 @@ use Rattle.rules.specs.Registers.{state_in}
 use Rattle.rules.specs.Kept.{kept, beside, registers_in, memory_in}
 use Rattle.rules.proofs.Parts.{waits_loaded, waits}
 use Rattle.rules.proofs.Blocked.{none_idle, none_wait, none_counted, alone_blocks}
-use borrow.Author.Rules.{rules}
 use Rattle.std.proofs.Common.{not}
 use Rattle.rules.proofs.blocking.count_blocked.Goals as goal
 

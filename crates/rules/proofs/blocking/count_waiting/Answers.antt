@@ -8,7 +8,6 @@ use Rattle.rules.specs.Kept.{kept, beside, registers_in, memory_in}
 use Rattle.rules.proofs.ClosingTest.{open_in, over_in}
 use Rattle.rules.proofs.Blocked.{some_blocks, set_is, with_tasks, of_the_set}
 use lib.ListN.{get_or}
-use borrow.Author.Rules.{rules}
 use Rattle.rules.proofs.blocking.count_waiting.Goals as goal
 
 -- the set is gathered of the table's tasks and those of the jobs that wait: that of a state with these in its table

@@ -1,7 +1,6 @@
 -- `rules::lent::stamp` meets its contract: the time of the last instant, and that there was one. Assumes nothing.
 use Rattle.rules.proofs.Kept.{timed_at}
 use Rattle.rules.specs.Kept.{kept}
-use borrow.Author.Rules.{rules}
 use Rattle.rules.proofs.lent.stamp.Goals as goal
 
 pub returns : goal.returns

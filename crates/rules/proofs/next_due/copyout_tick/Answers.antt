@@ -1,7 +1,6 @@
 -- `rules::next_due::copyout_tick` meets its contract: by the kind. Assumes nothing.
 use borrow.Author.Tests.{ne_eqb}
 use Rattle.rules.proofs.Ticks.{no_copyout_due, never_stands}
-use borrow.Author.Rules.{rules}
 use Rattle.rules.proofs.next_due.copyout_tick.Goals as goal
 
 pub returns-then-codes-eq-COPYING_OUT : goal.returns-then-codes-eq-COPYING_OUT

@@ -5,7 +5,6 @@ use borrow.Author.Tests.{eq-eqb, ne_eqb}
 use Rattle.rules.specs.Instant.{due}
 use Rattle.rules.specs.Registers.{interval_in, phase_in}
 use Rattle.rules.proofs.Ticks.{resting_due, never_stands, both, sooner_never}
-use borrow.Author.Rules.{rules}
 use Rattle.rules.proofs.next_due.due_tick.Goals as goal
 
 pub returns-then-codes-eq-NO_INTERVAL : goal.returns-then-codes-eq-NO_INTERVAL

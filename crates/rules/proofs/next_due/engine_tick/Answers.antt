@@ -1,7 +1,6 @@
 -- `rules::next_due::engine_tick` meets its contract: by whether a copy-in is under way. Assumes nothing.
 use borrow.Author.Tests.{ne_eqb}
 use Rattle.rules.proofs.Ticks.{no_copyin_due, both, never_sooner}
-use borrow.Author.Rules.{rules}
 use Rattle.rules.proofs.next_due.engine_tick.Goals as goal
 
 pub returns-then-codes-eq-COPYING : goal.returns-then-codes-eq-COPYING

@@ -1,8 +1,6 @@
 -- `rules::next_due::some_due` meets its contract: by whether an interval is open, and by its units. Assumes nothing.
-use borrow.Author.Tests.{eq-eqb, ne_eqb}
 use Rattle.rules.specs.Kept.{kept, registers_in}
 use Rattle.rules.proofs.Ticks.{none_is_due, copyin_is_due, copyout_is_due, executing_is_due, the_processor_is_due}
-use borrow.Author.Rules.{rules}
 use Rattle.rules.proofs.next_due.some_due.Goals as goal
 
 pub returns-then-copyin-eq-NO_INTERVAL : goal.returns-then-copyin-eq-NO_INTERVAL

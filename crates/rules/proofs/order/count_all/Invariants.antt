@@ -1,15 +1,8 @@
-use Rattle.rules.specs.Types.{Bool, cond, ◌&&◌, List, [], ◌∷◌, ℕ, suc, ◌+◌, ◌-◌, min, ◌≤◌, ◌<◌, ◌≡◌, refl, sym, ap, ◌∙◌}
-use native.Mathlib.Omega.{arith}
-use borrow.Author.Rules.{rules}
-use borrow.Author.Tests.{eqb-true, eqb-false}
+use Rattle.std.proofs.Common.{◌&&◌, ◌+◌, ◌-◌, ◌≤◌, ◌<◌, ◌≡◌}
+use Rattle.rules.specs.Types.{Bool, cond, List, ℕ, min}
 use lib.Dec.{eqb}
-use lib.ListN.{length, get_or, set, length-set, replicate}
-use lib.Seq.{get_or-set_same, get_or-set_other, ext_get_or}
+use lib.ListN.{length, get_or}
 use Rattle.sets.specs.Sets.{member}
-use Rattle.sets.proofs.Laws.{by-test, collected}
-use Rattle.rules.specs.Instant.{counted}
-use Rattle.rules.specs.Steps.{marked_in}
-use Rattle.rules.proofs.ByTask.{each, each_length, each_at}
 use Rattle.rules.proofs.order.count_all.Given as goal
 
 abbrev pub counts_at : ℕ → List ℕ → ℕ → Bool

@@ -1,8 +1,8 @@
 -- `rules::order::first` meets its contract: the best so far is the highest of the tasks below the lowest that is left. Assumes nothing.
-use Rattle.rules.specs.Types.{Bool, true, false, cond, List, ℕ, zero, suc, ◌-◌, ◌≤◌, ◌<◌, MaybeTask, NoTask, Task, ◌≡◌, refl, sym, ap, ◌∙◌, ⊎_elim}
+use Rattle.std.proofs.Common.{◌≤◌, ◌<◌, ◌≡◌}
+use Rattle.rules.specs.Types.{Bool, true, false, cond, List, ℕ, zero, suc, MaybeTask, NoTask, Task, refl, sym, ap, ◌∙◌, ⊎_elim}
 use native.Mathlib.Omega.{arith}
 use native.Mathlib.Nat.{eq-or-lt_of_le, le_of_suc-le-suc}
-use borrow.Author.Rules.{rules}
 use borrow.Author.Tests.{lt-ltb}
 use lib.Dec.{eqb, ltb}
 use lib.ListN.{get_or}
@@ -10,7 +10,7 @@ use Rattle.sets.specs.Sets.{member, lowest}
 use Rattle.sets.proofs.Laws.{lowest_first, lowest_none}
 use Rattle.rules.specs.Order.{better, highest_below, highest}
 use Rattle.rules.specs.Registers.{as_task}
-use Rattle.rules.proofs.Members.{Left, Turn, start, turn, is_task_left, falls}
+use Rattle.rules.proofs.Members.{Turn, start, turn, is_task_left, falls}
 use Rattle.rules.proofs.order.first.Goals as goal
 use Rattle.rules.proofs.order.first.Goals.{then-goes_before, else-goes_before}
 
@@ -92,10 +92,10 @@ loop-left-preserved c =
     let g = c.goes_before.ensures in
     let on = at_turn ps since s.set t ∙ ap (λ (r : MaybeTask). better ps since r n) w.invariant.3 in
     elim c.if-goes_before.branch [
-      then-goes_before a ↦
-        rw (a.best-is, a.least-is) (t.next, t.task, p.0, on ∙ beside ps since n w.best true w.invariant.2 p.0 (sym g ∙ a.if-goes_before.true))
+      | then-goes_before a ↦
+          rw (a.best-is, a.least-is) (t.next, t.task, p.0, on ∙ beside ps since n w.best true w.invariant.2 p.0 (sym g ∙ a.if-goes_before.true))
       | else-goes_before a ↦
-        rw (a.best-is, a.least-is) (t.next, w.invariant.1, w.invariant.2, on ∙ beside ps since n w.best false w.invariant.2 p.0 (sym g ∙ a.if-goes_before.false))
+          rw (a.best-is, a.least-is) (t.next, w.invariant.1, w.invariant.2, on ∙ beside ps since n w.best false w.invariant.2 p.0 (sym g ∙ a.if-goes_before.false))
     ]
 
 pub returns : goal.returns

@@ -1,15 +1,9 @@
-use Rattle.rules.specs.Types.{Bool, true, false, cond, List, ℕ, zero, suc, ◌-◌, ◌≤◌, ◌<◌, MaybeTask, NoTask, Task, ◌≡◌, refl, sym, ap, ◌∙◌, ⊎_elim}
-use native.Mathlib.Omega.{arith}
-use native.Mathlib.Nat.{eq-or-lt_of_le, le_of_suc-le-suc}
-use borrow.Author.Rules.{rules}
-use borrow.Author.Tests.{lt-ltb}
-use lib.Dec.{eqb, ltb}
+use Rattle.std.proofs.Common.{◌-◌, ◌<◌, ◌≡◌}
+use Rattle.rules.specs.Types.{Task}
 use lib.ListN.{get_or}
-use Rattle.sets.specs.Sets.{member, lowest}
-use Rattle.sets.proofs.Laws.{lowest_first, lowest_none}
-use Rattle.rules.specs.Order.{better, highest_below, highest}
-use Rattle.rules.specs.Registers.{as_task}
-use Rattle.rules.proofs.Members.{Left, Turn, start, turn, is_task_left, falls}
+use Rattle.sets.specs.Sets.{lowest}
+use Rattle.rules.specs.Order.{highest_below}
+use Rattle.rules.proofs.Members.{Left}
 use Rattle.rules.proofs.order.first.Given as goal
 
 abbrev pub invariant-loop-left : goal.invariant-loop-left

@@ -1,6 +1,5 @@
 -- `rules::order::goes_before` meets its contract: by whether the priorities are equal. Assumes nothing.
 use borrow.Author.Tests.{eq-eqb, ne_eqb}
-use borrow.Author.Rules.{rules}
 use Rattle.rules.proofs.order.goes_before.Goals as goal
 
 pub returns-then-p-least : goal.returns-then-p-least

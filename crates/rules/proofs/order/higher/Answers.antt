@@ -1,10 +1,10 @@
 -- `rules::order::higher` meets its contract: of the tasks passed, those below the limit are marked. Assumes nothing.
-use Rattle.rules.specs.Types.{Bool, true, false, cond, ◌&&◌, ◌||◌, List, ℕ, ◌+◌, ◌-◌, ◌≤◌, ◌<◌, ◌≡◌, refl, sym, ap, ◌∙◌, ⊎_elim}
+use Rattle.std.proofs.Common.{◌&&◌, ◌+◌, ◌≤◌, ◌<◌, ◌≡◌}
+use Rattle.rules.specs.Types.{Bool, false, cond, List, ℕ, refl, sym, ap, ◌∙◌}
 use native.Mathlib.Omega.{arith}
 use borrow.Author.Tests.{ltb-true, ltb-false, lt-ltb, le-ltb, eqb-true, eqb-false}
-use borrow.Author.Rules.{rules}
 use lib.Dec.{eqb, ltb}
-use lib.ListN.{length, get_or, set, length-set, replicate, get_or-replicate}
+use lib.ListN.{get_or, set, length-set, replicate, get_or-replicate}
 use lib.Seq.{get_or-set_same, get_or-set_other}
 use Rattle.sets.proofs.Laws.{by-test}
 use Rattle.rules.specs.Steps.{Above}
@@ -78,7 +78,7 @@ loop-k-preserved c =
     let w = c.loop-k in
     let l = c.loop-k-test.true in
     elim c.if-priority-k.branch [
-      then-priority-k a ↦ rw a.found-is (find _ _ w.invariant l a.if-priority-k.true)
+      | then-priority-k a ↦ rw a.found-is (find _ _ w.invariant l a.if-priority-k.true)
       | else-priority-k a ↦ rw a.found-is (pass _ _ w.invariant l a.if-priority-k.false)
     ]
 

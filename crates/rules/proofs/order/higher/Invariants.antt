@@ -1,12 +1,7 @@
-use Rattle.rules.specs.Types.{Bool, true, false, cond, ◌&&◌, ◌||◌, List, ℕ, ◌+◌, ◌-◌, ◌≤◌, ◌<◌, ◌≡◌, refl, sym, ap, ◌∙◌, ⊎_elim}
-use native.Mathlib.Omega.{arith}
-use borrow.Author.Tests.{ltb-true, ltb-false, lt-ltb, le-ltb, eqb-true, eqb-false}
-use borrow.Author.Rules.{rules}
-use lib.Dec.{eqb, ltb}
-use lib.ListN.{length, get_or, set, length-set, replicate, get_or-replicate}
-use lib.Seq.{get_or-set_same, get_or-set_other}
-use Rattle.sets.proofs.Laws.{by-test}
-use Rattle.rules.specs.Steps.{Above}
+use Rattle.std.proofs.Common.{◌&&◌, ◌-◌, ◌≤◌, ◌<◌, ◌≡◌}
+use Rattle.rules.specs.Types.{cond, List, ℕ}
+use lib.Dec.{ltb}
+use lib.ListN.{length, get_or}
 use Rattle.rules.proofs.order.higher.Given as goal
 
 pub record Found (priority : List ℕ) (limit : ℕ) (found : List ℕ) (k : ℕ) : Type 0 where

@@ -1,6 +1,5 @@
 -- `rules::order::outranks` meets its contract: of a task the priorities are compared, and none outranks nothing. Assumes nothing.
 use borrow.Author.Tests.{lt-ltb, le-ltb}
-use borrow.Author.Rules.{rules}
 use Rattle.rules.proofs.order.outranks.Goals as goal
 
 pub returns-then-by-lt-NO_TASK : goal.returns-then-by-lt-NO_TASK

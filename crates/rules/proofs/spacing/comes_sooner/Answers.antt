@@ -1,5 +1,6 @@
 -- `rules::spacing::comes_sooner` meets its contract: where the last one is the later of the two, nothing has gone by since. Assumes nothing.
-use Rattle.rules.specs.Types.{ℕ, ◌-◌, ◌≤◌, ◌<◌, ◌≡◌, refl, sym, ap}
+use Rattle.std.proofs.Common.{◌-◌, ◌<◌, ◌≡◌}
+use Rattle.rules.specs.Types.{ℕ, refl, sym, ap}
 use native.Mathlib.Omega.{arith}
 use lib.Dec.{ltb}
 use Rattle.rules.proofs.spacing.comes_sooner.Goals as goal

@@ -1,6 +1,6 @@
 -- `rules::spacing::is_too_soon` meets its contract: by the release that waits, else by the task's last job, where there was one. Assumes nothing.
-use Rattle.rules.specs.Types.{Bool, true, false, List, ℕ, Tick, ◌≡◌, refl, sym, ◌∙◌}
-use borrow.Author.Rules.{rules}
+use Rattle.std.proofs.Common.{◌≡◌}
+use Rattle.rules.specs.Types.{Bool, true, false, List, ℕ, Tick, sym, ◌∙◌}
 use lib.ListN.{get_or}
 use Rattle.sets.specs.Sets.{member}
 use Rattle.table.specs.Table.{spacing}

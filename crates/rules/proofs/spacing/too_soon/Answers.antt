@@ -1,17 +1,16 @@
 -- `rules::spacing::too_soon` meets its contract: of the tasks passed, those whose release comes too soon are gathered. Assumes nothing.
-use Rattle.rules.specs.Types.{Bool, true, false, cond, ◌&&◌, ◌||◌, List, [], ℕ, Never, Tick, ◌-◌, ◌^◌, ◌<◌, ◌≡◌, refl, sym, ap, ◌∙◌, ⊎_elim}
+use Rattle.std.proofs.Common.{◌&&◌, ◌^◌, ◌<◌, ◌≡◌}
+use Rattle.rules.specs.Types.{Bool, true, false, List, [], ℕ, refl, sym, ap, ◌∙◌}
 use native.Mathlib.Omega.{arith}
 use borrow.Author.Tests.{eqb-true}
-use borrow.Author.Rules.{rules}
 use lib.Dec.{eqb}
 use lib.ListN.{get_or}
-use Rattle.sets.specs.Sets.{member, collect, insert, intersection, lowest}
-use Rattle.sets.proofs.Laws.{by-test, none, ext, collected, collect_small, inserted, insert_small, intersection_small, intersection_member}
-use Rattle.table.specs.Table.{spacing}
-use Rattle.rules.specs.Instant.{previous_release, comes_sooner, too_soon}
+use Rattle.sets.specs.Sets.{member, collect, insert, intersection}
+use Rattle.sets.proofs.Laws.{none, ext, collected, collect_small, inserted, insert_small, intersection_small, intersection_member}
+use Rattle.rules.specs.Instant.{previous_release, too_soon}
 use Rattle.rules.specs.Registers.{state_in}
 use Rattle.rules.specs.Kept.{kept, by_task, beside, read}
-use Rattle.rules.proofs.Members.{Left, passed, Turn, start, turn, falls, at_start, at_end, gathers_one, gathers_none}
+use Rattle.rules.proofs.Members.{passed, Turn, start, turn, falls, at_start, at_end, gathers_one, gathers_none}
 use Rattle.rules.proofs.spacing.too_soon.Invariants.{Gathered, soon_by}
 use Rattle.rules.proofs.spacing.too_soon.Goals as goal
 use Rattle.rules.proofs.spacing.too_soon.Goals.{then-is_too_soon, else-is_too_soon}
@@ -77,7 +76,7 @@ loop-left-preserved c =
     let u = turn w.invariant.tasks c.loop-left-test.true c.lowest-n.ensures c.rest-left.ensures in
     let is = c.is_too_soon.ensures [] [] [] [] in
     elim c.if-is_too_soon.branch [
-      then-is_too_soon a ↦ rw a.soon-is (gathers _ u w.invariant (sym is ∙ a.if-is_too_soon.true) a.insert-soon.ensures)
+      | then-is_too_soon a ↦ rw a.soon-is (gathers _ u w.invariant (sym is ∙ a.if-is_too_soon.true) a.insert-soon.ensures)
       | else-is_too_soon a ↦ rw a.soon-is (passes _ u w.invariant (sym is ∙ a.if-is_too_soon.false))
     ]
 

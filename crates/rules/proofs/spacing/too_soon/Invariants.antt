@@ -1,16 +1,10 @@
-use Rattle.rules.specs.Types.{Bool, true, false, cond, ◌&&◌, ◌||◌, List, [], ℕ, Never, Tick, ◌-◌, ◌^◌, ◌<◌, ◌≡◌, refl, sym, ap, ◌∙◌, ⊎_elim}
-use native.Mathlib.Omega.{arith}
-use borrow.Author.Tests.{eqb-true}
-use borrow.Author.Rules.{rules}
-use lib.Dec.{eqb}
+use Rattle.std.proofs.Common.{◌&&◌, ◌-◌, ◌^◌, ◌<◌, ◌≡◌}
+use Rattle.rules.specs.Types.{Bool, cond, List, ℕ, Never, Tick}
 use lib.ListN.{get_or}
-use Rattle.sets.specs.Sets.{member, collect, insert, intersection, lowest}
-use Rattle.sets.proofs.Laws.{by-test, none, ext, collected, collect_small, inserted, insert_small, intersection_small, intersection_member}
+use Rattle.sets.specs.Sets.{member, lowest}
 use Rattle.table.specs.Table.{spacing}
-use Rattle.rules.specs.Instant.{previous_release, comes_sooner, too_soon}
-use Rattle.rules.specs.Registers.{state_in}
-use Rattle.rules.specs.Kept.{kept, by_task, beside, read}
-use Rattle.rules.proofs.Members.{Left, passed, Turn, start, turn, falls, at_start, at_end, gathers_one, gathers_none}
+use Rattle.rules.specs.Instant.{comes_sooner}
+use Rattle.rules.proofs.Members.{Left, passed}
 use Rattle.rules.proofs.spacing.too_soon.Given as goal
 
 pub record Gathered (test : ℕ → Bool) (all left soon : ℕ) : Type 0 where

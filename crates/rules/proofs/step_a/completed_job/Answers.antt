@@ -1,7 +1,6 @@
 -- `rules::step_a::completed_job` meets its contract: field by field. Assumes nothing.
 use Rattle.rules.proofs.Kept.{job_done}
 use Rattle.rules.specs.Kept.{kept, beside, by_task}
-use borrow.Author.Rules.{rules}
 use Rattle.rules.proofs.step_a.completed_job.Goals as goal
 
 pub returns : goal.returns

@@ -1,5 +1,4 @@
 -- `rules::step_a::copied_out` meets its contract: number by number. Assumes nothing.
-use borrow.Author.Rules.{rules}
 use Rattle.rules.specs.Kept.{kept}
 use Rattle.rules.proofs.Kept.{copied_at}
 use Rattle.rules.proofs.step_a.copied_out.Goals as goal

@@ -3,7 +3,6 @@ use Rattle.rules.specs.Types.{refl, sym, ◌∙◌}
 use borrow.Author.Tests.{eq-eqb, ne_eqb}
 use lib.ListN.{get_or}
 use lib.Seq.{set-get_or}
-use borrow.Author.Rules.{rules}
 use Rattle.rules.proofs.Parts.{copyin_stays}
 use Rattle.rules.proofs.step_a.copyin_ends.Goals as goal
 

@@ -1,6 +1,5 @@
 -- `rules::step_a::copyout_ends` meets its contract: by the tests that it makes. Assumes nothing.
 use borrow.Author.Tests.{ne_eqb}
-use borrow.Author.Rules.{rules}
 use Rattle.rules.proofs.step_a.copyout_ends.Goals as goal
 
 pub returns-then-codes-eq-NO_INTERVAL : goal.returns-then-codes-eq-NO_INTERVAL

@@ -1,5 +1,4 @@
 -- `rules::step_a::others_end` meets its contract: unit by unit, where an interval is open. Assumes nothing.
-use borrow.Author.Rules.{rules}
 use Rattle.rules.specs.Kept.{kept, beside}
 use Rattle.rules.proofs.Kept.{no_interval_ends, others_ended}
 use Rattle.rules.proofs.step_a.others_end.Goals as goal

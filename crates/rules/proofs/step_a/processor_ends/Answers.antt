@@ -1,9 +1,9 @@
 -- `rules::step_a::processor_ends` meets its contract: by whether its phase ends now, and which it is. Assumes nothing.
-use Rattle.rules.specs.Types.{◌≡◌, refl, sym, List, ℕ, Table, Processor}
+use Rattle.std.proofs.Common.{◌≡◌}
+use Rattle.rules.specs.Types.{refl, sym, List, ℕ, Table, Processor}
 use borrow.Author.Tests.{ne_eqb}
-use lib.ListN.{get_or, set}
+use lib.ListN.{get_or}
 use lib.Seq.{set-get_or}
-use borrow.Author.Rules.{rules}
 use Rattle.rules.specs.Instant.{processor_at}
 use Rattle.rules.specs.Registers.{as_processor}
 use Rattle.rules.specs.Steps.{ProcessorTo}

@@ -1,5 +1,4 @@
 -- `rules::step_b::close` meets its contract: number by number. Assumes nothing.
-use borrow.Author.Rules.{rules}
 use Rattle.rules.specs.Kept.{kept}
 use Rattle.rules.proofs.Kept.{closed_to}
 use Rattle.rules.proofs.step_b.close.Goals as goal

@@ -1,6 +1,5 @@
 -- `rules::step_b::copyin_fate` meets its contract: by the kind of the copy-in. Assumes nothing.
 use Rattle.rules.specs.Types.{refl}
-use borrow.Author.Rules.{rules}
 use Rattle.rules.proofs.Parts.{no_fate_yet, fate_so_far}
 use Rattle.rules.proofs.step_b.copyin_fate.Goals as goal
 

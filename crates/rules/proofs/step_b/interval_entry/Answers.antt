@@ -1,8 +1,6 @@
 -- `rules::step_b::interval_entry` meets its contract: field by field. Assumes nothing.
-use lib.ListN.{get_or}
 use Rattle.rules.specs.Kept.{kept, registers_in}
 use Rattle.rules.proofs.Fields.{entry_by}
-use borrow.Author.Rules.{rules}
 use Rattle.rules.proofs.step_b.interval_entry.Goals as goal
 
 pub returns : goal.returns

@@ -1,7 +1,6 @@
 -- `rules::step_b::is_over` meets its contract: by whether an interval is open, and unit by unit. Assumes nothing.
 use Rattle.rules.specs.Types.{sym, ◌∙◌}
 use borrow.Author.Tests.{not-true, not-false}
-use borrow.Author.Rules.{rules}
 use Rattle.rules.specs.Kept.{kept, registers_in}
 use Rattle.rules.proofs.Fields.{none_ends, works}
 use Rattle.rules.proofs.Kept.{unsettled, ends_free}

@@ -1,5 +1,6 @@
 -- `rules::step_b::next_copyout` meets its contract: a processor at its end that is not idle has executed a job. Assumes nothing.
-use Rattle.rules.specs.Types.{true, false, ℕ, ◌≡◌, sym, AwaitsCopyOut}
+use Rattle.std.proofs.Common.{◌≡◌}
+use Rattle.rules.specs.Types.{true, false, ℕ, sym, AwaitsCopyOut}
 use mathlib.Core.Bool.{true≢false}
 use borrow.Author.Tests.{ne_eqb}
 use lib.Dec.{eqb}

@@ -1,6 +1,5 @@
 -- `rules::step_b::promoted` meets its contract: of an interval at its end, only where none was chosen or the copy-in gave way is one promoted. Assumes nothing.
 use borrow.Author.Tests.{ne_eqb}
-use borrow.Author.Rules.{rules}
 use lib.Dec.{eqb}
 use lib.ListN.{get_or}
 use Rattle.sets.proofs.Laws.{by-test}

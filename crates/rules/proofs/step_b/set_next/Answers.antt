@@ -1,7 +1,6 @@
 -- `rules::step_b::set_next` meets its contract: by whether a job is promoted, and by the kind of the copy-in. Assumes nothing.
-use Rattle.rules.specs.Types.{refl, sym, ◌∙◌}
+use Rattle.rules.specs.Types.{refl, sym}
 use borrow.Author.Tests.{ne_eqb, lt-ltb, le-ltb}
-use borrow.Author.Rules.{rules}
 use lib.ListN.{get_or}
 use lib.Seq.{set-get_or}
 use Rattle.rules.proofs.Parts.{none_next}

@@ -1,7 +1,6 @@
 -- `rules::step_c::held_over` meets its contract: by whether an interval is open. Assumes nothing.
 use borrow.Author.Tests.{ne_eqb}
 use Rattle.rules.specs.Registers.{phase_in}
-use borrow.Author.Rules.{rules}
 use Rattle.rules.proofs.step_c.held_over.Goals as goal
 
 pub returns-then-codes-eq-NO_INTERVAL : goal.returns-then-codes-eq-NO_INTERVAL

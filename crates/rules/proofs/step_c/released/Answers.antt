@@ -1,7 +1,6 @@
 -- `rules::step_c::released` meets its contract: set by set. Assumes nothing.
 use Rattle.rules.specs.Instant.{released}
 use Rattle.rules.proofs.Releases.{same_set}
-use borrow.Author.Rules.{rules}
 use Rattle.rules.proofs.step_c.released.Goals as goal
 
 pub returns : goal.returns

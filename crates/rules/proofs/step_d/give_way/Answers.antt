@@ -2,7 +2,6 @@
 use Rattle.rules.specs.Types.{refl, sym, ◌∙◌}
 use mathlib.Core.Path.{ap}
 use borrow.Author.Tests.{not-true, not-false}
-use borrow.Author.Rules.{rules}
 use lib.ListN.{get_or}
 use Rattle.rules.specs.Order.{highest}
 use Rattle.rules.specs.Instant.{cancel}

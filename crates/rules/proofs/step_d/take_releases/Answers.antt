@@ -1,8 +1,7 @@
 -- `rules::step_d::take_releases` meets its contract: steps c and d, one behind the other, and with no release they change nothing. Assumes nothing.
-use Rattle.rules.specs.Types.{sym, ◌∙◌, State}
+use Rattle.rules.specs.Types.{sym, ◌∙◌}
 use borrow.Author.Rules.{rules}
 use Rattle.rules.specs.Instant.{steps_c_d}
-use Rattle.rules.specs.Registers.{state_in}
 use Rattle.rules.specs.Kept.{kept, beside, by_task, registers_in, memory_in}
 use Rattle.rules.proofs.Releases.{union_empty, none_released}
 use Rattle.rules.proofs.Kept.{both, releases_taken}

@@ -1,5 +1,4 @@
 -- `rules::step_e::choose` meets its contract: the choice is made where it has not been made and the engine is free. Assumes nothing.
-use borrow.Author.Rules.{rules}
 use Rattle.rules.specs.Kept.{kept, by_task, beside}
 use Rattle.rules.proofs.Kept.{chosen_before, chosen_later}
 use Rattle.rules.proofs.step_e.choose.Goals as goal

@@ -1,5 +1,4 @@
 -- `rules::step_e::make_choice` meets its contract: by whether a job is ready. Assumes nothing.
-use borrow.Author.Rules.{rules}
 use Rattle.rules.specs.Kept.{kept, by_task, beside}
 use Rattle.rules.proofs.Kept.{chosen_now, none_chosen}
 use Rattle.rules.proofs.step_e.make_choice.Goals as goal

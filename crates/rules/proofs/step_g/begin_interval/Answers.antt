@@ -2,7 +2,6 @@
 -- engine is free. Assumes nothing.
 use Rattle.rules.specs.Types.{sym, ◌∙◌}
 use lib.ListN.{get_or}
-use borrow.Author.Rules.{rules}
 use borrow.Author.Tests.{not-true, not-false}
 use Rattle.rules.specs.Kept.{kept, by_task, beside}
 use Rattle.rules.proofs.Kept.{both, chosen_later, in_interval, not_begun, begun_now}

@@ -1,7 +1,6 @@
 -- `rules::step_g::is_wanted` meets its contract: by the ready jobs, and then by the two jobs. Assumes nothing.
 use lib.ListN.{get_or}
 use borrow.Author.Tests.{ne_eqb}
-use borrow.Author.Rules.{rules}
 use Rattle.rules.proofs.Parts.{wanted_ready, wanted_outgoing, wanted_by_next}
 use Rattle.rules.proofs.step_g.is_wanted.Goals as goal
 

@@ -1,7 +1,6 @@
 -- `rules::step_g::open_interval` meets its contract: number by number, with a copy-out or without. Assumes nothing.
 use mathlib.Core.Bool.{true≢false, false≢true}
 use native.Mathlib.Omega.{arith}
-use borrow.Author.Rules.{rules}
 use Rattle.rules.specs.Kept.{kept, beside}
 use Rattle.rules.proofs.Kept.{work_stays, opened_free, opened_copying}
 use Rattle.rules.proofs.step_g.open_interval.Goals as goal

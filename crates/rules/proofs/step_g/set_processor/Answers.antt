@@ -1,7 +1,6 @@
 -- `rules::step_g::set_processor` meets its contract: by the job that the interval executes. Assumes nothing.
 use Rattle.rules.specs.Types.{refl}
 use borrow.Author.Tests.{ne_eqb}
-use borrow.Author.Rules.{rules}
 use Rattle.rules.proofs.Parts.{loaded_begins, promoted_begins}
 use Rattle.rules.proofs.Kept.{same_work}
 use Rattle.rules.proofs.step_g.set_processor.Goals as goal

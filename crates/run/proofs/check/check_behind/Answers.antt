@@ -1,7 +1,6 @@
 -- `run::check_behind` meets its contract: by what checking the releases found. Assumes nothing.
 use mathlib.Core.Path.{sym, ap, ◌∙◌}
 use Rattle.run.specs.Files.{head_unless}
-use borrow.Author.Rules.{rules}
 use Rattle.run.proofs.check.check_behind.Goals as goal
 
 pub returns-in-NoRefusal : goal.returns-in-NoRefusal

@@ -1,8 +1,6 @@
 -- `run::check_file` meets its contract: by what reading the head found. Assumes nothing.
-use mathlib.Core.Path.{refl, sym, ap, ◌∙◌}
-use Rattle.run.specs.Types.{Head}
+use mathlib.Core.Path.{◌∙◌}
 use Rattle.run.proofs.Checking.{file_empty, file_behind, file_refused, alone, at_entry}
-use borrow.Author.Rules.{rules}
 use Rattle.run.proofs.check.check_file.Goals as goal
 
 pub returns-then-s-eq0 : goal.returns-then-s-eq0

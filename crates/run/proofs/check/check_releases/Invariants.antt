@@ -1,11 +1,8 @@
 use Prim.Native.Nat.{◌≤◌, ◌-◌}
-use mathlib.Core.Path.{refl, sym, ◌∙◌}
-use native.Mathlib.Omega.{arith}
-use borrow.Author.Rules.{rules}
 use lib.ListN.{length}
 use Rattle.run.specs.Types.{NoneBefore}
 use Rattle.run.specs.Files.{refusal_of, releases_from}
-use Rattle.run.proofs.Checking.{Rest, release_whole, few, at_end, malformed, task_late, spacing_late, refuses, turn, turn_on}
+use Rattle.run.proofs.Checking.{Rest}
 use Rattle.run.proofs.check.check_releases.Given as goal
 
 abbrev pub invariant-entries : goal.invariant-entries

@@ -1,7 +1,6 @@
 -- `run::release_refusal` meets its contract: by the tests on the way to each answer. Assumes nothing.
 use borrow.Author.Tests.{lt-ltb, le-ltb, le-leb, lt-leb}
 use Rattle.run.specs.Files.{release_refusal}
-use borrow.Author.Rules.{rules}
 use Rattle.std.proofs.Common.{ap, not}
 use Rattle.run.proofs.check.release_refusal.Goals as goal
 

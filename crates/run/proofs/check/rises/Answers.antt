@@ -1,7 +1,6 @@
 -- `run::rises` meets its contract: by its tests. Assumes nothing.
 use borrow.Author.Tests.{lt-ltb, le-ltb, eq-eqb, ne_eqb}
 use Rattle.run.specs.Files.{rises}
-use borrow.Author.Rules.{rules}
 use Rattle.run.proofs.check.rises.Goals as goal
 
 pub returns-then-l-r : goal.returns-then-l-r

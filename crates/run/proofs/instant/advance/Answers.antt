@@ -6,7 +6,6 @@ use Rattle.rules.specs.Registers.{state_in}
 use Rattle.rules.specs.Kept.{kept, by_task, beside}
 use Rattle.run.proofs.Slices.{skips_most}
 use Rattle.run.proofs.InOrder.{composed, advanced, job_most, span_place}
-use borrow.Author.Rules.{rules}
 use Rattle.run.proofs.instant.advance.Goals as goal
 
 -- little is put before: a job, an interval, 32 skipped releases

@@ -2,7 +2,6 @@
 use Rattle.rules.specs.Kept.{kept, by_task, beside}
 use Rattle.rules.proofs.Instants.{stays, closes, none_ends, behind}
 use Rattle.run.proofs.InOrder.{put_none, put_span}
-use borrow.Author.Rules.{rules}
 use Rattle.run.proofs.instant.end_after.Goals as goal
 
 -- little is put before

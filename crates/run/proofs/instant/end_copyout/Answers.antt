@@ -3,7 +3,6 @@ use mathlib.Core.Path.{refl, sym, ◌∙◌}
 use Rattle.rules.specs.Kept.{kept, by_task, beside}
 use Rattle.rules.proofs.Kept.{no_job_done}
 use Rattle.run.proofs.InOrder.{put_job, put_no_job}
-use borrow.Author.Rules.{rules}
 use Rattle.run.proofs.instant.end_copyout.Goals as goal
 
 pub returns-then-copyout_ends : goal.returns-then-copyout_ends

@@ -4,7 +4,6 @@ use lib.ListN.{length}
 use Rattle.entries.specs.Entries.{interval_bytes}
 use Rattle.run.specs.Types.{IntervalEnded}
 use Rattle.run.proofs.Slices.{one, put_rest, rest_put_length, put_past}
-use borrow.Author.Rules.{rules}
 use Rattle.run.proofs.putting.interval_at.Goals as goal
 use Rattle.run.proofs.putting.interval_at.Goals.{then-at-out, else-at-out}
 
@@ -13,7 +12,7 @@ shape_of-out c =
     let a = c.args in
     let e = interval_bytes a.e in
     elim c.if-at-out.branch [
-      then-at-out w ↦ rest_put_length e a.at a.out.now _ w.put_interval.new.out w.if-at-out.true w.put_interval.ensures w.out-is
+      | then-at-out w ↦ rest_put_length e a.at a.out.now _ w.put_interval.new.out w.if-at-out.true w.put_interval.ensures w.out-is
       | else-at-out w ↦ ap length w.out-is
     ]
 
@@ -22,6 +21,6 @@ returns c =
     let a = c.args in
     let e = interval_bytes a.e in
     elim c.if-at-out.branch [
-      then-at-out w ↦ one a.at (IntervalEnded a.e) a.out.now (w.out-is ∙ put_rest e a.at a.out.now _ w.put_interval.new.out w.if-at-out.true w.put_interval.ensures)
+      | then-at-out w ↦ one a.at (IntervalEnded a.e) a.out.now (w.out-is ∙ put_rest e a.at a.out.now _ w.put_interval.new.out w.if-at-out.true w.put_interval.ensures)
       | else-at-out w ↦ one a.at (IntervalEnded a.e) a.out.now (w.out-is ∙ put_past e a.at a.out.now w.if-at-out.false)
     ]

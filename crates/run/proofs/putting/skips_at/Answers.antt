@@ -1,13 +1,9 @@
 -- `run::skips_at` meets its contract: the skipped releases of the tasks passed are put. Assumes nothing.
-use mathlib.Core.Path.{◌≡◌, refl}
-use Prim.Native.Nat.{◌-◌}
+use mathlib.Core.Path.{refl}
 use native.Mathlib.Omega.{arith}
-use lib.ListN.{length}
 use Rattle.sets.specs.Sets.{lowest}
 use Rattle.sets.proofs.Laws.{lowest_none, lowest_most}
-use Rattle.rules.proofs.Members.{Left, start, turn, falls}
-use Rattle.rules.specs.Entries.{skipped_entries}
-use Rattle.run.specs.Putting.{Puts}
+use Rattle.rules.proofs.Members.{start, turn, falls}
 use Rattle.run.proofs.Slices.{none, both, skips_none, skips_turn, skips_most}
 use borrow.Author.Rules.{rules}
 use Rattle.run.proofs.putting.skips_at.Goals as goal

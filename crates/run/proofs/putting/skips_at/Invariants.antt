@@ -1,14 +1,10 @@
-use mathlib.Core.Path.{◌≡◌, refl}
+use mathlib.Core.Path.{◌≡◌}
 use Prim.Native.Nat.{◌-◌}
-use native.Mathlib.Omega.{arith}
 use lib.ListN.{length}
 use Rattle.sets.specs.Sets.{lowest}
-use Rattle.sets.proofs.Laws.{lowest_none, lowest_most}
-use Rattle.rules.proofs.Members.{Left, start, turn, falls}
+use Rattle.rules.proofs.Members.{Left}
 use Rattle.rules.specs.Entries.{skipped_entries}
 use Rattle.run.specs.Putting.{Puts}
-use Rattle.run.proofs.Slices.{none, both, skips_none, skips_turn, skips_most}
-use borrow.Author.Rules.{rules}
 use Rattle.run.proofs.putting.skips_at.Given as goal
 
 abbrev pub invariant-loop-left : goal.invariant-loop-left

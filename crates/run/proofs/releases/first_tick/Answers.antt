@@ -6,7 +6,6 @@ use Rattle.rules.proofs.Ticks.{stands, never_stands}
 use Rattle.run.specs.Types.{Tick}
 use Rattle.run.specs.Run.{first_time}
 use Rattle.run.proofs.Listing.{here, none}
-use borrow.Author.Rules.{rules}
 use Rattle.run.proofs.releases.first_tick.Goals as goal
 
 pub returns-then-rest-lt-RELEASE_SIZE : goal.returns-then-rest-lt-RELEASE_SIZE

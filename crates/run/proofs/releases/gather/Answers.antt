@@ -1,9 +1,8 @@
 -- `run::gather` meets its contract: what is left to gather, gathered from here, gives what the whole gives. Assumes nothing.
 use mathlib.Core.Path.{◌≡◌, refl, sym, ap, ◌∙◌, subst}
 use mathlib.Core.List.{List}
-use Prim.Native.Nat.{ℕ, ◌+◌, ◌-◌, ◌*◌, ◌≤◌}
+use Prim.Native.Nat.{ℕ, ◌+◌}
 use native.Mathlib.Omega.{arith}
-use borrow.Author.Rules.{rules}
 use lib.ListN.{length}
 use Rattle.sets.specs.Sets.{insert}
 use Rattle.rules.specs.Steps.{Stands}
@@ -11,7 +10,7 @@ use Rattle.entries.specs.Entries.{size, release_at}
 use Rattle.entries.proofs.Places.{release_is}
 use Rattle.run.specs.Types.{Release}
 use Rattle.run.specs.Listed.{releases_at}
-use Rattle.run.specs.Run.{first_time, released_from, released_at, released_after}
+use Rattle.run.specs.Run.{first_time, released_from, released_after}
 use Rattle.run.proofs.Listing.{here, in_part, how_many, taken, after_taken, stands_here, stops_here}
 use Rattle.run.proofs.releases.gather.Goals as goal
 

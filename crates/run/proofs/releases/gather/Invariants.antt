@@ -1,17 +1,10 @@
-use mathlib.Core.Path.{◌≡◌, refl, sym, ap, ◌∙◌, subst}
+use mathlib.Core.Path.{◌≡◌}
 use mathlib.Core.List.{List}
-use Prim.Native.Nat.{ℕ, ◌+◌, ◌-◌, ◌*◌, ◌≤◌}
-use native.Mathlib.Omega.{arith}
-use borrow.Author.Rules.{rules}
+use Prim.Native.Nat.{ℕ, ◌-◌, ◌*◌, ◌≤◌}
 use lib.ListN.{length}
-use Rattle.sets.specs.Sets.{insert}
-use Rattle.rules.specs.Steps.{Stands}
-use Rattle.entries.specs.Entries.{size, release_at}
-use Rattle.entries.proofs.Places.{release_is}
-use Rattle.run.specs.Types.{Release}
+use Rattle.entries.specs.Entries.{size}
 use Rattle.run.specs.Listed.{releases_at}
-use Rattle.run.specs.Run.{first_time, released_from, released_at, released_after}
-use Rattle.run.proofs.Listing.{here, in_part, how_many, taken, after_taken, stands_here, stops_here}
+use Rattle.run.specs.Run.{released_from, released_at, released_after}
 use Rattle.run.proofs.releases.gather.Given as goal
 
 pub record Read (s : List ℕ) (t at : ℕ) : Type 0 where

@@ -1,6 +1,5 @@
 -- `run::next_tick` meets its contract: by what its callees give. Assumes nothing.
 use Rattle.rules.proofs.Ticks.{both}
-use borrow.Author.Rules.{rules}
 use Rattle.run.proofs.releases.next_tick.Goals as goal
 
 pub returns : goal.returns

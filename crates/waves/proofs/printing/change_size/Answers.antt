@@ -7,7 +7,6 @@ use native.Mathlib.Omega.{arith}
 use Rattle.lines.proofs.Laws.{short}
 use Rattle.waves.specs.Dump.{change}
 use Rattle.waves.proofs.Laying.{change_size}
-use borrow.Author.Rules.{rules}
 use Rattle.waves.proofs.printing.change_size.Goals as goal
 
 -- a mark's digits and the lines of the values are few

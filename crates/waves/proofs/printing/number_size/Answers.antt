@@ -1,9 +1,7 @@
 -- `waves::number_size` meets its contract: each tenth has one digit less. Assumes nothing.
-use mathlib.Core.Path.{◌≡◌, refl, ap}
-use Prim.Native.Nat.{◌+◌, ◌≤◌}
+use mathlib.Core.Path.{refl, ap}
 use native.Mathlib.Omega.{arith}
 use lib.ListN.{length}
-use Rattle.lines.specs.Lines.{decimal}
 use Rattle.lines.proofs.Laws.{one_digit, more_digits, short}
 use Rattle.waves.proofs.printing.number_size.Goals as goal
 

@@ -1,9 +1,7 @@
-use mathlib.Core.Path.{◌≡◌, refl, ap}
+use mathlib.Core.Path.{◌≡◌}
 use Prim.Native.Nat.{◌+◌, ◌≤◌}
-use native.Mathlib.Omega.{arith}
 use lib.ListN.{length}
 use Rattle.lines.specs.Lines.{decimal}
-use Rattle.lines.proofs.Laws.{one_digit, more_digits, short}
 use Rattle.waves.proofs.printing.number_size.Given as goal
 
 abbrev pub invariant-loop-left : goal.invariant-loop-left

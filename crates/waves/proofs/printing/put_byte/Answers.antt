@@ -2,7 +2,6 @@
 use mathlib.Core.Path.{refl}
 use native.Mathlib.Omega.{arith}
 use Rattle.waves.proofs.Laying.{stored}
-use borrow.Author.Rules.{rules}
 use Rattle.waves.proofs.printing.put_byte.Goals as goal
 
 pub returns : goal.returns

@@ -4,7 +4,6 @@ use mathlib.Core.List.{◌++◌}
 use Rattle.lines.specs.Lines.{decimal, newline}
 use Rattle.waves.specs.Dump.{mark}
 use Rattle.waves.proofs.Laying.{◌then◌, first_room, next_room, mark_size}
-use borrow.Author.Rules.{rules}
 use Rattle.waves.proofs.printing.put_mark.Goals as goal
 
 pub put_byte-number-requires : goal.put_byte-number-requires

@@ -5,7 +5,6 @@ use native.Mathlib.Omega.{arith}
 use borrow.Author.Tests.{eq-eqb, ne_eqb}
 use Rattle.waves.specs.Dump.{wires}
 use Rattle.waves.proofs.Laying.{nothing, new_is, wires_size}
-use borrow.Author.Rules.{rules}
 use Rattle.waves.proofs.printing.put_new.Goals as goal
 
 pub returns-then-old-new : goal.returns-then-old-new

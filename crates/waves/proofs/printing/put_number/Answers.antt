@@ -3,8 +3,7 @@ use mathlib.Core.Path.{ap, ◌∙◌}
 use Prim.Native.Nat.{◌+◌, ◌-◌}
 use native.Mathlib.Omega.{arith}
 use lib.ListN.{length-set}
-use Rattle.waves.proofs.Numbers.{some_digits, Behind, begins, inside, ahead, step, ends}
-use borrow.Author.Rules.{rules}
+use Rattle.waves.proofs.Numbers.{some_digits, begins, inside, ahead, step, ends}
 use Rattle.waves.proofs.printing.put_number.Goals as goal
 
 pub overflow_add-i : goal.overflow_add-i

@@ -1,9 +1,4 @@
-use mathlib.Core.Path.{ap, ◌∙◌}
-use Prim.Native.Nat.{◌+◌, ◌-◌}
-use native.Mathlib.Omega.{arith}
-use lib.ListN.{length-set}
-use Rattle.waves.proofs.Numbers.{some_digits, Behind, begins, inside, ahead, step, ends}
-use borrow.Author.Rules.{rules}
+use Rattle.waves.proofs.Numbers.{Behind}
 use Rattle.waves.proofs.printing.put_number.Given as goal
 
 abbrev pub invariant-loop-left : goal.invariant-loop-left

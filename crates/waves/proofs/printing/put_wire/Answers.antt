@@ -1,8 +1,6 @@
 -- `waves::put_wire` meets its contract: byte by byte. Assumes nothing.
-use native.Mathlib.Omega.{arith}
 use Rattle.waves.specs.Dump.{wire}
 use Rattle.waves.proofs.Laying.{◌then◌}
-use borrow.Author.Rules.{rules}
 use Rattle.waves.proofs.printing.put_wire.Goals as goal
 
 pub returns : goal.returns

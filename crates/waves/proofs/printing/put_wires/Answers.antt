@@ -5,7 +5,6 @@ use Prim.Native.Nat.{ℕ, ◌+◌}
 use native.Mathlib.Omega.{arith}
 use Rattle.entries.specs.Entries.{laid}
 use Rattle.waves.proofs.Laying.{copied, wires_size}
-use borrow.Author.Rules.{rules}
 use Rattle.waves.proofs.printing.put_wires.Goals as goal
 
 pub returns : goal.returns

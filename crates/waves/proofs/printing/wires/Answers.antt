@@ -1,6 +1,5 @@
 -- `waves::wires` meets its contract: digit by digit. Assumes nothing.
 use Rattle.waves.specs.Dump.{wires}
-use borrow.Author.Rules.{rules}
 use Rattle.waves.proofs.printing.wires.Goals as goal
 
 pub returns : goal.returns

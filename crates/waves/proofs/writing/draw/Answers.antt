@@ -1,5 +1,5 @@
 -- `waves::draw` meets its contract: the header, the instants, and the start where there was none. Assumes nothing.
-use mathlib.Core.Path.{◌≡◌, sym, ap, ◌∙◌, subst}
+use mathlib.Core.Path.{sym, ap, ◌∙◌, subst}
 use mathlib.Core.List.{List}
 use Prim.Native.Nat.{ℕ, ◌+◌, ◌≤◌}
 use native.Mathlib.Omega.{arith}
@@ -9,7 +9,6 @@ use Rattle.waves.specs.Drawing.{start}
 use Rattle.waves.proofs.Laying.{front, grows}
 use Rattle.waves.proofs.Drawing.{start_most}
 use Rattle.waves.proofs.Whole.{of_piece, header_room, space, all_drawn, start_room, start_drawn, from_start, to_start, nobody}
-use borrow.Author.Rules.{rules}
 use Rattle.waves.proofs.writing.draw.Goals as goal
 
 pub keep_piece-requires : goal.keep_piece-requires
@@ -34,7 +33,7 @@ returns-then-drawn c =
     to_start c.args.part d.result d.ensures.0 c.args.s.now c.args.budget (all_drawn q x g c.if-drawn.true)
 
 pub put_start-n-requires : goal.put_start-n-requires
-put_start-n-requires c = (omega arith, record { fits = omega (arith, start_most (record { processor = 255; copyin = 255; copyout = 255; half = 0 })) })
+put_start-n-requires c = record { half_bound = omega arith; room = record { fits = omega (arith, start_most (record { processor = 255; copyin = 255; copyout = 255; half = 0 })) } }
 
 pub slice_bounds-scratch-end : goal.slice_bounds-scratch-end
 slice_bounds-scratch-end c =

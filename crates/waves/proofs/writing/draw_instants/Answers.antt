@@ -1,11 +1,7 @@
 -- `waves::draw_instants` meets its contract: what is put so far and what is to come make the rest of the dump. Assumes nothing.
 use native.Mathlib.Omega.{arith}
-use Rattle.rules.specs.Kept.{kept, by_task, beside, read}
 use Rattle.dispatcher.specs.Dispatcher.{state_of}
-use Rattle.waves.specs.Samples.{seen}
-use Rattle.waves.specs.Drawing.{run_rest}
-use Rattle.waves.proofs.Drawing.{Drawing, begins, ends, spent, at_the_end, half_before, half_now, reads_on, room, moves}
-use borrow.Author.Rules.{rules}
+use Rattle.waves.proofs.Drawing.{begins, ends, spent, at_the_end, half_before, half_now, reads_on, room, moves}
 use Rattle.waves.proofs.writing.draw_instants.Goals as goal
 
 pub loop-left-init : goal.loop-left-init
@@ -22,13 +18,12 @@ slice_bounds-advance-start c = omega (arith, c.loop-left.invariant.served.within
 pub add_turn-size-requires : goal.add_turn-size-requires
 add_turn-size-requires c =
     let v = c.loop-left in
-    let on = c.if-x.false in (
-      half_before v.invariant c.advance-x.ensures,
-      (
-        half_now v.invariant c.advance-x.ensures c.shown-w.result c.shown-w.ensures,
-        (omega (arith, v.invariant.few), room v.invariant c.advance-x.ensures on c.shown-w.result c.shown-w.ensures c.loop-left-test.true (λ e. c.requires.kept e)),
-      ),
-    )
+    let on = c.if-x.false in record {
+      half_bound = half_before v.invariant c.advance-x.ensures;
+      half_bound_2 = half_now v.invariant c.advance-x.ensures c.shown-w.result c.shown-w.ensures;
+      at_bound = omega (arith, v.invariant.few);
+      room_at = room v.invariant c.advance-x.ensures on c.shown-w.result c.shown-w.ensures c.loop-left-test.true (λ e. c.requires.kept e);
+    }
 
 pub overflow_add-at : goal.overflow_add-at
 overflow_add-at c = omega (arith, reads_on c.loop-left.invariant c.advance-x.ensures c.if-x.false)
@@ -46,7 +41,7 @@ loop-left-preserved c =
     let now = c.shown-w in
     let on = c.if-x.false in
     let put = c.add_turn-size in
-    moves v.invariant made on now.result now.ensures c.loop-left-test.true put.result put.ensures.0 (λ e. c.requires.kept e) put.ensures.1 c.out-1.given
+    moves v.invariant made on now.result now.ensures c.loop-left-test.true put.result put.ensures.value (λ e. c.requires.kept e) put.ensures.kept_at c.out-1.given
 
 pub shape_of-out-after-loop-left : goal.shape_of-out-after-loop-left
 shape_of-out-after-loop-left c = c.loop-left.invariant.same_out

@@ -1,10 +1,8 @@
-use native.Mathlib.Omega.{arith}
 use Rattle.rules.specs.Kept.{kept, by_task, beside, read}
 use Rattle.dispatcher.specs.Dispatcher.{state_of}
 use Rattle.waves.specs.Samples.{seen}
 use Rattle.waves.specs.Drawing.{run_rest}
-use Rattle.waves.proofs.Drawing.{Drawing, begins, ends, spent, at_the_end, half_before, half_now, reads_on, room, moves}
-use borrow.Author.Rules.{rules}
+use Rattle.waves.proofs.Drawing.{Drawing}
 use Rattle.waves.proofs.writing.draw_instants.Given as goal
 
 abbrev pub invariant-loop-left : goal.invariant-loop-left

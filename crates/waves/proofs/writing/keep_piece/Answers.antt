@@ -5,7 +5,6 @@ use lib.ListN.{length, length-drop}
 use Rattle.sets.proofs.Laws.{clash}
 use Rattle.words.proofs.Laws.{rest_whole}
 use Rattle.waves.proofs.Laying.{copied}
-use borrow.Author.Rules.{rules}
 use Rattle.waves.proofs.writing.keep_piece.Goals as goal
 
 pub slice_bounds-copy-count : goal.slice_bounds-copy-count

@@ -2,7 +2,6 @@
 use mathlib.Core.Path.{ap, ◌∙◌}
 use Rattle.rules.specs.Kept.{kept, read}
 use Rattle.waves.proofs.Seeing.{of_view, as_viewed}
-use borrow.Author.Rules.{rules}
 use Rattle.waves.proofs.writing.shown.Goals as goal
 
 pub returns : goal.returns

@@ -1,5 +1,4 @@
 -- `waves::writing::shown_by` meets its contract: field by field. Assumes nothing.
-use borrow.Author.Rules.{rules}
 use Rattle.waves.proofs.writing.shown_by.Goals as goal
 
 pub returns : goal.returns

@@ -6,7 +6,6 @@ use Rattle.waves.specs.Dump.{change}
 use Rattle.waves.specs.Drawing.{start}
 use Rattle.waves.proofs.Laying.{start_size}
 use Rattle.waves.proofs.Drawing.{adds_change, adds_start, adds_both, change_most}
-use borrow.Author.Rules.{rules}
 use Rattle.waves.proofs.writing.turn_size.Goals as goal
 
 pub returns-then-begun : goal.returns-then-begun

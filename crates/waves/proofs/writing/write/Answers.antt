@@ -1,5 +1,4 @@
 -- `waves::write` meets its contract: what is written, with what a viewer shows of it. Assumes nothing.
-use borrow.Author.Rules.{rules}
 use Rattle.record.proofs.Outcomes.{in_numbers}
 use Rattle.waves.proofs.Viewing.{accepted_views}
 use Rattle.waves.proofs.writing.write.Goals as goal

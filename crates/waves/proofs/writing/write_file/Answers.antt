@@ -2,7 +2,6 @@
 use mathlib.Core.Path.{refl}
 use Rattle.record.proofs.Outcomes.{accepted_whole, runs_whole, refused_whole, alone, at_entry}
 use Rattle.waves.proofs.Outcomes.{refused, whole_file}
-use borrow.Author.Rules.{rules}
 use Rattle.waves.proofs.writing.write_file.Goals as goal
 
 pub write_run-requires : goal.write_run-requires

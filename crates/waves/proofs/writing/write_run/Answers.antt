@@ -1,10 +1,9 @@
 -- `waves::write_run` meets its contract: the dump fits, by its length, or it does not. Assumes nothing.
-use mathlib.Core.Path.{refl, sym, ap, ◌∙◌}
-use mathlib.Core.Bool.{true≢false, false≢true}
+use mathlib.Core.Path.{refl, sym, ap}
+use mathlib.Core.Bool.{false≢true}
 use native.Mathlib.Omega.{arith}
 use lib.ListN.{length}
 use Rattle.record.proofs.Outcomes.{fits, too_short}
-use borrow.Author.Rules.{rules}
 use Rattle.waves.proofs.writing.write_run.Goals as goal
 
 pub draw-needed-requires : goal.draw-needed-requires
