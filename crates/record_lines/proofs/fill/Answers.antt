@@ -24,7 +24,7 @@ overflow_add-len c =
     let v = c.loop-line in
     let l = c.line_at-line in
     let p = c.put-n in
-    omega (arith, (goes_on a.s.now a.at a.out.now v.len v.next v.out l.result.text l.result.next p.result p.new.out v.invariant.0 v.invariant.1 l.ensures p.ensures.0 c.if-n-eq0.false).0)
+    omega (arith, (goes_on a.s.now a.at a.out.now v.len v.next v.out l.result.text l.result.next p.result p.new.out v.invariant.0 v.invariant.1 l.ensures p.ensures.0 (search rules)).0)
 
 pub loop-line-smaller : goal.loop-line-smaller
 loop-line-smaller c =
@@ -32,7 +32,7 @@ loop-line-smaller c =
     let v = c.loop-line in
     let l = c.line_at-line in
     let p = c.put-n in
-    let g = goes_on a.s.now a.at a.out.now v.len v.next v.out l.result.text l.result.next p.result p.new.out v.invariant.0 v.invariant.1 l.ensures p.ensures.0 c.if-n-eq0.false in
+    let g = goes_on a.s.now a.at a.out.now v.len v.next v.out l.result.text l.result.next p.result p.new.out v.invariant.0 v.invariant.1 l.ensures p.ensures.0 (search rules) in
     omega (arith, g.1, g.2)
 
 pub loop-line-preserved : goal.loop-line-preserved
@@ -41,7 +41,7 @@ loop-line-preserved c =
     let v = c.loop-line in
     let l = c.line_at-line in
     let p = c.put-n in
-    (turned a.s.now a.at a.out.now v.len v.next v.out l.result.text l.result.next p.result p.new.out v.invariant.0 v.invariant.1 l.ensures p.ensures.0 c.if-n-eq0.false p.ensures.1, search rules)
+    (turned a.s.now a.at a.out.now v.len v.next v.out l.result.text l.result.next p.result p.new.out v.invariant.0 v.invariant.1 l.ensures p.ensures.0 (search rules) p.ensures.1, search rules)
 
 pub returns : goal.returns
 returns c =
@@ -49,4 +49,4 @@ returns c =
     let v = c.loop-line in
     let l = c.line_at-line in
     let p = c.put-n in
-    stopped a.s.now a.at a.out.now v.len v.next v.out l.result.text l.result.next p.result p.new.out v.invariant.0 v.invariant.1 l.ensures p.ensures.0 c.if-n-eq0.true p.ensures.1
+    stopped a.s.now a.at a.out.now v.len v.next v.out l.result.text l.result.next p.result p.new.out v.invariant.0 v.invariant.1 l.ensures p.ensures.0 (search rules) p.ensures.1
