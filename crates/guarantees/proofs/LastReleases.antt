@@ -273,13 +273,13 @@ module _ (n : ℕ) where
           go true s e = absurd (false≢true e)
           go false s e = e
 
-      -- where one is taken and another set waiting, the first had waited
-      deferred_passes : member n (deferred_at d t set) ≡ true → Behind x.tick t → PassesBy d.table (taken_by (member n (taken_at d t set)) t x).tick t
+      -- where one is taken and another set waiting, the first had waited; F is what is said of the last one
+      deferred_so : (F : Due → Type 0) → (FarFrom d.table x.tick t → F x.tick) → member n (deferred_at d t set) ≡ true → F (taken_by (member n (taken_at d t set)) t x).tick
       unfolding taken_at deferred_at
-      deferred_passes m later =
-          subst (λ (l : Due). PassesBy d.table l t)
+      deferred_so F so m =
+          subst F
           (sym (rw (taken_member (at_b d t).state (passed d t set) n small, waits_b) (stays (member n (at_b d t).state.jobs.pending) x.waits (member n (passed d t set)) refl found)))
-          (passed_far (handed (member n (at_b d t).state.jobs.pending) x.waits (member n (passed d t set)) found), later)
+          (so (passed_far (handed (member n (at_b d t).state.jobs.pending) x.waits (member n (passed d t set)) found)))
         where
           found : is_deferred (member n (at_b d t).state.jobs.pending) x.waits (member n (passed d t set)) ≡ true
           found =
@@ -298,11 +298,32 @@ module _ (n : ℕ) where
           stays false false true k e = absurd (false≢true e)
           stays false false false k e = absurd (false≢true e)
 
+      deferred_far : member n (deferred_at d t set) ≡ true → FarFrom d.table (taken_by (member n (taken_at d t set)) t x).tick t
+      deferred_far m = deferred_so (λ l. FarFrom d.table l t) (λ f. f) m
+
+      deferred_passes : member n (deferred_at d t set) ≡ true → Behind x.tick t → PassesBy d.table (taken_by (member n (taken_at d t set)) t x).tick t
+      deferred_passes m later = deferred_so (λ l. PassesBy d.table l t) (λ f. (f, later)) m
+
     -- ---- along the calls
 
-    pub apart : (table : Table) → Gap table → (cs : List Call) (d : State) → d.table ≡ table → (x : LastRelease) → LastIs x d.jobs.release d.waiting → Past d.clock x
-        → let g : State = after_calls d cs in Apart (PassesBy table) (λ y. LastIs y g.jobs.release g.waiting) x (history d cs)
+    pub apart : (table : Table) → Gap table → (cs : List Call) (d : State) → d.table ≡ table → (x : LastRelease) → LastIs x d.jobs.release d.waiting
+        → let g : State = after_calls d cs in Apart (FarFrom table) (λ y. LastIs y g.jobs.release g.waiting) x (history d cs)
     apart table gap =
+        walk_to
+        (λ d h g. d.table ≡ table → (x : LastRelease) → LastIs x d.jobs.release d.waiting → Apart (FarFrom table) (λ y. LastIs y g.jobs.release g.waiting) x h)
+        (λ d i x k. unfold Apart in k)
+        (λ d t set cs e f i x k.
+        let b : Bool = member n (taken_at d t set) in
+        happens_apart (FarFrom table) (λ y. LastIs y (after_calls (at_g d t set) cs).jobs.release (after_calls (at_g d t set) cs).waiting) small d t set x (history (at_g d t set) cs)
+        (λ m w. subst (λ (y : Table). FarFrom y x.tick t) i (taken_far d t set x (subst Gap (sym i) gap) k m w))
+        (λ m. subst (λ (y : Table). FarFrom y (taken_by b t x).tick t) i (deferred_far d t set x (subst Gap (sym i) gap) k m))
+        (f (table_g d t set ∙ i) (then_by b (member n (deferred_at d t set)) t x) (then_is d t set x k)))
+        (λ d m e h g f i x k. f i x k)
+
+    -- the same with what comes before, from a clock on that the last one is not behind
+    pub passing : (table : Table) → Gap table → (cs : List Call) (d : State) → d.table ≡ table → (x : LastRelease) → LastIs x d.jobs.release d.waiting → Past d.clock x
+        → let g : State = after_calls d cs in Apart (PassesBy table) (λ y. LastIs y g.jobs.release g.waiting) x (history d cs)
+    passing table gap =
         walk_to
         (λ d h g. d.table ≡ table → (x : LastRelease) → LastIs x d.jobs.release d.waiting → Past d.clock x → Apart (PassesBy table) (λ y. LastIs y g.jobs.release g.waiting) x h)
         (λ d i x k p. unfold Apart in k)
@@ -348,12 +369,14 @@ module _ (n : ℕ) where
       apart_at (PassesBy small table) End before (Defers n t) after no_last (subst (Apart (PassesBy small table) End no_last) e a) (rw (same_task n))
 
   pub spaced_so : (small : n < 32) (table : Table) (End : LastRelease → Type 0) (h : List Event) → member n table.spaced ≡ true
-      → Apart (PassesBy small table) End no_last h → Spaced n table h
+      → Apart (FarFrom small table) End no_last h → Spaced n table h
   spaced_so small table End h s a = record {
     at_taking = λ before after t u m e w l.
-        (apart_at (PassesBy small table) End before (Takes n t m) after no_last (subst (Apart (PassesBy small table) End no_last) e a)
-        (both (eqb n n) (not (After before).waits) (same_task n) (ap not (none_waits before w)))).0 s u l;
-    at_waiting = λ before after t u e l. (deferral_so small table End h a before after t e).0 s u l;
+        apart_at (FarFrom small table) End before (Takes n t m) after no_last (subst (Apart (FarFrom small table) End no_last) e a)
+        (both (eqb n n) (not (After before).waits) (same_task n) (ap not (none_waits before w))) s u l;
+    at_waiting = λ before after t u e l.
+        apart_at (FarFrom small table) End before (Defers n t) after no_last (subst (Apart (FarFrom small table) End no_last) e a)
+        (rw (same_task n)) s u l;
   }
     where
       After : List Event → LastRelease
@@ -375,16 +398,19 @@ module _ (table : Table) (marks : ℕ) (fair : Fair table marks) (n : ℕ) (smal
   unfolding opened
   opened_table = refl
 
-  all_apart : Apart n (PassesBy n small table) (λ y. LastIs n y g.jobs.release g.waiting) no_last (history d calls)
-  all_apart = apart n small table (λ s. (fair.spacings n s).0) calls d opened_table no_last (opened_last table marks n small) (λ t o u e. absurd (let z : ◌≡◌ {A = ℕ} 0 1 = cc in omega arith))
+  all_apart : Apart n (FarFrom n small table) (λ y. LastIs n y g.jobs.release g.waiting) no_last (history d calls)
+  all_apart = apart n small table (λ s. (fair.spacings n s).0) calls d opened_table no_last (opened_last table marks n small)
+
+  all_passing : Apart n (PassesBy n small table) (λ y. LastIs n y g.jobs.release g.waiting) no_last (history d calls)
+  all_passing = passing n small table (λ s. (fair.spacings n s).0) calls d opened_table no_last (opened_last table marks n small) (λ t o u e. absurd (let z : ◌≡◌ {A = ℕ} 0 1 = cc in omega arith))
 
   pub last_releases : previous_release g n ≡ last_released n (history d calls)
   last_releases =
       last_is n small g (after (last_by n) no_last (history d calls))
-      (apart_end n (PassesBy n small table) (λ y. LastIs n y g.jobs.release g.waiting) (history d calls) no_last all_apart)
+      (apart_end n (FarFrom n small table) (λ y. LastIs n y g.jobs.release g.waiting) (history d calls) no_last all_apart)
 
   pub spaced : member n table.spaced ≡ true → Spaced n table (history d calls)
   spaced s = spaced_so n small table (λ y. LastIs n y g.jobs.release g.waiting) (history d calls) s all_apart
 
   pub deferral : (before after : List Event) (t u : ℕ) → history d calls ≡ before ++ (Defers n t ∷ after) → last_released n before ≡ Tick u → u < t
-  deferral before after t u e l = (deferral_so n small table (λ y. LastIs n y g.jobs.release g.waiting) (history d calls) all_apart before after t e).1 u l
+  deferral before after t u e l = (deferral_so n small table (λ y. LastIs n y g.jobs.release g.waiting) (history d calls) all_passing before after t e).1 u l
