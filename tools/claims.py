@@ -55,7 +55,7 @@ GIVEN = {
     "copyin_length": (2, at), "execution_length": (2, lambda c, n: at(c, TASKS + n)),
     "copyout_length": (2, lambda c, n: at(c, 2 * TASKS + n)), "spacing": (2, lambda c, n: at(c, 3 * TASKS + n)),
     "settled": (1, lambda copyin: copyin[0] in ("NoneChosen", "Loaded", "Cancelled")),
-    "copyin_task": (1, lambda copyin: ("Task", copyin[1]) if len(copyin) > 1 else ("NoTask",))}
+    "copyin_task": (1, lambda copyin: ("Some", copyin[1]) if len(copyin) > 1 else ("None",))}
 
 
 # Values that are what they look like, and how many of what they give are kept.
@@ -84,7 +84,7 @@ class Claims:
     def highest(self, priority, since, tasks):
         """The highest task of a set: by priority, then by the original time, which a function gives of each, then by number (6/13)."""
         members = [n for n in range(TASKS) if tasks >> n & 1]
-        return ("Task", min(members, key=lambda n: (at(priority, n), self.apply(since, [n]), n))) if members else ("NoTask",)
+        return ("Some", min(members, key=lambda n: (at(priority, n), self.apply(since, [n]), n))) if members else ("None",)
 
     # Values.
 
@@ -341,7 +341,7 @@ def is_variable(name):
 def is_data(kind):
     """Whether a field's type is one of values, and no statement."""
     head = kind[1] if kind[0] == "app" else kind
-    return head[0] == "var" and head[1] in ("ℕ", "Bool", "List", "MaybeTask", "Due")
+    return head[0] == "var" and head[1] in ("ℕ", "Bool", "List", "Option")
 
 
 def names_in(term):

@@ -218,10 +218,10 @@ CALLS = (
     Call("say(words::put_u8(&mut lent[..room], (b % 256) as u8) as u64)", put(1, lambda b: b % 256), room_and_number),
     Call("say(words::put_u32(&mut lent[..room], b) as u64)", put(4, lambda b: b), room_and_number),
     Call("say(words::put_u64(&mut lent[..room], 4294967297 * b as u64) as u64)", put(8, lambda b: 4294967297 * b), room_and_number),
-    Call("say_entry(entries::entry_at(s, at))", refusal((TASK, SPACING, RELEASE)), input_and_place),
+    Call("say_number(entries::entry_at(s, at))", refusal((TASK, SPACING, RELEASE)), input_and_place),
     Call("say_filled(record_lines::fill(s, at, &mut lent[..room]))", filled, room_and_record),
-    Call("say_record_entry(entries::record_entry_at(s, at))", refusal((JOB_DONE, INTERVAL, SKIPPED)), record_and_place),
-    Call("say(run::check_file(s).end as u64)", head_end, file_or_not),
+    Call("say_number(entries::record_entry_at(s, at))", refusal((JOB_DONE, INTERVAL, SKIPPED)), record_and_place),
+    Call("say(end_of_head(s))", head_end, file_or_not),
     Call("say(blockable(s, a) as u64)", blockable, set_and_interval),
     Call("say(guarantees::longest_interval(&columns_of(s), a))", lambda a, b, s: number(longest(a, s)), table_and_number),
     Call("say(guarantees::completes_after(&columns_of(s), a, s[512], s[513] == 1, b))", completes, table_and_number),
@@ -231,9 +231,15 @@ CALLS = (
 NEEDS = ("dispatcher", "entries", "guarantees", "record_lines", "rules", "run", "sets", "words", "streams")
 
 SOURCE = """
-use entries::Entry;
-use entries::RecordEntry;
+use entries::Unreadable;
 use record_lines::Filled;
+
+fn end_of_head(s: &[u8]) -> u64 {
+    match run::check_file(s) {
+        Ok(head) => head.end as u64,
+        Err(_) => 0,
+    }
+}
 
 fn blockable(s: &[u8], present: u32) -> u32 {
     let mut ranks = [0u8; 32];
@@ -270,7 +276,7 @@ fn read(s: &[u8], at: usize) -> u32 {
 }
 
 fn write(rt: HostRuntime, bytes: &[u8]) {
-    streams::write(rt, b"direct", bytes);
+    let _ = streams::write(rt, bytes);
 }
 
 fn say(rt: HostRuntime, n: u64) {
@@ -285,21 +291,10 @@ fn say(rt: HostRuntime, n: u64) {
     write(rt, &out);
 }
 
-fn say_record_entry(rt: HostRuntime, entry: RecordEntry) {
+fn say_number<T: Copy>(rt: HostRuntime, entry: Result<T, Unreadable>) {
     match entry {
-        RecordEntry::MalformedRecord(number) => say(rt, number as u64),
-        RecordEntry::JobDone(_) => say(rt, 0),
-        RecordEntry::IntervalEnded(_) => say(rt, 0),
-        RecordEntry::ReleaseSkipped(_) => say(rt, 0),
-    }
-}
-
-fn say_entry(rt: HostRuntime, entry: Entry) {
-    match entry {
-        Entry::Malformed(number) => say(rt, number as u64),
-        Entry::TaskEntry(_) => say(rt, 0),
-        Entry::SpacingEntry(_) => say(rt, 0),
-        Entry::ReleaseEntry(_) => say(rt, 0),
+        Ok(_) => say(rt, 0),
+        Err(unreadable) => say(rt, unreadable.number() as u64),
     }
 }
 
@@ -322,7 +317,9 @@ ARMS
 fn main(rt: HostRuntime) {
     let mut input = [0u8; 1024];
     let mut lent = [FILLu8; MOST_LENT];
-    let count = streams::fill(rt, b"direct", &mut input, 0).count;
+    let Ok(count) = streams::fill(rt, &mut input, 0) else {
+        return;
+    };
     let a = read(&input, 1);
     let b = read(&input, 5);
     call(rt, input[0], a, b, &input[9..count], &mut lent);

@@ -6,7 +6,7 @@ from tools.claims import Partial, listed, unlisted
 
 
 def maybe(number):
-    return ("NoTask",) if number is None else ("Task", number)
+    return ("None",) if number is None else ("Some", number)
 
 
 class Watched(Dispatcher):
@@ -65,7 +65,7 @@ class Watched(Dispatcher):
 def occurred(answer):
     """An answer, as the rules have it."""
     job, interval = answer.job_done, answer.interval
-    done = ("NoJob",) if job is None else ("Job", dict(job._asdict()))
+    done = ("None",) if job is None else ("Some", dict(job._asdict()))
     if interval is None:
         closed = ("Unclosed",)
     else:
@@ -73,7 +73,7 @@ def occurred(answer):
         closed = ("BeforeReleases" if answer.closed_at == "b" else "AfterReleases", {
             "begin": begin, "end": end, "half": half, "task": maybe(task), "work": work, "copiedout": maybe(out),
             "chosen": maybe(chosen), "fate": fate, "promoted": maybe(promoted)})
-    return {"done": done, "closed": closed, "skipped": answer.skipped, "due": ("Never",) if answer.due is None else ("Tick", answer.due)}
+    return {"done": done, "closed": closed, "skipped": answer.skipped, "due": ("None",) if answer.due is None else ("Some", answer.due)}
 
 
 class Point(dict):
@@ -118,14 +118,14 @@ class Run:
         events, answer = [], None
         try:
             if call[0] == "Instant":
-                answer = ("Served", occurred(dispatcher.instant(*call[1:])))
+                answer = ("Ok", occurred(dispatcher.instant(*call[1:])))
                 events = dispatcher.events
             elif call[0] == "Mark":
                 dispatcher.mark(*call[1:])
             else:
                 dispatcher.mark_all(*call[1:])
         except Refused as refused:
-            answer = ("Refused", refused.number)
+            answer = ("Err", refused.number)
         self.calls.append(call)
         self.answers.append(answer)
         self.events.append(events)
@@ -142,7 +142,7 @@ def length(calls):
 def refusal(d):
     """The number by which the next call is refused, or 0."""
     answer = d.run.answers[d.at]
-    return answer[1] if answer is not None and answer[0] == "Refused" else 0
+    return answer[1] if answer is not None and answer[0] == "Err" else 0
 
 
 class Opened(dict):
@@ -196,4 +196,4 @@ OF_RUNS = {
     "refusal": (3, lambda d, t, tasks: refusal(at(d, listed([("Instant", t, tasks)])))),
     "mark_refusal": (3, lambda d, n, mark: refusal(at(d, listed([("Mark", n, mark)])))),
     "instant": (3, lambda d, t, tasks: {"answer": d.run.answers[d.at]}),
-    "previous_release": (2, lambda d, n: ("Tick", d.passed[n]) if n in d.passed else ("Never",))}
+    "previous_release": (2, lambda d, n: ("Some", d.passed[n]) if n in d.passed else ("None",))}

@@ -75,15 +75,17 @@ fn call(which: u8, rest: &[u8], out: &mut [u8], told: &mut usize) -> u8 {
 pub fn main_of_exports(rt: HostRuntime) {
     let mut input = [0u8; 1048576];
     let mut out = [FILLu8; 262144];
-    let count = streams::fill(rt, b"exports", &mut input, 0).count;
+    let Ok(count) = streams::fill(rt, &mut input, 0) else {
+        return;
+    };
     let room = number_at(&input, 1, 8) as usize;
     let mut told: usize = 0;
     let number = call(input[0], &input[ROOM..count], &mut out[..room], &mut told);
     let mut first = [0u8; 8];
     put_number(&mut first, told as u64);
-    streams::write(rt, b"exports", &[number]);
-    streams::write(rt, b"exports", &first);
-    streams::write(rt, b"exports", &out[..room + BEHIND]);
+    let _ = streams::write(rt, &[number]);
+    let _ = streams::write(rt, &first);
+    let _ = streams::write(rt, &out[..room + BEHIND]);
 }
 """.replace("FILL", str(FILL)).replace("BEHIND", str(BEHIND))
 
@@ -456,8 +458,10 @@ fn answer(page: &mut Page, input: &[u8]) {
 pub fn main_of_instants(rt: HostRuntime) {
     let mut input = [0u8; 65536];
     let mut page = Page { bytes: [0u8; 1048576], len: 0 };
-    let count = streams::fill(rt, b"instants", &mut input, 0).count;
+    let Ok(count) = streams::fill(rt, &mut input, 0) else {
+        return;
+    };
     answer(&mut page, &input[..count]);
-    streams::write_front(rt, b"instants", &page.bytes, page.len);
+    let _ = streams::write_front(rt, &page.bytes, page.len);
 }
 """

@@ -104,7 +104,7 @@ def first_broken(read):
 
 def histories_false(read_claim, read):
     """Which statement on histories does not hold; None where all do."""
-    given = {"opening": (1, lambda data: {"state": Opened(bytes(unlisted(data)))})}
+    given = {"opening": (1, lambda data: ("Ok", Opened(bytes(unlisted(data))))), "state_opened": (1, lambda opening: opening[1])}
     claims = Claims([read_claim(file) for file in CLAIM] + [read(HISTORIES)], {**OF_RUNS, **given})
     claims.tasks = (0, 1, 2, 3, 31)
     return next((name for name in OF_HISTORIES if not claims.holds(("var", name), {})), None)

@@ -33,17 +33,17 @@ class Happenings(unittest.TestCase):
 
 class Reading(unittest.TestCase):
     def test_a_definition_by_clauses(self):
-        found = antt.read_definitions("module _ (n : ℕ) where\n  abbrev pub f : ℕ → ℕ\n  f (Task k) = cond (eqb n k) 1\n      (k + 2)\n")
+        found = antt.read_definitions("module _ (n : ℕ) where\n  abbrev pub f : ℕ → ℕ\n  f (Some k) = cond (eqb n k) 1\n      (k + 2)\n")
         [(patterns, body)] = found["f"].clauses
-        self.assertEqual((found["f"].params, patterns), (("n",), [("app", ("var", "Task"), [("var", "k")])]))
+        self.assertEqual((found["f"].params, patterns), (("n",), [("app", ("var", "Some"), [("var", "k")])]))
         self.assertEqual(body, ("app", ("var", "cond"), [
             ("app", ("var", "eqb"), [("var", "n"), ("var", "k")]), ("num", 1), ("op", "+", ("var", "k"), ("num", 2))]))
 
     def test_a_record_of_statements(self):
-        record = "pub record R (h : List Event) : Type 0 where\n  -- a comment\n  pub line : (t : ℕ) → h.x ≡ Tick t → t < 3\n"
+        record = "pub record R (h : List Event) : Type 0 where\n  -- a comment\n  pub line : (t : ℕ) → h.x ≡ Some t → t < 3\n"
         found = antt.read_definitions(record)
         self.assertEqual(found["R"].fields, [("line", ("pi", ["t"], ("arrow",
-            ("op", "≡", ("proj", ("var", "h"), "x"), ("app", ("var", "Tick"), [("var", "t")])), ("op", "<", ("var", "t"), ("num", 3)))))])
+            ("op", "≡", ("proj", ("var", "h"), "x"), ("app", ("var", "Some"), [("var", "t")])), ("op", "<", ("var", "t"), ("num", 3)))))])
 
     def test_what_is_not_read(self):
         with self.assertRaises(antt.Unread):
@@ -53,7 +53,7 @@ class Reading(unittest.TestCase):
 class Runs(unittest.TestCase):
     def test_the_events_of_plan_f(self):
         events = [event for each in Run(TASKS, PLAN_F).events for event in each]
-        none, one = ("NoTask",), ("Task", 1)
+        none, one = ("None",), ("Some", 1)
         self.assertEqual(events[:18], [
             ("Comes", 0), ("Takes", 1, 0, True), ("Begins", 0, none, none),
             ("Comes", 2), ("Finishes", 1), ("Ends", 2), ("Begins", 2, one, none), ("Starts", 1, 2),
@@ -63,7 +63,7 @@ class Runs(unittest.TestCase):
     def test_what_came_too_soon_is_no_event(self):
         """Neither taken nor set waiting, it stands in the answer alone."""
         run = Run(TASKS + spacing_entry(1, 6), PLAN_F)
-        self.assertEqual(run.events[2], [("Comes", 5), ("Stops", 1, 5), ("Ends", 5), ("Begins", 5, ("NoTask",), ("Task", 1))])
+        self.assertEqual(run.events[2], [("Comes", 5), ("Stops", 1, 5), ("Ends", 5), ("Begins", 5, ("None",), ("Some", 1))])
         self.assertEqual(run.answers[2][1]["skipped"], 2)
         self.assertEqual((run.table["spaced"], run.table["columns"][96:]), (2, [0, 6] + [0] * 30))
 
@@ -78,7 +78,7 @@ class Runs(unittest.TestCase):
         self.assertTrue(self.changed("specs/Claim.antt", "-- ---- The order\n", ""))
 
     def test_a_line_that_says_otherwise_does_not(self):
-        self.assertFalse(self.changed("specs/Pending.antt", "Tick u → taking n after ≡ Tick c", "Tick u → taking n after ≡ Tick u"))
+        self.assertFalse(self.changed("specs/Pending.antt", "Some u → taking n after ≡ Some c", "Some u → taking n after ≡ Some u"))
         self.assertFalse(self.changed("specs/Intervals.antt", "(1 - x.half)", "x.half"))
         self.assertFalse(self.changed("specs/Releases.antt", ".set_waiting + skipped", ".later + skipped"))
         self.assertFalse(self.changed("specs/Copying.antt", "false (completes e || x.choosing)", "false x.choosing"))

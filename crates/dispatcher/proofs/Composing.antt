@@ -9,7 +9,7 @@ use Rattle.rules.specs.Steps.{TooSoonAt, HeldOverAt, CopiesOut, TestedAt}
 use Rattle.rules.specs.declared.ReleaseFates.{ReleaseFates}
 use Rattle.rules.proofs.Kept.{Long, by_length}
 use Rattle.rules.proofs.Instants.{Left, left, occurred_by, once_here}
-use Rattle.dispatcher.specs.Types.{Stage, JobEntry, IntervalEntry, Done, NoJob, Job, Closed, NoInterval, Span, Due, Never, Tick, Occurred}
+use Rattle.dispatcher.specs.Types.{Stage, JobEntry, IntervalEntry, Option, None, Some, Closed, NoInterval, Span, Occurred}
 use Rattle.dispatcher.specs.Telling.{job_told, interval_told, due_told, due_number, job_and_whether, before_told, after_told, told_of, occurred_in}
 use Rattle.dispatcher.specs.Promises.{DoneFits, TellsJob, ToldInterval, ClosedReads, TestedTold, step_e_f, EndedAt, TellsSkipped, TellsDue, Instant}
 use Rattle.dispatcher.proofs.ReadBack.{ClosingReads, back}
@@ -23,23 +23,23 @@ reads_once (Span e) y h a b = a
 
 -- ---- the steps that tell
 
-pub job_ends : {t : ℕ} {k k' : Kept} {b : Beside} {e : JobEntry} {told told' : List ℕ} → Job e ≡ (step_a (read k b) t (read k b).phase).done
+pub job_ends : {t : ℕ} {k k' : Kept} {b : Beside} {e : JobEntry} {told told' : List ℕ} → Some e ≡ (step_a (read k b) t (read k b).phase).done
     → TellsJob e told told' → CopiesOut t k k' b → EndedAt t k b k' told told'
 job_ends {t} {k} {b = b} {told = told} d j c = record {
   whole = c.whole;
   no_more = c.no_more;
   state = c.state;
-  told_is = j.told_is ∙ ap (λ (z : Done). job_and_whether z told) d;
+  told_is = j.told_is ∙ ap (λ (z : Option JobEntry). job_and_whether z told) d;
   fits = subst DoneFits d (j.task_fits, j.blocked_fits);
 }
 
 pub no_job_ends : {t : ℕ} {k : Kept} {b : Beside} {told : List ℕ} → Whole k → copyout_ends t k.times k.codes ≡ false
-    → NoJob ≡ (step_a (read k b) t (read k b).phase).done → EndedAt t k b k told (put told 2 0)
+    → None ≡ (step_a (read k b) t (read k b).phase).done → EndedAt t k b k told (put told 2 0)
 no_job_ends {told = told} w e d = record {
   whole = w;
   no_more = e;
   state = refl;
-  told_is = ap (λ (z : Done). job_and_whether z told) d;
+  told_is = ap (λ (z : Option JobEntry). job_and_whether z told) d;
   fits = subst DoneFits d tt;
 }
 
@@ -75,26 +75,26 @@ module _ (w0 w1 w2 w3 w4 w5 w6 w7 w8 w9 w10 w11 w12 w13 w14 w15 w16 w17 w18 s : 
   abbrev words : List ℕ
   words = w0 ∷ w1 ∷ w2 ∷ w3 ∷ w4 ∷ w5 ∷ w6 ∷ w7 ∷ w8 ∷ w9 ∷ w10 ∷ w11 ∷ w12 ∷ w13 ∷ w14 ∷ w15 ∷ w16 ∷ w17 ∷ w18 ∷ []
 
-  abbrev turn : Done → Closed → Closed → Due → List ℕ
+  abbrev turn : Option JobEntry → Closed → Closed → Option ℕ → List ℕ
   turn d x y n = put (due_told n (after_told y (put (before_told x (job_and_whether d words)) 1 s))) 4 (due_number n)
 
-  in_turn : (d : Done) (x y : Closed) (n : Due) → ((e : IntervalEntry) → x ≡ Span e → y ≡ NoInterval)
+  in_turn : (d : Option JobEntry) (x y : Closed) (n : Option ℕ) → ((e : IntervalEntry) → x ≡ Span e → y ≡ NoInterval)
       → turn d x y n ≡ told_of (record { done = d; closed = closing x y; skipped = s; due = n }) words
   unfolding told_of job_told interval_told
-  in_turn NoJob NoInterval NoInterval Never h = refl
-  in_turn NoJob NoInterval NoInterval (Tick t) h = refl
-  in_turn NoJob NoInterval (Span e) Never h = refl
-  in_turn NoJob NoInterval (Span e) (Tick t) h = refl
-  in_turn NoJob (Span e) y Never h = ap (λ (z : Closed). turn NoJob (Span e) z Never) (h e refl)
-  in_turn NoJob (Span e) y (Tick t) h = ap (λ (z : Closed). turn NoJob (Span e) z (Tick t)) (h e refl)
-  in_turn (Job j) NoInterval NoInterval Never h = refl
-  in_turn (Job j) NoInterval NoInterval (Tick t) h = refl
-  in_turn (Job j) NoInterval (Span e) Never h = refl
-  in_turn (Job j) NoInterval (Span e) (Tick t) h = refl
-  in_turn (Job j) (Span e) y Never h = ap (λ (z : Closed). turn (Job j) (Span e) z Never) (h e refl)
-  in_turn (Job j) (Span e) y (Tick t) h = ap (λ (z : Closed). turn (Job j) (Span e) z (Tick t)) (h e refl)
+  in_turn None NoInterval NoInterval None h = refl
+  in_turn None NoInterval NoInterval (Some t) h = refl
+  in_turn None NoInterval (Span e) None h = refl
+  in_turn None NoInterval (Span e) (Some t) h = refl
+  in_turn None (Span e) y None h = ap (λ (z : Closed). turn None (Span e) z None) (h e refl)
+  in_turn None (Span e) y (Some t) h = ap (λ (z : Closed). turn None (Span e) z (Some t)) (h e refl)
+  in_turn (Some j) NoInterval NoInterval None h = refl
+  in_turn (Some j) NoInterval NoInterval (Some t) h = refl
+  in_turn (Some j) NoInterval (Span e) None h = refl
+  in_turn (Some j) NoInterval (Span e) (Some t) h = refl
+  in_turn (Some j) (Span e) y None h = ap (λ (z : Closed). turn (Some j) (Span e) z None) (h e refl)
+  in_turn (Some j) (Span e) y (Some t) h = ap (λ (z : Closed). turn (Some j) (Span e) z (Some t)) (h e refl)
 
-told_in_turn : (d : Done) (x y : Closed) (s : ℕ) (n : Due) (told : List ℕ) → length told ≡ 19 → ((e : IntervalEntry) → x ≡ Span e → y ≡ NoInterval)
+told_in_turn : (d : Option JobEntry) (x y : Closed) (s : ℕ) (n : Option ℕ) (told : List ℕ) → length told ≡ 19 → ((e : IntervalEntry) → x ≡ Span e → y ≡ NoInterval)
     → put (due_told n (after_told y (put (before_told x (job_and_whether d told)) 1 s))) 4 (due_number n)
     ≡ told_of (record { done = d; closed = closing x y; skipped = s; due = n }) told
 unfolding Long
@@ -151,7 +151,7 @@ module _ {kt ka kb kx kf kg : Kept} {bb bx bf : Beside} {fates : ReleaseFates} {
         reads = ap occurred_in told_is ∙ back o told long outs.fits (reads_once x y once tests.reads second.reads) skip-told.skipped_fits ∙ occurs;
       }
     where
-      told_by : (d : Done) (x y : Closed) (s : ℕ) (n : Due) {la lb ls lf lg : List ℕ} → ((e : IntervalEntry) → x ≡ Span e → y ≡ NoInterval)
+      told_by : (d : Option JobEntry) (x y : Closed) (s : ℕ) (n : Option ℕ) {la lb ls lf lg : List ℕ} → ((e : IntervalEntry) → x ≡ Span e → y ≡ NoInterval)
           → la ≡ job_and_whether d told → lb ≡ before_told x la → ls ≡ put lb 1 s → lf ≡ after_told y ls → lg ≡ put (due_told n lf) 4 (due_number n)
           → lg ≡ told_of (record { done = d; closed = closing x y; skipped = s; due = n }) told
       told_by d x y s n once a b p f g =

@@ -1,9 +1,12 @@
 -- What a call promises, of its outcome and of the state that a refused one hands back. Assumes nothing.
-use Rattle.std.proofs.Common.{true, false, eqb, refl, ap, ◌≡◌}
-use Rattle.dispatcher.specs.Types.{ℕ, ◌∙◌, State, Instant, Mark, Marks, Occurred, Served, Refused, Dispatcher, Step, MarkStep}
+use Rattle.std.proofs.Common.{true, false, eqb, refl, ap, ◌≡◌, ne_eqb, arith}
+use Rattle.dispatcher.specs.Types.{ℕ, ◌∙◌, State, Instant, Mark, Marks, Occurred, Ok, Err, Dispatcher, Step, MarkStep}
 use Rattle.rules.specs.Instant.{at_g, occurred}
 use Rattle.rules.specs.Calls as rules
 use Rattle.rules.specs.Tickets as tickets
+use Rattle.rules.specs.declared.refusal.CallRefusal.{CallRefusal}
+use Rattle.rules.specs.declared.refusal.CallRefusal.TheVariants.{BadMark, LateRelease, NotAfter, PastDue, UnknownTask, BusyTask, OldTicket}
+use Rattle.rules.specs.Refusals.{call_number, numbered}
 use Rattle.rules.specs.Answers.{answer_number, answer_values, mark_number}
 use Rattle.rules.proofs.Numbers.{instant_number, mark_call_number, marks_call_number, after_instant, after_mark, after_marks}
 use Rattle.rules.proofs.DeskMarks.{desk_marks}
@@ -73,11 +76,24 @@ committed d k t set r e a = record {
   untouched = λ f. a.untouched (λ g. f (rw e g));
 }
 
-pub not_committed : (d : Dispatcher) (k t set : ℕ) → eqb k d.ticket ≡ false → Commits d k t set (record { state = d; answer = Refused 20 })
+pub not_committed : (d : Dispatcher) (k t set : ℕ) → eqb k d.ticket ≡ false → Commits d k t set (record { state = d; answer = Err OldTicket })
 not_committed d k t set e = record { step = rw e; number = rw e; values = rw e; untouched = λ f. refl }
 
 -- an instant by its steps
 pub is_served : {s : State} {o : Occurred} (d : State) (t set : ℕ) → s ≡ at_g d t set → o ≡ occurred d t set
-    → ◌≡◌ {A = rules.Step} (record { state = s; answer = Served o }) (rules.served d t set)
+    → ◌≡◌ {A = rules.Step} (record { state = s; answer = Ok o }) (rules.served d t set)
 unfolding rules.served
 is_served d t set p q = rw (p, q)
+
+-- no refusal's number is 0
+pub some_refusal : (e : CallRefusal) → call_number e ≡ 0 → ⊥
+some_refusal BadMark h = absurd (omega (arith, h))
+some_refusal LateRelease h = absurd (omega (arith, h))
+some_refusal NotAfter h = absurd (omega (arith, h))
+some_refusal PastDue h = absurd (omega (arith, h))
+some_refusal UnknownTask h = absurd (omega (arith, h))
+some_refusal BusyTask h = absurd (omega (arith, h))
+some_refusal OldTicket h = absurd (omega (arith, h))
+
+pub some_number : (e : CallRefusal) → eqb (call_number e) 0 ≡ false
+some_number e = ne_eqb (call_number e) 0 (some_refusal e)

@@ -6,35 +6,35 @@ use Rattle.rules.specs.Instant.{processor_task, copyout_task, copyin_task, copyi
 use Rattle.rules.specs.Registers.{as_task, as_processor, as_copyout, as_copyin, processor_in, copyout_in, copyin_in, interval_in as units}
 use Rattle.rules.specs.Kept.{kept, registers_in}
 use Rattle.rules.proofs.Kept.{Long, by_length}
-use Rattle.dispatcher.specs.Types.{MaybeTask, NoTask, Task, Done, NoJob, Job, Closing, Unclosed, BeforeReleases, AfterReleases, Due, Never, Tick, Occurred}
+use Rattle.dispatcher.specs.Types.{Option, JobEntry, None, Some, Closing, Unclosed, BeforeReleases, AfterReleases, Occurred}
 use Rattle.dispatcher.specs.Telling.{task_word, job_told, interval_told, told_of, task_in, occurred_in}
 use Rattle.dispatcher.specs.Promises.{TaskFits, TaskWord, Readable, DoneFits, ToldInterval}
 
 -- ---- a task's word
 
-pub word_of : {x : ℕ} {t : MaybeTask} (n : ℕ) → Task n ≡ t → x ≡ n → x < 256 → TaskWord t x
-word_of {x} n e p l = subst (λ (t : MaybeTask). TaskWord t x) e (record { is = p; fits = omega (arith, p, l) })
+pub word_of : {x : ℕ} {t : Option ℕ} (n : ℕ) → Some n ≡ t → x ≡ n → x < 256 → TaskWord t x
+word_of {x} n e p l = subst (λ (t : Option ℕ). TaskWord t x) e (record { is = p; fits = omega (arith, p, l) })
 
-pub no_word : {t : MaybeTask} → NoTask ≡ t → TaskWord t 511
-no_word e = subst (λ (t : MaybeTask). TaskWord t 511) e (record { is = refl; fits = tt })
+pub no_word : {t : Option ℕ} → None ≡ t → TaskWord t 511
+no_word e = subst (λ (t : Option ℕ). TaskWord t 511) e (record { is = refl; fits = tt })
 
 -- no task, by what a unit does
-pub idles : {kind : ℕ} (n start until : ℕ) → kind ≡ 0 → NoTask ≡ processor_task (as_processor kind n start until)
+pub idles : {kind : ℕ} (n start until : ℕ) → kind ≡ 0 → None ≡ processor_task (as_processor kind n start until)
 idles n start until e = simp e
 
-pub no_copyout : {kind : ℕ} (n start until : ℕ) → kind ≡ 0 → NoTask ≡ copyout_task (as_copyout kind n start until)
+pub no_copyout : {kind : ℕ} (n start until : ℕ) → kind ≡ 0 → None ≡ copyout_task (as_copyout kind n start until)
 no_copyout n start until e = simp e
 
-pub no_copyin : (kind n until : ℕ) → kind ≤ 1 → NoTask ≡ copyin_task (as_copyin kind n until)
+pub no_copyin : (kind n until : ℕ) → kind ≤ 1 → None ≡ copyin_task (as_copyin kind n until)
 no_copyin kind n until l =
     by-test (eqb kind 0)
     (λ z. simp (eqb-true kind 0 z))
     (λ z. let o : kind ≡ 1 = omega (arith, l, eqb-false kind 0 z) in simp o)
 
-pub is_task : (n : ℕ) → n < 32 → Task n ≡ as_task n
+pub is_task : (n : ℕ) → n < 32 → Some n ≡ as_task n
 is_task n l = simp (lt-ltb n 32 l)
 
-pub is_none : (n : ℕ) → 32 ≤ n → NoTask ≡ as_task n
+pub is_none : (n : ℕ) → 32 ≤ n → None ≡ as_task n
 is_none n l = simp (le-ltb n 32 l)
 
 -- an interval's words, of the units' numbers
@@ -68,9 +68,9 @@ tells times sets codes t p told h a w o i f q =
 low : (x : ℕ) → x < 256 → x % 256 ≡ x
 low x l = omega arith
 
-task_back : (t : MaybeTask) → TaskFits t → task_in (task_word t) ≡ t
-task_back NoTask f = refl
-task_back (Task n) f = simp (lt-ltb n 256 f)
+task_back : (t : Option ℕ) → TaskFits t → task_in (task_word t) ≡ t
+task_back None f = refl
+task_back (Some n) f = simp (lt-ltb n 256 f)
 
 abbrev pub ClosingReads : Closing → Type 0
 ClosingReads Unclosed = Unit {0}
@@ -84,32 +84,32 @@ module _ (s w0 w1 w2 w3 w4 w5 w6 w7 w8 w9 w10 w11 w12 w13 w14 w15 w16 w17 w18 : 
   small : s % 2 ^ 32 ≡ s
   small = omega (arith, l)
 
-  back_in : (done : Done) (closed : Closing) (next : Due) → DoneFits done → ClosingReads closed
+  back_in : (done : Option JobEntry) (closed : Closing) (next : Option ℕ) → DoneFits done → ClosingReads closed
       → occurred_in (told_of (record { done = done; closed = closed; skipped = s; due = next }) told)
       ≡ record { done = done; closed = closed; skipped = s; due = next }
   unfolding occurred_in told_of job_told interval_told
-  back_in NoJob Unclosed Never f r = simp small
-  back_in NoJob Unclosed (Tick t) f r = simp small
-  back_in NoJob (BeforeReleases i) Never f r =
+  back_in None Unclosed None f r = simp small
+  back_in None Unclosed (Some t) f r = simp small
+  back_in None (BeforeReleases i) None f r =
       simp (small, low i.half r.half_fits, low i.work r.work_fits, low i.fate r.fate_fits, task_back i.task r.task_fits, task_back i.copiedout r.copiedout_fits, task_back i.chosen r.chosen_fits, task_back i.promoted r.promoted_fits)
-  back_in NoJob (BeforeReleases i) (Tick t) f r =
+  back_in None (BeforeReleases i) (Some t) f r =
       simp (small, low i.half r.half_fits, low i.work r.work_fits, low i.fate r.fate_fits, task_back i.task r.task_fits, task_back i.copiedout r.copiedout_fits, task_back i.chosen r.chosen_fits, task_back i.promoted r.promoted_fits)
-  back_in NoJob (AfterReleases i) Never f r =
+  back_in None (AfterReleases i) None f r =
       simp (small, low i.half r.half_fits, low i.work r.work_fits, low i.fate r.fate_fits, task_back i.task r.task_fits, task_back i.copiedout r.copiedout_fits, task_back i.chosen r.chosen_fits, task_back i.promoted r.promoted_fits)
-  back_in NoJob (AfterReleases i) (Tick t) f r =
+  back_in None (AfterReleases i) (Some t) f r =
       simp (small, low i.half r.half_fits, low i.work r.work_fits, low i.fate r.fate_fits, task_back i.task r.task_fits, task_back i.copiedout r.copiedout_fits, task_back i.chosen r.chosen_fits, task_back i.promoted r.promoted_fits)
-  back_in (Job e) Unclosed Never f r = simp (small, low e.task f.0, low e.blocked f.1)
-  back_in (Job e) Unclosed (Tick t) f r = simp (small, low e.task f.0, low e.blocked f.1)
-  back_in (Job e) (BeforeReleases i) Never f r =
+  back_in (Some e) Unclosed None f r = simp (small, low e.task f.0, low e.blocked f.1)
+  back_in (Some e) Unclosed (Some t) f r = simp (small, low e.task f.0, low e.blocked f.1)
+  back_in (Some e) (BeforeReleases i) None f r =
       let task = low e.task f.0 in let blocked = low e.blocked f.1 in
       simp (small, task, blocked, low i.half r.half_fits, low i.work r.work_fits, low i.fate r.fate_fits, task_back i.task r.task_fits, task_back i.copiedout r.copiedout_fits, task_back i.chosen r.chosen_fits, task_back i.promoted r.promoted_fits)
-  back_in (Job e) (BeforeReleases i) (Tick t) f r =
+  back_in (Some e) (BeforeReleases i) (Some t) f r =
       let task = low e.task f.0 in let blocked = low e.blocked f.1 in
       simp (small, task, blocked, low i.half r.half_fits, low i.work r.work_fits, low i.fate r.fate_fits, task_back i.task r.task_fits, task_back i.copiedout r.copiedout_fits, task_back i.chosen r.chosen_fits, task_back i.promoted r.promoted_fits)
-  back_in (Job e) (AfterReleases i) Never f r =
+  back_in (Some e) (AfterReleases i) None f r =
       let task = low e.task f.0 in let blocked = low e.blocked f.1 in
       simp (small, task, blocked, low i.half r.half_fits, low i.work r.work_fits, low i.fate r.fate_fits, task_back i.task r.task_fits, task_back i.copiedout r.copiedout_fits, task_back i.chosen r.chosen_fits, task_back i.promoted r.promoted_fits)
-  back_in (Job e) (AfterReleases i) (Tick t) f r =
+  back_in (Some e) (AfterReleases i) (Some t) f r =
       let task = low e.task f.0 in let blocked = low e.blocked f.1 in
       simp (small, task, blocked, low i.half r.half_fits, low i.work r.work_fits, low i.fate r.fate_fits, task_back i.task r.task_fits, task_back i.copiedout r.copiedout_fits, task_back i.chosen r.chosen_fits, task_back i.promoted r.promoted_fits)
 

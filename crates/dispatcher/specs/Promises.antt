@@ -1,6 +1,6 @@
 -- What the parts of a call promise, over the arrays that a dispatcher is kept as: the rules' outcome of the state that was read before,
 -- whatever stands in the arrays that they are not lent.
-use Rattle.dispatcher.specs.Types.{List, ℕ, State, Stage, MaybeTask, NoTask, Task, JobEntry, IntervalEntry, Done, NoJob, Job, Closed, NoInterval, Span, Due}
+use Rattle.dispatcher.specs.Types.{List, ℕ, State, Stage, Option, None, Some, JobEntry, IntervalEntry, Closed, NoInterval, Span}
 use Rattle.std.specs.Prelude.{◌^◌, ◌<◌, Bool, false, cond, set, slice_index, slice_set, ◌≡◌}
 use Rattle.rules.specs.Instant.{processor_task, copyout_task, copyin_task, copyin_fate, entry_with, step_a, step_e, step_f, due, at_g, occurred}
 use Rattle.rules.specs.Calls.{refusal, not_after, before_now, mark_refusal, marks_refusal, with_marks}
@@ -43,11 +43,11 @@ pub record TellsJob (e : JobEntry) (told told' : List ℕ) : Type 0 where
 -- ---- Telling an interval
 
 -- a task's word, of a task that is a byte
-abbrev pub TaskFits : MaybeTask → Type 0
-TaskFits NoTask = Unit {0}
-TaskFits (Task n) = n < 256
+abbrev pub TaskFits : Option ℕ → Type 0
+TaskFits None = Unit {0}
+TaskFits (Some n) = n < 256
 
-pub record TaskWord (t : MaybeTask) (x : ℕ) : Type 0 where
+pub record TaskWord (t : Option ℕ) (x : ℕ) : Type 0 where
   pub is : x ≡ telling.task_word t
   pub fits : TaskFits t
 
@@ -90,7 +90,7 @@ pub record TellsSkipped (skipped : ℕ) (told told' : List ℕ) : Type 0 where
   pub skipped_fits : skipped < 2 ^ 32
 
 -- the due time, and whether there is one
-abbrev pub DueTold : Due → List ℕ → List ℕ → Type 0
+abbrev pub DueTold : Option ℕ → List ℕ → List ℕ → Type 0
 DueTold p told told' = told' ≡ slice_set (telling.due_told p told) 4 (telling.due_number p)
 
 abbrev pub TellsDue : List ℕ → List ℕ → List ℕ → List ℕ → Type 0
@@ -98,9 +98,9 @@ TellsDue times codes told told' = (sets : List ℕ) → DueTold (due (phase_in (
 
 -- ---- Steps that tell
 
-abbrev pub DoneFits : Done → Type 0
-DoneFits NoJob = Unit {0}
-DoneFits (Job e) = (e.task < 256) × (e.blocked < 256)
+abbrev pub DoneFits : Option JobEntry → Type 0
+DoneFits None = Unit {0}
+DoneFits (Some e) = (e.task < 256) × (e.blocked < 256)
 
 -- a copy-out's end: step a of what is left is that of what was there
 pub record EndedAt (t : ℕ) (k : Kept) (b : Beside) (k' : Kept) (told told' : List ℕ) : Type 0 where

@@ -1,15 +1,15 @@
 -- What an instant tells, a word for each number: the next due time; the skipped releases; whether a job is done, whether an interval
 -- closed and whether there is a due time; then the numbers of the job, and those of the interval. What does not occur leaves its words as
 -- they were. Read back, the words give what occurred.
-use Rattle.dispatcher.specs.Types.{List, ℕ, cond, JobEntry, IntervalEntry, MaybeTask, NoTask, Task, Done, NoJob, Job, Closed, NoInterval, Span, Closing, Unclosed, BeforeReleases, AfterReleases, Due, Never, Tick, Occurred}
+use Rattle.dispatcher.specs.Types.{List, ℕ, cond, JobEntry, IntervalEntry, Option, None, Some, Closed, NoInterval, Span, Closing, Unclosed, BeforeReleases, AfterReleases, Occurred}
 use Rattle.std.specs.Prelude.{◌%◌, ◌^◌, set, ◌==◌, nat_lt, slice_index, slice_set}
 
 -- ---- Told
 
 -- no task is a number that no byte has, since in memory that no call made a task may be any byte; its lowest byte is that of no task
-abbrev pub task_word : MaybeTask → ℕ
-task_word NoTask = 511
-task_word (Task n) = n
+abbrev pub task_word : Option ℕ → ℕ
+task_word None = 511
+task_word (Some n) = n
 
 unfoldable pub job_told : JobEntry → List ℕ → List ℕ
 job_told e told =
@@ -21,32 +21,32 @@ interval_told e told =
     10 e.begin) 11 e.end) 12 e.half) 13 (task_word e.task)) 14 e.work)
     15 (task_word e.copiedout)) 16 (task_word e.chosen)) 17 e.fate) 18 (task_word e.promoted)
 
-abbrev pub done_told : Done → List ℕ → List ℕ
-done_told NoJob told = told
-done_told (Job e) told = job_told e told
+abbrev pub done_told : Option JobEntry → List ℕ → List ℕ
+done_told None told = told
+done_told (Some e) told = job_told e told
 
 abbrev pub closing_told : Closing → List ℕ → List ℕ
 closing_told Unclosed told = told
 closing_told (BeforeReleases e) told = interval_told e told
 closing_told (AfterReleases e) told = interval_told e told
 
-abbrev pub due_told : Due → List ℕ → List ℕ
-due_told Never told = told
-due_told (Tick t) told = slice_set told 0 t
+abbrev pub due_told : Option ℕ → List ℕ → List ℕ
+due_told None told = told
+due_told (Some t) told = slice_set told 0 t
 
 -- 1 where there is one; of an interval, 1 where it ended before the releases and 2 after them
-abbrev pub done_number : Done → ℕ
-done_number NoJob = 0
-done_number (Job e) = 1
+abbrev pub done_number : Option JobEntry → ℕ
+done_number None = 0
+done_number (Some e) = 1
 
 abbrev pub closing_number : Closing → ℕ
 closing_number Unclosed = 0
 closing_number (BeforeReleases e) = 1
 closing_number (AfterReleases e) = 2
 
-abbrev pub due_number : Due → ℕ
-due_number Never = 0
-due_number (Tick t) = 1
+abbrev pub due_number : Option ℕ → ℕ
+due_number None = 0
+due_number (Some t) = 1
 
 unfoldable pub told_of : Occurred → List ℕ → List ℕ
 told_of o told =
@@ -56,7 +56,7 @@ told_of o told =
 -- ---- Told step by step
 
 -- the job that is done, and whether there is one
-abbrev pub job_and_whether : Done → List ℕ → List ℕ
+abbrev pub job_and_whether : Option JobEntry → List ℕ → List ℕ
 job_and_whether d told = slice_set (done_told d told) 2 (done_number d)
 
 -- the interval that ended before the releases, and whether there is one; and where none did, one that ended after them
@@ -70,8 +70,8 @@ after_told (Span e) told = slice_set (interval_told e told) 3 2
 
 -- ---- Read back
 
-abbrev pub task_in : ℕ → MaybeTask
-task_in w = cond (nat_lt w 256) (Task w) NoTask
+abbrev pub task_in : ℕ → Option ℕ
+task_in w = cond (nat_lt w 256) (Some w) None
 
 unfoldable pub interval_in : List ℕ → IntervalEntry
 interval_in told = record {
@@ -95,16 +95,16 @@ job_in told = record {
   blocked = slice_index told 9 % 256;
 }
 
-abbrev pub done_in : List ℕ → Done
-done_in told = cond (slice_index told 2 == 0) NoJob (Job (job_in told))
+abbrev pub done_in : List ℕ → Option JobEntry
+done_in told = cond (slice_index told 2 == 0) None (Some (job_in told))
 
 abbrev pub closing_in : List ℕ → Closing
 closing_in told =
     cond (slice_index told 3 == 0) Unclosed
     (cond (slice_index told 3 == 1) (BeforeReleases (interval_in told)) (AfterReleases (interval_in told)))
 
-abbrev pub due_in : List ℕ → Due
-due_in told = cond (slice_index told 4 == 0) Never (Tick (slice_index told 0))
+abbrev pub due_in : List ℕ → Option ℕ
+due_in told = cond (slice_index told 4 == 0) None (Some (slice_index told 0))
 
 unfoldable pub occurred_in : List ℕ → Occurred
 unfolding interval_in

@@ -3,8 +3,8 @@ ghost use Rattle.std.specs.Prelude.{◌≡◌, ◌%◌};
 ghost use Rattle.dispatcher.specs.Telling as telling;
 
 use crate::telling::WORDS;
-use entries::{IntervalEntry, JobEntry, MaybeTask};
-use rules::{Closing, Done, Due, Occurred};
+use entries::{IntervalEntry, JobEntry};
+use rules::{Closing, Occurred};
 
 fn low(x: u64) -> u8
     ensures { result ≡ x % 256 }
@@ -12,13 +12,13 @@ fn low(x: u64) -> u8
     (x % 256) as u8
 }
 
-fn task_in(word: u64) -> MaybeTask
+fn task_in(word: u64) -> Option<u8>
     ensures { result ≡ telling.task_in word }
 {
     if word < 256 {
-        return MaybeTask::Task(word as u8);
+        return Some(word as u8);
     }
-    MaybeTask::NoTask
+    None
 }
 
 fn job_in(told: &[u64; WORDS]) -> JobEntry
@@ -49,13 +49,13 @@ fn interval_in(told: &[u64; WORDS]) -> IntervalEntry
     }
 }
 
-fn done_in(told: &[u64; WORDS]) -> Done
+fn done_in(told: &[u64; WORDS]) -> Option<JobEntry>
     ensures { result ≡ telling.done_in told.now }
 {
     if told[2] == 0 {
-        return Done::NoJob;
+        return None;
     }
-    Done::Job(job_in(told))
+    Some(job_in(told))
 }
 
 fn closing_in(told: &[u64; WORDS]) -> Closing
@@ -71,13 +71,13 @@ fn closing_in(told: &[u64; WORDS]) -> Closing
     Closing::AfterReleases(interval_in(told))
 }
 
-fn due_in(told: &[u64; WORDS]) -> Due
+fn due_in(told: &[u64; WORDS]) -> Option<u64>
     ensures { result ≡ telling.due_in told.now }
 {
     if told[4] == 0 {
-        return Due::Never;
+        return None;
     }
-    Due::Tick(told[0])
+    Some(told[0])
 }
 
 pub fn occurred_in(told: &[u64; WORDS]) -> Occurred

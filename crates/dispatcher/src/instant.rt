@@ -10,7 +10,7 @@ use crate::stepping::steps;
 use crate::telling::WORDS;
 use crate::ticket::raised;
 use crate::{Dispatcher, Step};
-use rules::Answer;
+use rules::CallRefusal;
 
 fn served(d: Dispatcher, t: u64, set: u32) -> Step
     ensures { (step_of result ≡ calls.served (state_of d) t set) × (result.state.ticket ≡ tickets.raised d.ticket) }
@@ -47,7 +47,7 @@ fn served(d: Dispatcher, t: u64, set: u32) -> Step
     };
     Step {
         state: next,
-        answer: Answer::Served(occurred_in(&told)),
+        answer: Ok(occurred_in(&told)),
     }
 }
 
@@ -56,13 +56,12 @@ impl Dispatcher {
     pub fn instant(self, time: u64, set: u32) -> Step
         ensures { Answers self time set result }
     {
-        let number = refusal(time, set, &self.times, &self.sets, &self.codes);
-        if number == 0 {
-            return served(self, time, set);
-        }
-        Step {
-            state: self,
-            answer: Answer::Refused(number),
+        match refusal(time, set, &self.times, &self.sets, &self.codes) {
+            Ok(()) => served(self, time, set),
+            Err(refusal) => Step {
+                state: self,
+                answer: Err(refusal),
+            },
         }
     }
 
@@ -73,7 +72,7 @@ impl Dispatcher {
         if ticket != self.ticket {
             return Step {
                 state: self,
-                answer: Answer::Refused(20),
+                answer: Err(CallRefusal::OldTicket),
             };
         }
         self.instant(time, set)

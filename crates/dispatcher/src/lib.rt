@@ -14,9 +14,9 @@ mod ticket;
 pub use mark::marked_all;
 pub use open_tasks::{open, opened};
 pub use refusing::{mark_refusal, marks_refusal, refusal};
-use rules::{Answer, MarkAnswer, at};
+use rules::{CallRefusal, Occurred, at};
 pub use stepping::steps;
-use table::{Columns, Refusal};
+use table::Columns;
 pub use telling::WORDS;
 pub use ticket::raised;
 
@@ -39,7 +39,7 @@ pub struct Dispatcher {
 #[derive(Clone, Copy)]
 pub struct Step {
     pub state: Dispatcher,
-    pub answer: Answer,
+    pub answer: Result<Occurred, CallRefusal>,
 }
 
 // What an enquiry shows: what the instant would answer and leave, and the ticket by which it is committed.
@@ -52,11 +52,5 @@ pub struct Enquiry {
 #[derive(Clone, Copy)]
 pub struct MarkStep {
     pub state: Dispatcher,
-    pub answer: MarkAnswer,
-}
-
-#[derive(Clone, Copy)]
-pub struct Opening {
-    pub state: Dispatcher,
-    pub refusal: Refusal,
+    pub answer: Result<(), CallRefusal>,
 }

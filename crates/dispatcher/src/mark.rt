@@ -1,5 +1,5 @@
 // A mark call, of one task or of a set. A refused one hands the state back as it was.
-ghost use Rattle.std.specs.Prelude.{◌≡◌, ◌<◌, length};
+ghost use Rattle.std.specs.Prelude.{◌≡◌};
 ghost use Rattle.rules.specs.Calls as calls;
 ghost use Rattle.rules.specs.Tickets as tickets;
 ghost use Rattle.dispatcher.specs.Dispatcher.{state_of, MarkAnswers, MarksAnswers};
@@ -8,22 +8,12 @@ ghost use Rattle.dispatcher.specs.Promises.{MarksAt};
 use crate::refusing::{mark_refusal, marks_refusal};
 use crate::ticket::raised;
 use crate::{Dispatcher, MarkStep};
-use rules::{MarkAnswer, at};
-
-// That there is a set at all is told where they are lent as a slice. Nothing is left of this in the program.
-fn sets_seen(sets: &[u32]) {}
-
-fn some(sets: &at::Sets)
-    ensures { 0 < length sets.now }
-{
-    sets_seen(sets);
-}
+use rules::at;
 
 // The marks of some tasks set or taken away; of none, as they were.
 pub fn marked_all(set: u32, mark: u8, sets: &mut at::Sets)
     ensures { MarksAt set mark sets.old sets.new }
 {
-    some(sets);
     if set == 0 {
         return;
     }
@@ -49,17 +39,15 @@ impl Dispatcher {
     pub fn mark(self, task: u8, mark: u8) -> MarkStep
         ensures { MarkAnswers self task mark result }
     {
-        let number = mark_refusal(task, mark, &self.sets);
-        if number == 0 {
-            let set = sets::insert(0, task);
-            return MarkStep {
-                state: with_marks(self, set, mark),
-                answer: MarkAnswer::MarkServed,
-            };
-        }
-        MarkStep {
-            state: self,
-            answer: MarkAnswer::MarkRefused(number),
+        match mark_refusal(task, mark, &self.sets) {
+            Ok(()) => MarkStep {
+                state: with_marks(self, sets::insert(0, task), mark),
+                answer: Ok(()),
+            },
+            Err(refusal) => MarkStep {
+                state: self,
+                answer: Err(refusal),
+            },
         }
     }
 
@@ -67,16 +55,15 @@ impl Dispatcher {
     pub fn mark_all(self, set: u32, mark: u8) -> MarkStep
         ensures { MarksAnswers self set mark result }
     {
-        let number = marks_refusal(set, mark, &self.sets);
-        if number == 0 {
-            return MarkStep {
+        match marks_refusal(set, mark, &self.sets) {
+            Ok(()) => MarkStep {
                 state: with_marks(self, set, mark),
-                answer: MarkAnswer::MarkServed,
-            };
-        }
-        MarkStep {
-            state: self,
-            answer: MarkAnswer::MarkRefused(number),
+                answer: Ok(()),
+            },
+            Err(refusal) => MarkStep {
+                state: self,
+                answer: Err(refusal),
+            },
         }
     }
 }

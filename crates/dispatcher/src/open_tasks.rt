@@ -1,13 +1,13 @@
 // Opening a dispatcher from a head alone: 12, then entry by entry 2, 1, and 3, 4, 6, 7 of a task or 8, 19 of a spacing. A release entry
 // is refused by 2.
-ghost use Rattle.std.specs.Prelude.{◌≡◌};
+ghost use Rattle.std.specs.Prelude.{◌≡◌, IfOk};
 ghost use Rattle.rules.specs.Calls as calls;
 ghost use Rattle.dispatcher.specs.Dispatcher.{state_of, opening_of};
 
-use crate::{Dispatcher, Opening};
+use crate::Dispatcher;
 use entries::limits;
 use rules::codes;
-use table::Table;
+use table::{Refusal, Table};
 
 // No task has a job, no release waits, and the first interval gives the processor half 0.
 pub fn opened(table: Table, marked: u32) -> Dispatcher
@@ -30,16 +30,11 @@ pub fn opened(table: Table, marked: u32) -> Dispatcher
     }
 }
 
-// A dispatcher from a head alone, or the first refusal. What stands for the dispatcher where none opens is one without a task, so that a
-// refusal tells no more than it says.
-pub fn open(s: &[u8]) -> Opening
-    ensures { (opening_of result ≡ calls.opening s.now) × (result.state.ticket ≡ 0) }
+// A dispatcher from a head alone, or the first refusal.
+pub fn open(s: &[u8]) -> Result<Dispatcher, Refusal>
+    ensures opens { opening_of result ≡ calls.opening s.now }
+    ensures ticket { IfOk result (λ d. d.ticket ≡ 0) }
 {
-    let head = heads::head_alone(s);
-    let table = head.table;
-    let refusal = head.refusal;
-    Opening {
-        state: opened(table, head.marked),
-        refusal,
-    }
+    let head = heads::head_alone(s)?;
+    Ok(opened(head.table, head.marked))
 }

@@ -5,9 +5,7 @@
 ghost use Rattle.rules.specs.Kept.{kept, by_task, beside};
 ghost use Rattle.dispatcher.specs.Promises.{EndsCopyOut, EndsBefore, EndsAfter, StepsTo};
 
-use crate::telling::{
-    CLOSED, DONE, WORDS, all_words, tell_due, tell_interval, tell_job, tell_skipped,
-};
+use crate::telling::{CLOSED, DONE, WORDS, tell_due, tell_interval, tell_job, tell_skipped};
 use rules::{at, codes};
 use table::Columns;
 
@@ -114,7 +112,6 @@ pub fn steps<'a>(
         told.new }
 {
     let soon = rules::too_soon(t, set, sets, columns, release, waits);
-    all_words(told);
     rules::stamp(t, times, sets, codes);
     end_copyout(t, times, sets, codes, release, blocked, told);
     rules::others_end(t, times, codes, columns);

@@ -1,6 +1,5 @@
 // What occurs at an instant, told as it occurs, a word for each number (specs/Telling): bytes packed into one word took longer. What does
 // not occur leaves its words as they were.
-ghost use Rattle.std.specs.Prelude.{◌≡◌, ◌^◌, ◌<◌, length};
 ghost use Rattle.rules.specs.Registers.{as_task};
 ghost use Rattle.dispatcher.specs.Promises.{TaskWord, ProcessorWord, CopyOutWord, CopyInWord, FateWord, TellsJob, TellsInterval, TellsSkipped, TellsDue};
 
@@ -18,27 +17,6 @@ pub const CLOSED: usize = 3;
 // No task, as a word: more than a byte has.
 pub const NOBODY: u64 = 511;
 
-fn wide(x: u8) -> u64
-    ensures { (result ≡ x) × (result < 256) }
-{
-    x as u64
-}
-
-fn wider(x: u32) -> u64
-    ensures { (result ≡ x) × (result < 2 ^ 32) }
-{
-    x as u64
-}
-
-// That there are so many words is told where they are lent as a slice. Nothing is left of this in the program.
-fn words_seen(told: &[u64]) {}
-
-pub fn all_words(told: &[u64; WORDS])
-    ensures { length told.now ≡ 19 }
-{
-    words_seen(told);
-}
-
 // The job that is done.
 pub fn tell_job(e: JobEntry, told: &mut [u64; WORDS])
     ensures { TellsJob e told.old told.new }
@@ -46,8 +24,8 @@ pub fn tell_job(e: JobEntry, told: &mut [u64; WORDS])
     told[5] = e.release;
     told[6] = e.start;
     told[7] = e.completion;
-    told[8] = wide(e.task);
-    told[9] = wide(e.blocked);
+    told[8] = u64::from(e.task);
+    told[9] = u64::from(e.blocked);
     told[DONE] = 1;
 }
 
@@ -58,7 +36,7 @@ fn processor_word(codes: &at::Codes) -> u64
     if codes[at::PROCESSOR] == codes::IDLE {
         return NOBODY;
     }
-    wide(codes[at::TASK])
+    u64::from(codes[at::TASK])
 }
 
 fn copyout_word(codes: &at::Codes) -> u64
@@ -67,7 +45,7 @@ fn copyout_word(codes: &at::Codes) -> u64
     if codes[at::COPYOUT] == codes::NO_COPYOUT {
         return NOBODY;
     }
-    wide(codes[at::OUTTASK])
+    u64::from(codes[at::OUTTASK])
 }
 
 fn copyin_word(codes: &at::Codes) -> u64
@@ -76,7 +54,7 @@ fn copyin_word(codes: &at::Codes) -> u64
     if codes[at::COPYIN] < codes::COPYING {
         return NOBODY;
     }
-    wide(codes[at::INTASK])
+    u64::from(codes[at::INTASK])
 }
 
 fn fate_word(codes: &at::Codes) -> u64
@@ -84,16 +62,16 @@ fn fate_word(codes: &at::Codes) -> u64
 {
     let kind = codes[at::COPYIN];
     if kind < codes::LOADED {
-        return wide(codes::FATE_NONE);
+        return u64::from(codes::FATE_NONE);
     }
-    wide(kind - 2)
+    u64::from(kind - 2)
 }
 
 fn promoted_word(n: u8) -> u64
     ensures { TaskWord (as_task n) result }
 {
     if n < codes::NO_TASK {
-        return wide(n);
+        return u64::from(n);
     }
     NOBODY
 }
@@ -109,9 +87,9 @@ pub fn tell_interval(
 {
     told[10] = times[at::BEGIN];
     told[11] = t;
-    told[12] = wide(codes[at::HALF]);
+    told[12] = u64::from(codes[at::HALF]);
     told[13] = processor_word(codes);
-    told[14] = wide(codes[at::WORK]);
+    told[14] = u64::from(codes[at::WORK]);
     told[15] = copyout_word(codes);
     told[16] = copyin_word(codes);
     told[17] = fate_word(codes);
@@ -122,7 +100,7 @@ pub fn tell_interval(
 pub fn tell_skipped(skipped: u32, told: &mut [u64; WORDS])
     ensures { TellsSkipped skipped told.old told.new }
 {
-    told[1] = wider(skipped);
+    told[1] = u64::from(skipped);
 }
 
 // The next due time, if there is one, and whether there is.

@@ -6,5 +6,5 @@ ghost use Rattle.rules.specs.Tickets as tickets;
 pub fn raised(ticket: u64) -> u64
     ensures { result ≡ tickets.raised ticket }
 {
-    std::num::wrapping_add_u64(ticket, 1)
+    ticket.wrapping_add(1)
 }

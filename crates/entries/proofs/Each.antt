@@ -5,7 +5,7 @@ use Prim.Native.Nat.{ℕ}
 use native.Mathlib.Omega.{arith}
 use lib.ListN.{length}
 use Rattle.words.specs.Words.{bytes_of}
-use Rattle.entries.specs.Types.{RecordEntry, MalformedRecord, JobDone, IntervalEnded, ReleaseSkipped}
+use Rattle.entries.specs.Types.{Ok, RecordEntry, JobDone, IntervalEnded, ReleaseSkipped}
 use Rattle.entries.specs.Entries.{job_bytes, choice_bytes, interval_bytes, skipped_bytes, entry_bytes, each, record_entry_size}
 use Rattle.entries.specs.RoundTrip.{EntryFits}
 
@@ -19,17 +19,15 @@ module _ (of : RecordEntry → List ℕ) where
   unfolding each
   each_one e = append-nil (of e)
 
-pub entry_size : (e : RecordEntry) → length (entry_bytes e) ≡ record_entry_size e
+pub entry_size : (e : RecordEntry) → length (entry_bytes e) ≡ record_entry_size (Ok e)
 unfolding job_bytes choice_bytes interval_bytes skipped_bytes bytes_of
-entry_size (MalformedRecord n) = refl
 entry_size (JobDone e) = refl
 entry_size (IntervalEnded e) = refl
 entry_size (ReleaseSkipped r) = refl
 
 -- an entry that fits its fields has some bytes
-pub some : (e : RecordEntry) → EntryFits e → record_entry_size e ≡ 0 → ⊥
+pub some : (e : RecordEntry) → EntryFits e → record_entry_size (Ok e) ≡ 0 → ⊥
 unfolding EntryFits
-some (MalformedRecord n) h z = absurd h
 some (JobDone e) h z = omega arith
 some (IntervalEnded e) h z = omega arith
 some (ReleaseSkipped r) h z = omega arith

@@ -11,7 +11,7 @@ use lib.Dec.{eqb, leb}
 use lib.ListN.{length, take, drop, length-append}
 use Rattle.words.specs.Words.{number_at}
 use Rattle.words.proofs.Laws.{behind, read_in_rest}
-use Rattle.entries.specs.Types.{RecordEntry, MalformedRecord, JobDone, IntervalEnded, ReleaseSkipped}
+use Rattle.entries.specs.Types.{Result, Ok, Err, Unreadable, CutShort, OtherKind, RecordEntry, JobDone, IntervalEnded, ReleaseSkipped}
 use Rattle.entries.specs.Entries.{size, task_at, release_at, spacing_at, job_at, interval_at, record_entry_at, record_entry_size}
 
 -- ---- In the rest from a place on
@@ -83,23 +83,23 @@ module _ (front s : List ℕ) where
 -- ---- An entry of a record stands within the bytes
 
 -- by the value of a test
-either : (b : Bool) (x y : RecordEntry) (n : ℕ) → (b ≡ true → record_entry_size x ≤ n) → record_entry_size y ≤ n → record_entry_size (cond b x y) ≤ n
+either : (b : Bool) (x y : Result RecordEntry Unreadable) (n : ℕ) → (b ≡ true → record_entry_size x ≤ n) → record_entry_size y ≤ n → record_entry_size (cond b x y) ≤ n
 either true x y n p q = p refl
 either false x y n p q = q
 
-whole : (k : ℕ) (x : RecordEntry) (n : ℕ) → record_entry_size x ≡ k → record_entry_size (cond (leb k n) x (MalformedRecord 1)) ≤ n
-whole k x n e = either (leb k n) x (MalformedRecord 1) n (λ f. omega (arith, e, leb-true k n f)) (omega arith)
+whole : (k : ℕ) (x : Result RecordEntry Unreadable) (n : ℕ) → record_entry_size x ≡ k → record_entry_size (cond (leb k n) x (Err CutShort)) ≤ n
+whole k x n e = either (leb k n) x (Err CutShort) n (λ f. omega (arith, e, leb-true k n f)) (omega arith)
 
 pub entry_within : (s : List ℕ) (at : ℕ) → record_entry_size (record_entry_at s at) ≤ length s - at
 unfolding record_entry_at
 entry_within s at =
     let kind : ℕ = number_at 1 s at in
     let n : ℕ = length s - at in
-    let job : RecordEntry = JobDone (job_at s at) in
-    let interval : RecordEntry = IntervalEnded (interval_at s at) in
-    let skip : RecordEntry = ReleaseSkipped (release_at s at) in
-    let skipped : RecordEntry = cond (eqb kind 18) (cond (leb (size 18) n) skip (MalformedRecord 1)) (MalformedRecord 2) in
-    let ended : RecordEntry = cond (eqb kind 17) (cond (leb (size 17) n) interval (MalformedRecord 1)) skipped in
-    either (eqb kind 16) (cond (leb (size 16) n) job (MalformedRecord 1)) ended n (λ e. whole (size 16) job n refl)
-    (either (eqb kind 17) (cond (leb (size 17) n) interval (MalformedRecord 1)) skipped n (λ e. whole (size 17) interval n refl)
-    (either (eqb kind 18) (cond (leb (size 18) n) skip (MalformedRecord 1)) (MalformedRecord 2) n (λ e. whole (size 18) skip n refl) (omega arith)))
+    let job : Result RecordEntry Unreadable = Ok (JobDone (job_at s at)) in
+    let interval : Result RecordEntry Unreadable = Ok (IntervalEnded (interval_at s at)) in
+    let skip : Result RecordEntry Unreadable = Ok (ReleaseSkipped (release_at s at)) in
+    let skipped : Result RecordEntry Unreadable = cond (eqb kind 18) (cond (leb (size 18) n) skip (Err CutShort)) (Err OtherKind) in
+    let ended : Result RecordEntry Unreadable = cond (eqb kind 17) (cond (leb (size 17) n) interval (Err CutShort)) skipped in
+    either (eqb kind 16) (cond (leb (size 16) n) job (Err CutShort)) ended n (λ e. whole (size 16) job n refl)
+    (either (eqb kind 17) (cond (leb (size 17) n) interval (Err CutShort)) skipped n (λ e. whole (size 17) interval n refl)
+    (either (eqb kind 18) (cond (leb (size 18) n) skip (Err CutShort)) (Err OtherKind) n (λ e. whole (size 18) skip n refl) (omega arith)))

@@ -8,15 +8,15 @@ use borrow.Author.Tests.{le-leb, ne_eqb}
 use lib.ListN.{length}
 use Rattle.words.specs.Words.{bytes_of, number_at}
 use Rattle.words.proofs.Laws.{one_byte, behind, round_trip_at}
-use Rattle.entries.specs.Types.{MaybeTask, NoTask, Task, Release, ReleaseEntry, JobEntry, IntervalEntry, RecordEntry, MalformedRecord, JobDone, IntervalEnded, ReleaseSkipped}
+use Rattle.entries.specs.Types.{Ok, Option, None, Some, Release, ReleaseEntry, JobEntry, IntervalEntry, RecordEntry, JobDone, IntervalEnded, ReleaseSkipped}
 use Rattle.entries.specs.Entries.{entry_at, release_at, release_bytes, task_byte, job_bytes, choice_bytes, interval_bytes, skipped_bytes, entry_bytes, task_of, job_at, interval_at, record_entry_at}
 use Rattle.entries.specs.RoundTrip.{TaskFits, JobFits, IntervalFits, EntryFits, ReadAs, RoundTrip}
 use Rattle.entries.proofs.Places.{release_behind, left_behind, entry_behind}
 
-named : (t : MaybeTask) → TaskFits t → task_of (task_byte t) ≡ t
+named : (t : Option ℕ) → TaskFits t → task_of (task_byte t) ≡ t
 unfolding task_of TaskFits
-named NoTask h = refl
-named (Task n) h = rw (ne_eqb n 255 h)
+named None h = refl
+named (Some n) h = rw (ne_eqb n 255 h)
 
 module _ (e : JobEntry) (rest : List ℕ) (fits : JobFits e) where
   job_there : job_at (job_bytes e ++ rest) 0 ≡ e
@@ -33,7 +33,7 @@ module _ (e : JobEntry) (rest : List ℕ) (fits : JobFits e) where
       let f : number_at 1 s 26 ≡ e.blocked = one_byte s 26 in
       rw (a, b, c, d, f)
 
-  job_read : record_entry_at (job_bytes e ++ rest) 0 ≡ JobDone e
+  job_read : record_entry_at (job_bytes e ++ rest) 0 ≡ Ok (JobDone e)
   unfolding record_entry_at job_bytes bytes_of
   job_read =
       let s : List ℕ = job_bytes e ++ rest in
@@ -56,7 +56,7 @@ module _ (e : IntervalEntry) (rest : List ℕ) (fits : IntervalFits e) where
       let promoted : task_of (number_at 1 s 23) ≡ e.promoted = ap task_of (one_byte s 23) ∙ named e.promoted fits.promoted_fits in
       rw (begin, end, half, task, work, copiedout, chosen, fate, promoted)
 
-  interval_read : record_entry_at (interval_bytes e ++ rest) 0 ≡ IntervalEnded e
+  interval_read : record_entry_at (interval_bytes e ++ rest) 0 ≡ Ok (IntervalEnded e)
   unfolding record_entry_at interval_bytes choice_bytes bytes_of
   interval_read =
       let s : List ℕ = interval_bytes e ++ rest in
@@ -76,7 +76,7 @@ module _ (n t : ℕ) (rest : List ℕ) (fits : t < 256 ^ 8) where
   abbrev skip : Release
   skip = record { task = n; time = t }
 
-  skipped_read : record_entry_at (skipped_bytes n t ++ rest) 0 ≡ ReleaseSkipped skip
+  skipped_read : record_entry_at (skipped_bytes n t ++ rest) 0 ≡ Ok (ReleaseSkipped skip)
   unfolding record_entry_at skipped_bytes bytes_of
   skipped_read =
       let s : List ℕ = skipped_bytes n t ++ rest in
@@ -91,7 +91,7 @@ module _ (r : Release) (fits : r.time < 256 ^ 8) (front rest : List ℕ) where
       ap (release_at (front ++ (release_bytes r ++ rest))) (sym (add-zero (length front)))
       ∙ release_behind front (release_bytes r ++ rest) 0 ∙ timed_there 2 r rest fits
 
-  release_read : entry_at (front ++ (release_bytes r ++ rest)) (length front) ≡ ReleaseEntry r
+  release_read : entry_at (front ++ (release_bytes r ++ rest)) (length front) ≡ Ok (ReleaseEntry r)
   unfolding entry_at release_bytes bytes_of
   release_read =
       let s : List ℕ = release_bytes r ++ rest in
@@ -101,13 +101,12 @@ module _ (r : Release) (fits : r.time < 256 ^ 8) (front rest : List ℕ) where
       rw (kind, le-leb 10 (length (front ++ s) - length front) room, release_there)
 
 -- and so it is at every place
-anywhere : (bytes : List ℕ) (e : RecordEntry) → ((rest : List ℕ) → record_entry_at (bytes ++ rest) 0 ≡ e) → ReadAs bytes e
+anywhere : (bytes : List ℕ) (e : RecordEntry) → ((rest : List ℕ) → record_entry_at (bytes ++ rest) 0 ≡ Ok e) → ReadAs bytes e
 anywhere bytes e h front rest =
     ap (record_entry_at (front ++ (bytes ++ rest))) (sym (add-zero (length front))) ∙ entry_behind front (bytes ++ rest) 0 ∙ h rest
 
-entry_read : (e : RecordEntry) → EntryFits e → (rest : List ℕ) → record_entry_at (entry_bytes e ++ rest) 0 ≡ e
+entry_read : (e : RecordEntry) → EntryFits e → (rest : List ℕ) → record_entry_at (entry_bytes e ++ rest) 0 ≡ Ok e
 unfolding EntryFits
-entry_read (MalformedRecord n) h rest = absurd h
 entry_read (JobDone e) h rest = job_read e rest h
 entry_read (IntervalEnded e) h rest = interval_read e rest h
 entry_read (ReleaseSkipped r) h rest = skipped_read r.task r.time rest h

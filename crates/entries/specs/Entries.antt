@@ -1,7 +1,7 @@
 -- Bytes: each entry is one byte of kind, then a body whose length the kind fixes. Numbers of several bytes have the lowest byte first.
 use Rattle.std.specs.Prelude.{Bool, cond, List, [], ◌∷◌, ◌++◌, ℕ, ◌+◌, ◌-◌, eqb, leb, ◌≡◌, length, take, drop}
 use Rattle.words.specs.Words.{bytes_of, number_at}
-use Rattle.entries.specs.Types.{MaybeTask, NoTask, Task, TaskParameters, Release, Spacing, Entry, Malformed, TaskEntry, ReleaseEntry, SpacingEntry, JobEntry, IntervalEntry, RecordEntry, MalformedRecord, JobDone, IntervalEnded, ReleaseSkipped}
+use Rattle.entries.specs.Types.{Option, None, Some, Result, Ok, Err, Unreadable, CutShort, OtherKind, TaskParameters, Release, Spacing, Entry, TaskEntry, ReleaseEntry, SpacingEntry, JobEntry, IntervalEntry, RecordEntry, JobDone, IntervalEnded, ReleaseSkipped}
 
 -- the length of an entry of each kind, its kind byte included; 0 for what is no kind
 abbrev pub size : ℕ → ℕ
@@ -44,20 +44,20 @@ abbrev pub is_release : List ℕ → ℕ → Bool
 is_release s at = eqb (number_at 1 s at) 2
 
 -- the entry whose kind byte is at a place before the end: 2 where the kind is not 1 to 3, 1 where the entry is cut short
-unfoldable pub entry_at : List ℕ → ℕ → Entry
+unfoldable pub entry_at : List ℕ → ℕ → Result Entry Unreadable
 entry_at s at =
     let kind : ℕ = number_at 1 s at in
-    cond (eqb kind 1) (cond (leb (size 1) (length s - at)) (TaskEntry (task_at s at)) (Malformed 1))
-    (cond (eqb kind 2) (cond (leb (size 2) (length s - at)) (ReleaseEntry (release_at s at)) (Malformed 1))
-    (cond (eqb kind 3) (cond (leb (size 3) (length s - at)) (SpacingEntry (spacing_at s at)) (Malformed 1))
-    (Malformed 2)))
+    cond (eqb kind 1) (cond (leb (size 1) (length s - at)) (Ok (TaskEntry (task_at s at))) (Err CutShort))
+    (cond (eqb kind 2) (cond (leb (size 2) (length s - at)) (Ok (ReleaseEntry (release_at s at))) (Err CutShort))
+    (cond (eqb kind 3) (cond (leb (size 3) (length s - at)) (Ok (SpacingEntry (spacing_at s at))) (Err CutShort))
+    (Err OtherKind)))
 
 -- its length: 0 where it is refused
-abbrev pub entry_size : Entry → ℕ
-entry_size (Malformed n) = 0
-entry_size (TaskEntry p) = size 1
-entry_size (ReleaseEntry r) = size 2
-entry_size (SpacingEntry x) = size 3
+abbrev pub entry_size : Result Entry Unreadable → ℕ
+entry_size (Err e) = 0
+entry_size (Ok (TaskEntry p)) = size 1
+entry_size (Ok (ReleaseEntry r)) = size 2
+entry_size (Ok (SpacingEntry x)) = size 3
 
 -- ---- A release entry, written
 
@@ -67,9 +67,9 @@ release_bytes r = 2 ∷ r.task ∷ bytes_of 8 r.time
 -- ---- An entry of the record, written
 
 -- 255 is "no task"
-abbrev pub task_byte : MaybeTask → ℕ
-task_byte NoTask = 255
-task_byte (Task n) = n
+abbrev pub task_byte : Option ℕ → ℕ
+task_byte None = 255
+task_byte (Some n) = n
 
 -- kind 16: task (1), release, execution start, completion (8 each), blocked intervals (1)
 unfoldable pub job_bytes : JobEntry → List ℕ
@@ -89,9 +89,8 @@ interval_bytes e = 17 ∷ (bytes_of 8 e.begin ++ (bytes_of 8 e.end ++ choice_byt
 unfoldable pub skipped_bytes : ℕ → ℕ → List ℕ
 skipped_bytes n t = 18 ∷ n ∷ bytes_of 8 t
 
--- an entry's bytes: none where it is refused
+-- an entry's bytes
 abbrev pub entry_bytes : RecordEntry → List ℕ
-entry_bytes (MalformedRecord n) = []
 entry_bytes (JobDone e) = job_bytes e
 entry_bytes (IntervalEnded e) = interval_bytes e
 entry_bytes (ReleaseSkipped r) = skipped_bytes r.task r.time
@@ -103,8 +102,8 @@ each of (e ∷ es) = of e ++ each of es
 
 -- ---- An entry of the record, taken apart: each field at its place behind the kind byte, as it is written above
 
-unfoldable pub task_of : ℕ → MaybeTask
-task_of b = cond (eqb b 255) NoTask (Task b)
+unfoldable pub task_of : ℕ → Option ℕ
+task_of b = cond (eqb b 255) None (Some b)
 
 unfoldable pub job_at : List ℕ → ℕ → JobEntry
 job_at s at = record {
@@ -130,20 +129,20 @@ interval_at s at = record {
 
 -- the entry whose kind byte is at a place: 2 where the kind is not 16 to 18, as at the end of the bytes and behind it, then 1 where the
 -- entry is cut short; kind 18 has the body of a release
-unfoldable pub record_entry_at : List ℕ → ℕ → RecordEntry
+unfoldable pub record_entry_at : List ℕ → ℕ → Result RecordEntry Unreadable
 record_entry_at s at =
     let kind : ℕ = number_at 1 s at in
-    cond (eqb kind 16) (cond (leb (size 16) (length s - at)) (JobDone (job_at s at)) (MalformedRecord 1))
-    (cond (eqb kind 17) (cond (leb (size 17) (length s - at)) (IntervalEnded (interval_at s at)) (MalformedRecord 1))
-    (cond (eqb kind 18) (cond (leb (size 18) (length s - at)) (ReleaseSkipped (release_at s at)) (MalformedRecord 1))
-    (MalformedRecord 2)))
+    cond (eqb kind 16) (cond (leb (size 16) (length s - at)) (Ok (JobDone (job_at s at))) (Err CutShort))
+    (cond (eqb kind 17) (cond (leb (size 17) (length s - at)) (Ok (IntervalEnded (interval_at s at))) (Err CutShort))
+    (cond (eqb kind 18) (cond (leb (size 18) (length s - at)) (Ok (ReleaseSkipped (release_at s at))) (Err CutShort))
+    (Err OtherKind)))
 
 -- its length: 0 where it is refused
-abbrev pub record_entry_size : RecordEntry → ℕ
-record_entry_size (MalformedRecord n) = 0
-record_entry_size (JobDone e) = size 16
-record_entry_size (IntervalEnded e) = size 17
-record_entry_size (ReleaseSkipped e) = size 18
+abbrev pub record_entry_size : Result RecordEntry Unreadable → ℕ
+record_entry_size (Err e) = 0
+record_entry_size (Ok (JobDone e)) = size 16
+record_entry_size (Ok (IntervalEnded e)) = size 17
+record_entry_size (Ok (ReleaseSkipped e)) = size 18
 
 -- ---- An entry written into the front of a lent slice: all of it, or nothing where it does not fit
 

@@ -1,4 +1,5 @@
 pub mod Types
+pub mod Unreadable
 pub mod Entries
 pub mod Limits
 pub mod Calls

@@ -2,7 +2,7 @@
 ghost use Rattle.std.specs.Prelude.{◌≡◌, ◌<◌, length};
 ghost use Rattle.entries.specs.Calls as calls;
 
-use crate::CallEntry;
+use crate::{CallEntry, Unreadable};
 
 const INSTANT_KIND: u8 = 64;
 
@@ -41,113 +41,99 @@ const MARKS_SET: usize = 1;
 
 const MARKS_MARK: usize = 5;
 
-fn instant_at(s: &[u8], at: usize) -> CallEntry
+fn instant_at(s: &[u8], at: usize) -> Result<CallEntry, Unreadable>
     requires { at < length s.now }
     ensures { result ≡ calls.instant_at s.now at }
 {
     if s.len() - at < INSTANT_SIZE {
-        return CallEntry::CutShort;
+        return Err(Unreadable::CutShort);
     }
-    CallEntry::InstantCall {
+    Ok(CallEntry::InstantCall {
         time: words::get_u64(s, at + INSTANT_TIME),
         set: words::get_u32(s, at + INSTANT_SET),
-    }
+    })
 }
 
-fn mark_at(s: &[u8], at: usize) -> CallEntry
+fn mark_at(s: &[u8], at: usize) -> Result<CallEntry, Unreadable>
     requires { at < length s.now }
     ensures { result ≡ calls.mark_at s.now at }
 {
     if s.len() - at < MARK_SIZE {
-        return CallEntry::CutShort;
+        return Err(Unreadable::CutShort);
     }
-    CallEntry::MarkCall {
+    Ok(CallEntry::MarkCall {
         task: words::get_u8(s, at + MARK_TASK),
         mark: words::get_u8(s, at + MARK_MARK),
-    }
+    })
 }
 
-fn enquiry_at(s: &[u8], at: usize) -> CallEntry
+fn enquiry_at(s: &[u8], at: usize) -> Result<CallEntry, Unreadable>
     requires { at < length s.now }
     ensures { result ≡ calls.enquiry_at s.now at }
 {
     if s.len() - at < INSTANT_SIZE {
-        return CallEntry::CutShort;
+        return Err(Unreadable::CutShort);
     }
-    CallEntry::EnquiryCall {
+    Ok(CallEntry::EnquiryCall {
         time: words::get_u64(s, at + INSTANT_TIME),
         set: words::get_u32(s, at + INSTANT_SET),
-    }
+    })
 }
 
-fn commit_at(s: &[u8], at: usize) -> CallEntry
+fn commit_at(s: &[u8], at: usize) -> Result<CallEntry, Unreadable>
     requires { at < length s.now }
     ensures { result ≡ calls.commit_at s.now at }
 {
     if s.len() - at < COMMIT_SIZE {
-        return CallEntry::CutShort;
+        return Err(Unreadable::CutShort);
     }
-    CallEntry::CommitCall {
+    Ok(CallEntry::CommitCall {
         ticket: words::get_u64(s, at + COMMIT_TICKET),
         time: words::get_u64(s, at + COMMIT_TIME),
         set: words::get_u32(s, at + COMMIT_SET),
-    }
+    })
 }
 
-fn marks_at(s: &[u8], at: usize) -> CallEntry
+fn marks_at(s: &[u8], at: usize) -> Result<CallEntry, Unreadable>
     requires { at < length s.now }
     ensures { result ≡ calls.marks_at s.now at }
 {
     if s.len() - at < MARKS_SIZE {
-        return CallEntry::CutShort;
+        return Err(Unreadable::CutShort);
     }
-    CallEntry::MarksCall {
+    Ok(CallEntry::MarksCall {
         set: words::get_u32(s, at + MARKS_SET),
         mark: words::get_u8(s, at + MARKS_MARK),
-    }
+    })
 }
 
 // The call whose kind byte is at `at`.
-pub fn call_at(s: &[u8], at: usize) -> CallEntry
+pub fn call_at(s: &[u8], at: usize) -> Result<CallEntry, Unreadable>
     ensures { result ≡ calls.call_at s.now at }
 {
     if s.len() <= at {
-        return CallEntry::CutShort;
+        return Err(Unreadable::CutShort);
     }
-    let kind = s[at];
-    if kind == INSTANT_KIND {
-        return instant_at(s, at);
+    match s[at] {
+        INSTANT_KIND => instant_at(s, at),
+        MARK_KIND => mark_at(s, at),
+        ENQUIRY_KIND => enquiry_at(s, at),
+        COMMIT_KIND => commit_at(s, at),
+        MARKS_KIND => marks_at(s, at),
+        _ => Err(Unreadable::OtherKind),
     }
-    if kind == MARK_KIND {
-        return mark_at(s, at);
-    }
-    if kind == ENQUIRY_KIND {
-        return enquiry_at(s, at);
-    }
-    if kind == COMMIT_KIND {
-        return commit_at(s, at);
-    }
-    if kind == MARKS_KIND {
-        return marks_at(s, at);
-    }
-    CallEntry::OtherKind
 }
 
 // How many bytes a whole call takes; 0 for what is none.
-pub fn call_size(entry: CallEntry) -> usize
+pub fn call_size(entry: Result<CallEntry, Unreadable>) -> usize
     ensures { result ≡ calls.call_size entry }
 {
     match entry {
-        CallEntry::CutShort => 0,
-        CallEntry::OtherKind => 0,
-        CallEntry::InstantCall { time: _, set: _ } => INSTANT_SIZE,
-        CallEntry::MarkCall { task: _, mark: _ } => MARK_SIZE,
-        CallEntry::EnquiryCall { time: _, set: _ } => INSTANT_SIZE,
-        CallEntry::CommitCall {
-            ticket: _,
-            time: _,
-            set: _,
-        } => COMMIT_SIZE,
-        CallEntry::MarksCall { set: _, mark: _ } => MARKS_SIZE,
+        Err(_) => 0,
+        Ok(CallEntry::InstantCall { .. }) => INSTANT_SIZE,
+        Ok(CallEntry::MarkCall { .. }) => MARK_SIZE,
+        Ok(CallEntry::EnquiryCall { .. }) => INSTANT_SIZE,
+        Ok(CallEntry::CommitCall { .. }) => COMMIT_SIZE,
+        Ok(CallEntry::MarksCall { .. }) => MARKS_SIZE,
     }
 }

@@ -7,6 +7,7 @@ pub mod limits;
 ghost use Rattle.std.specs.Prelude.{◌≡◌, [], ◌∷◌, ◌+◌, ◌≤◌, length};
 ghost use Rattle.entries.specs.Entries as entries;
 ghost use Rattle.entries.specs.Entries.{Put, laid};
+ghost use Rattle.entries.specs.Unreadable.{unreadable_number};
 ghost use Rattle.words.specs.Words.{bytes_of};
 
 pub use calls::{call_at, call_size};
@@ -90,13 +91,6 @@ const INTERVAL_FATE: usize = 22;
 
 const INTERVAL_PROMOTED: usize = 23;
 
-// A task's number, or none.
-#[derive(Clone, Copy)]
-pub enum MaybeTask {
-    NoTask,
-    Task(u8),
-}
-
 // Kind 1: a task's number, priority and mark, and the lengths of its copy-in (L), execution (C) and copy-out (U).
 #[derive(Clone, Copy)]
 pub struct TaskParameters {
@@ -122,10 +116,9 @@ pub struct Spacing {
     pub ticks: u32,
 }
 
-// An entry of the input taken apart, or the number by which it is refused.
+// An entry of the input taken apart.
 #[derive(Clone, Copy)]
 pub enum Entry {
-    Malformed(u8),
     TaskEntry(TaskParameters),
     ReleaseEntry(Release),
     SpacingEntry(Spacing),
@@ -147,18 +140,17 @@ pub struct IntervalEntry {
     pub begin: u64,
     pub end: u64,
     pub half: u8,
-    pub task: MaybeTask,
+    pub task: Option<u8>,
     pub work: u8,
-    pub copiedout: MaybeTask,
-    pub chosen: MaybeTask,
+    pub copiedout: Option<u8>,
+    pub chosen: Option<u8>,
     pub fate: u8,
-    pub promoted: MaybeTask,
+    pub promoted: Option<u8>,
 }
 
-// An entry of a record taken apart, or the number by which it is refused. Kind 18 is a release that was skipped.
+// An entry of a record taken apart. Kind 18 is a release that was skipped.
 #[derive(Clone, Copy)]
 pub enum RecordEntry {
-    MalformedRecord(u8),
     JobDone(JobEntry),
     IntervalEnded(IntervalEntry),
     ReleaseSkipped(Release),
@@ -168,13 +160,30 @@ pub enum RecordEntry {
 // 9/13: kind 66 enquires what an instant would do, and kind 67 commits one, with a ticket; 10/13: kind 68 marks a set of tasks.
 #[derive(Clone, Copy)]
 pub enum CallEntry {
-    CutShort,
-    OtherKind,
     InstantCall { time: u64, set: u32 },
     MarkCall { task: u8, mark: u8 },
     EnquiryCall { time: u64, set: u32 },
     CommitCall { ticket: u64, time: u64, set: u32 },
     MarksCall { set: u32, mark: u8 },
+}
+
+// Why the bytes at a place are no entry: there are fewer than an entry of its kind has, or there is no such kind.
+#[derive(Clone, Copy, PartialEq, Eq)]
+pub enum Unreadable {
+    CutShort,
+    OtherKind,
+}
+
+impl Unreadable {
+    // Document 01's number.
+    pub fn number(self) -> u8
+        ensures { result ≡ unreadable_number self }
+    {
+        match self {
+            Unreadable::CutShort => 1,
+            Unreadable::OtherKind => 2,
+        }
+    }
 }
 
 // The task of the entry at the front. One test of the slice's length, by the caller, serves all its bytes.
@@ -235,45 +244,28 @@ pub fn is_release(s: &[u8], at: usize) -> bool
     words::get_u8(s, at) == RELEASE_KIND
 }
 
-// The entry of an input whose kind byte is at `at`: 2 where the kind is not 1 to 3, then 1 where the entry is cut short.
-pub fn entry_at(s: &[u8], at: usize) -> Entry
+// The entry of an input whose kind byte is at `at`: another kind where it is not 1 to 3, then whether the entry is cut short.
+pub fn entry_at(s: &[u8], at: usize) -> Result<Entry, Unreadable>
     ensures { result ≡ entries.entry_at s.now at }
 {
     if s.len() < at {
-        return Entry::Malformed(2);
+        return Err(Unreadable::OtherKind);
     }
     let rest = &s[at..];
-    let kind = words::get_u8(rest, 0);
-    if kind == TASK_KIND {
-        if TASK_SIZE <= rest.len() {
-            return Entry::TaskEntry(front_task(rest));
-        }
-        return Entry::Malformed(1);
+    match words::get_u8(rest, 0) {
+        TASK_KIND if TASK_SIZE <= rest.len() => Ok(Entry::TaskEntry(front_task(rest))),
+        RELEASE_KIND if RELEASE_SIZE <= rest.len() => Ok(Entry::ReleaseEntry(front_release(rest))),
+        SPACING_KIND if SPACING_SIZE <= rest.len() => Ok(Entry::SpacingEntry(front_spacing(rest))),
+        TASK_KIND | RELEASE_KIND | SPACING_KIND => Err(Unreadable::CutShort),
+        _ => Err(Unreadable::OtherKind), // an input has no others
     }
-    if kind == RELEASE_KIND {
-        if RELEASE_SIZE <= rest.len() {
-            return Entry::ReleaseEntry(front_release(rest));
-        }
-        return Entry::Malformed(1);
-    }
-    if kind == SPACING_KIND {
-        if SPACING_SIZE <= rest.len() {
-            return Entry::SpacingEntry(front_spacing(rest));
-        }
-        return Entry::Malformed(1);
-    }
-    Entry::Malformed(2)
 }
 
 // The task that a byte names.
-fn task_of(b: u8) -> MaybeTask
+fn task_of(b: u8) -> Option<u8>
     ensures { result ≡ entries.task_of b }
 {
-    if b == NO_TASK {
-        MaybeTask::NoTask
-    } else {
-        MaybeTask::Task(b)
-    }
+    if b == NO_TASK { None } else { Some(b) }
 }
 
 // The job of the entry at the front.
@@ -308,55 +300,46 @@ fn front_interval(rest: &[u8]) -> IntervalEntry
     }
 }
 
-// The entry of a record whose kind byte is at `at`: 2 where the kind is not 16 to 18, then 1 where the entry is cut short.
-pub fn record_entry_at(s: &[u8], at: usize) -> RecordEntry
+// The entry of a record whose kind byte is at `at`: another kind where it is not 16 to 18, then whether the entry is cut short.
+pub fn record_entry_at(s: &[u8], at: usize) -> Result<RecordEntry, Unreadable>
     ensures { result ≡ entries.record_entry_at s.now at }
 {
     if s.len() < at {
-        return RecordEntry::MalformedRecord(2);
+        return Err(Unreadable::OtherKind);
     }
     let rest = &s[at..];
-    let kind = words::get_u8(rest, 0);
-    if kind == JOB_KIND {
-        if JOB_SIZE <= rest.len() {
-            return RecordEntry::JobDone(front_job(rest));
+    match words::get_u8(rest, 0) {
+        JOB_KIND if JOB_SIZE <= rest.len() => Ok(RecordEntry::JobDone(front_job(rest))),
+        INTERVAL_KIND if INTERVAL_SIZE <= rest.len() => {
+            Ok(RecordEntry::IntervalEnded(front_interval(rest)))
         }
-        return RecordEntry::MalformedRecord(1);
-    }
-    if kind == INTERVAL_KIND {
-        if INTERVAL_SIZE <= rest.len() {
-            return RecordEntry::IntervalEnded(front_interval(rest));
+        SKIPPED_KIND if SKIPPED_SIZE <= rest.len() => {
+            Ok(RecordEntry::ReleaseSkipped(front_release(rest)))
         }
-        return RecordEntry::MalformedRecord(1);
+        JOB_KIND | INTERVAL_KIND | SKIPPED_KIND => Err(Unreadable::CutShort),
+        _ => Err(Unreadable::OtherKind), // nor has a record
     }
-    if kind == SKIPPED_KIND {
-        if SKIPPED_SIZE <= rest.len() {
-            return RecordEntry::ReleaseSkipped(front_release(rest));
-        }
-        return RecordEntry::MalformedRecord(1);
-    }
-    RecordEntry::MalformedRecord(2)
 }
 
-// The length of an entry of a record: none of one that is refused.
-pub fn record_entry_size(e: RecordEntry) -> usize
+// The length of an entry of a record: none of what is no entry.
+pub fn record_entry_size(e: Result<RecordEntry, Unreadable>) -> usize
     ensures { result ≡ entries.record_entry_size e }
 {
     match e {
-        RecordEntry::MalformedRecord(_) => 0,
-        RecordEntry::JobDone(_) => JOB_SIZE,
-        RecordEntry::IntervalEnded(_) => INTERVAL_SIZE,
-        RecordEntry::ReleaseSkipped(_) => SKIPPED_SIZE,
+        Err(_) => 0,
+        Ok(RecordEntry::JobDone(_)) => JOB_SIZE,
+        Ok(RecordEntry::IntervalEnded(_)) => INTERVAL_SIZE,
+        Ok(RecordEntry::ReleaseSkipped(_)) => SKIPPED_SIZE,
     }
 }
 
 // The byte of a task that may be there.
-fn task_byte(t: MaybeTask) -> u8
+fn task_byte(t: Option<u8>) -> u8
     ensures { result ≡ entries.task_byte t }
 {
     match t {
-        MaybeTask::NoTask => NO_TASK,
-        MaybeTask::Task(n) => n,
+        None => NO_TASK,
+        Some(n) => n,
     }
 }
 

@@ -1,18 +1,18 @@
 -- The calls on a dispatcher where it is kept: refused, or served. Assumes nothing.
 use mathlib.Core.Path.{◌≡◌, refl, sym, ap, ap₂, ◌∙◌, subst}
-use mathlib.Core.Bool.{Bool, true, false, true≢false}
+use mathlib.Core.Bool.{true≢false}
 use borrow.Author.Tests.{eq-eqb, ne_eqb}
+use Rattle.std.proofs.Common.{Result, Ok, Err, Some}
 use Rattle.table.specs.Refusals.{refusal_number, refusal_place}
-use Rattle.guarantees.specs.Types.{List, ℕ, State, Call, Refused, Served, Refusal, NoRefusal, Alone, AtEntry}
+use Rattle.guarantees.specs.Types.{List, ℕ, State, Call, Err, Ok, Refusal}
 use Rattle.guarantees.specs.Claim.{Claim}
 use Rattle.guarantees.specs.Requests.{LookFirst}
 use Rattle.guarantees.specs.Opened.{OpenedWithClaim}
-use Rattle.dispatcher.specs.declared.Opening.{Opening}
-use Rattle.dispatcher.specs.Dispatcher.{state_of}
+use Rattle.dispatcher.specs.declared.Dispatcher.{Dispatcher}
+use Rattle.dispatcher.specs.Dispatcher.{state_of, opening_of}
 use Rattle.dispatcher.specs.Promises.{Instant}
 use Rattle.rules.specs.Instant.{at_g, occurred}
-use Rattle.rules.specs.Calls as calls
-use Rattle.rules.specs.Calls.{refusal, instant, served, row, after_call}
+use Rattle.rules.specs.Calls.{refusal, instant, served, opening, row, after_call}
 use Rattle.rules.specs.Tickets.{Ticketed, raised, TicketedStep, instant_step}
 use Rattle.rules.specs.View.{viewed}
 use Rattle.rules.specs.Kept.{Kept, Beside, read}
@@ -21,7 +21,7 @@ use Rattle.exports_instants.specs.Promises.{ToldAs, held, Answered, Committed, S
 -- ---- an instant
 
 module _ (k : Kept) (b : Beside) (ticket t set : ℕ) {number : ℕ} (n : number ≡ refusal (read k b) t set) where
-  step_refused : (number ≡ 0 → ⊥) → instant_step (held k b ticket) t set ≡ record { left = held k b ticket; answer = Refused (refusal (read k b) t set) }
+  step_refused : (number ≡ 0 → ⊥) → instant_step (held k b ticket) t set ≡ record { left = held k b ticket; answer = Err (refusal (read k b) t set) }
   unfolding instant after_call
   step_refused some = let z = ne_eqb (refusal (read k b) t set) 0 (λ e. some (n ∙ e)) in rw (instant, after_call, z)
 
@@ -34,7 +34,7 @@ module _ (k : Kept) (b : Beside) (ticket t set : ℕ) {number : ℕ} (n : number
   }
 
   step_served : number ≡ 0
-      → instant_step (held k b ticket) t set ≡ record { left = record { state = at_g (read k b) t set; ticket = raised ticket }; answer = Served (occurred (read k b) t set) }
+      → instant_step (held k b ticket) t set ≡ record { left = record { state = at_g (read k b) t set; ticket = raised ticket }; answer = Ok (occurred (read k b) t set) }
   unfolding instant served after_call
   step_served none = let z = eq-eqb (refusal (read k b) t set) 0 (sym n ∙ none) in rw (instant, after_call, z)
 
@@ -109,40 +109,29 @@ module _ (c : Call) (k : Kept) (b : Beside) (ticket : ℕ) {number : ℕ} (e : n
 
 -- ---- opening
 
-pub opened_at : (bytes : List ℕ) (k k' : Kept) (b b' : Beside) (ticket : ℕ) (r : Opening) (place : ℕ) → OpenedWithClaim bytes r → r.refusal ≡ NoRefusal → read k' b' ≡ state_of r.state
-    → place ≡ refusal_place r.refusal → OpenedAt bytes k b ticket 0 place k' b' r.state.ticket
-opened_at bytes k k' b b' ticket r place o e s p = record {
-  number_is = sym (ap refusal_number e) ∙ o.number;
-  place_is = p ∙ o.place;
-  left_is = λ f. ap₂ (λ (d : State) (i : ℕ). record { state = d; ticket = i }) (s ∙ ap (λ (z : calls.Opening). z.state) o.opens) o.ticket;
-  claim = λ f list. subst (λ (z : State). Claim z list) (sym s) (o.claim e list);
-  look_first = λ f list. subst (λ (z : State). LookFirst z list) (sym s) (o.look_first e list);
-  untouched = λ f. absurd (f (sym (ap (λ (z : calls.Opening). z.refusal) o.opens) ∙ e));
-}
-
--- one that refuses the bytes
-pub not_opened_at : (bytes : List ℕ) (k : Kept) (b : Beside) (ticket : ℕ) (r : Opening) (number place : ℕ) → OpenedWithClaim bytes r → number ≡ refusal_number r.refusal
-    → (r.refusal ≡ NoRefusal → ⊥) → place ≡ refusal_place r.refusal → OpenedAt bytes k b ticket number place k b ticket
-not_opened_at bytes k b ticket r number place o n some p =
-    let same = ap (λ (z : calls.Opening). z.refusal) o.opens in
+pub opened_at : (bytes : List ℕ) (k k' : Kept) (b b' : Beside) (ticket : ℕ) (r : Result Dispatcher Refusal) (d : Dispatcher) → OpenedWithClaim bytes r → r ≡ Ok d → read k' b' ≡ state_of d
+    → OpenedAt bytes k b ticket 0 0 k' b' d.ticket
+opened_at bytes k k' b b' ticket r d o e s =
+    let serves : opening bytes ≡ Ok (state_of d) = sym o.opens ∙ ap opening_of e in
     record {
-      number_is = n ∙ o.number;
-      place_is = p ∙ o.place;
-      left_is = λ f. absurd (some (same ∙ f));
-      claim = λ f list. absurd (some (same ∙ f));
-      look_first = λ f list. absurd (some (same ∙ f));
-      untouched = λ f. (refl, refl, refl);
+      number_is = rw serves;
+      place_is = rw serves;
+      left_is = λ x f. let same : state_of d ≡ x = let q = sym serves ∙ f in cc in ap₂ (λ (y : State) (i : ℕ). record { state = y; ticket = i }) (s ∙ same) (o.ticket d e);
+      claim = λ f list. subst (λ (z : State). Claim z list) (sym s) (o.claim d e list);
+      look_first = λ f list. subst (λ (z : State). LookFirst z list) (sym s) (o.look_first d e list);
+      untouched = λ f. absurd (true≢false (sym f ∙ rw serves));
     }
 
-is_none : Refusal → Bool
-is_none NoRefusal = true
-is_none (Alone n) = false
-is_none (AtEntry n at) = false
-
-pub is_alone : {r : Refusal} (n : ℕ) → r ≡ Alone n → r ≡ NoRefusal → ⊥
-unfolding is_none
-is_alone n e f = true≢false (ap is_none (sym f ∙ e))
-
-pub is_at_entry : {r : Refusal} (n at : ℕ) → r ≡ AtEntry n at → r ≡ NoRefusal → ⊥
-unfolding is_none
-is_at_entry n at e f = true≢false (ap is_none (sym f ∙ e))
+-- one that refuses the bytes
+pub not_opened_at : (bytes : List ℕ) (k : Kept) (b : Beside) (ticket : ℕ) (r : Result Dispatcher Refusal) (x : Refusal) → OpenedWithClaim bytes r → r ≡ Err x
+    → OpenedAt bytes k b ticket (refusal_number (Some x)) (refusal_place (Some x)) k b ticket
+not_opened_at bytes k b ticket r x o e =
+    let refuses : opening bytes ≡ Err x = sym o.opens ∙ ap opening_of e in
+    record {
+      number_is = rw refuses;
+      place_is = rw refuses;
+      left_is = λ d f. absurd (let q = sym refuses ∙ f in cc);
+      claim = λ f list. absurd (true≢false (sym f ∙ rw refuses));
+      look_first = λ f list. absurd (true≢false (sym f ∙ rw refuses));
+      untouched = λ f. (refl, refl, refl);
+    }

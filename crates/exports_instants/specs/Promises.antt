@@ -1,7 +1,8 @@
 -- What the calls on a dispatcher that C or Rust keeps promise: the rules' outcome, of the states that are read before and after; a
 -- refused call leaves what is kept, and what was told before, as it was.
-use Rattle.guarantees.specs.Types.{List, ℕ, State, Call, Mark, Marks, Occurred, Answer, Refused, Served, NoRefusal}
-use Rattle.std.specs.Prelude.{[], ◌∷◌, ◌≡◌}
+use Rattle.guarantees.specs.Types.{List, ℕ, State, Call, Mark, Marks, Occurred, Answer, Err, Ok}
+use Rattle.std.specs.Prelude.{[], ◌∷◌, ◌≡◌, Ok, IsOk, IsErr}
+use Rattle.std.specs.Result.{result_err}
 use Rattle.rules.specs.declared.View.{View}
 use Rattle.rules.specs.View.{viewed}
 use Rattle.rules.specs.Calls.{refusal, row, opening}
@@ -20,8 +21,8 @@ pub record Tells (o : Occurred) (told told' : List ℕ) : Type 0 where
   pub reads : occurred_in told' ≡ o
 
 abbrev pub ToldAs : Answer → List ℕ → List ℕ → Type 0
-ToldAs (Refused n) told told' = told' ≡ told
-ToldAs (Served o) told told' = Tells o told told'
+ToldAs (Err n) told told' = told' ≡ told
+ToldAs (Ok o) told told' = Tells o told told'
 
 -- what is kept, read as a state with its ticket
 abbrev pub held : Kept → Beside → ℕ → Ticketed
@@ -73,8 +74,8 @@ pub record Looked (o : Occurred) (next : State) (ticket : ℕ) (before after : S
 
 -- one that is refused tells nothing
 abbrev pub LookedAs : Answer → State → ℕ → Shared → Shared → Type 0
-LookedAs (Refused n) next ticket before after = after ≡ before
-LookedAs (Served o) next ticket before after = Looked o next ticket before after
+LookedAs (Err n) next ticket before after = after ≡ before
+LookedAs (Ok o) next ticket before after = Looked o next ticket before after
 
 pub record EnquiredAs (e : Enquiry) (refused number : ℕ) (before after : Shared) : Type 0 where
   pub number_is : number ≡ refused
@@ -105,9 +106,9 @@ MarkedAll sets ticket set m = MarkedBy (Marks set m) sets ticket
 
 pub record OpenedAt (bytes : List ℕ) (k : Kept) (b : Beside) (ticket number place : ℕ) (k' : Kept) (b' : Beside) (ticket' : ℕ)
     : Type 0 where
-  pub number_is : number ≡ refusal_number (opening bytes).refusal
-  pub place_is : place ≡ refusal_place (opening bytes).refusal
-  pub left_is : (opening bytes).refusal ≡ NoRefusal → held k' b' ticket' ≡ fresh (opening bytes).state
-  pub claim : (opening bytes).refusal ≡ NoRefusal → (calls : List Call) → Claim (read k' b') calls
-  pub look_first : (opening bytes).refusal ≡ NoRefusal → (requests : List Request) → LookFirst (read k' b') requests
-  pub untouched : ((opening bytes).refusal ≡ NoRefusal → ⊥) → (k' ≡ k) × (b' ≡ b) × (ticket' ≡ ticket)
+  pub number_is : number ≡ refusal_number (result_err (opening bytes))
+  pub place_is : place ≡ refusal_place (result_err (opening bytes))
+  pub left_is : (d : State) → opening bytes ≡ Ok d → held k' b' ticket' ≡ fresh d
+  pub claim : IsOk (opening bytes) → (calls : List Call) → Claim (read k' b') calls
+  pub look_first : IsOk (opening bytes) → (requests : List Request) → LookFirst (read k' b') requests
+  pub untouched : IsErr (opening bytes) → (k' ≡ k) × (b' ≡ b) × (ticket' ≡ ticket)

@@ -14,7 +14,7 @@ ghost use Rattle.exports_instants.specs.Promises.{Answered, Committed, shown, En
 
 use dispatcher::{Dispatcher, WORDS};
 use rules::at;
-use table::{Columns, Refusal};
+use table::Columns;
 
 // An instant of the dispatcher that the arrays keep: 0 and what occurred in `told`, or the number of the refusal. What every instant looks
 // at comes first, in registers.
@@ -41,9 +41,8 @@ pub extern "C" fn gateway_instant_v5<'a>(
         (beside priority.now columns.now (by_task release.new blocked.new waits.new))
         ticket.new told.new }
 {
-    let number = dispatcher::refusal(time, set, times, sets, codes);
-    if number != 0 {
-        return number;
+    if let Err(refusal) = dispatcher::refusal(time, set, times, sets, codes) {
+        return refusal.number();
     }
     dispatcher::steps(
         time, set, times, sets, codes, priority, columns, release, blocked, waits, told,
@@ -195,9 +194,8 @@ pub extern "C" fn gateway_completes_after_v5(
 pub extern "C" fn gateway_mark_v5(sets: &mut at::Sets, ticket: &mut u64, task: u8, mark: u8) -> u8
     ensures { Marked sets.old ticket.old task mark result sets.new ticket.new }
 {
-    let number = dispatcher::mark_refusal(task, mark, sets);
-    if number != 0 {
-        return number;
+    if let Err(refusal) = dispatcher::mark_refusal(task, mark, sets) {
+        return refusal.number();
     }
     dispatcher::marked_all(sets::insert(0, task), mark, sets);
     let present = *ticket;
@@ -211,9 +209,8 @@ pub extern "C" fn gateway_mark_v5(sets: &mut at::Sets, ticket: &mut u64, task: u
 pub extern "C" fn gateway_marks_v5(sets: &mut at::Sets, ticket: &mut u64, set: u32, mark: u8) -> u8
     ensures { MarkedAll sets.old ticket.old set mark result sets.new ticket.new }
 {
-    let number = dispatcher::marks_refusal(set, mark, sets);
-    if number != 0 {
-        return number;
+    if let Err(refusal) = dispatcher::marks_refusal(set, mark, sets) {
+        return refusal.number();
     }
     dispatcher::marked_all(set, mark, sets);
     let present = *ticket;
@@ -281,18 +278,17 @@ pub extern "C" fn gateway_open_v5(
         (beside priority.new columns.new (by_task release.new blocked.new waits.new))
         ticket.new }
 {
-    let opening = guarantees::open(entries);
-    let refusal = opening.refusal;
-    *place = table::place_of(refusal);
-    match refusal {
-        Refusal::NoRefusal => {
-            let state = opening.state;
+    match guarantees::open(entries) {
+        Ok(state) => {
+            *place = 0;
             *ticket = state.ticket;
             put_numbers(state, times, sets, codes);
             put_tasks(state, priority, columns, release, blocked, waits);
             0
         }
-        Refusal::Alone(number) => number,
-        Refusal::AtEntry(number, _) => number,
+        Err(refusal) => {
+            *place = refusal.place();
+            refusal.number()
+        }
     }
 }

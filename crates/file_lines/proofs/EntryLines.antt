@@ -15,8 +15,9 @@ use Rattle.lines.specs.Lines.{line_of}
 use Rattle.record.specs.Fits.{EntriesFit}
 use Rattle.run.specs.Run.{Moment, record_entries, record_bytes}
 use Rattle.record_lines.specs.Types.{RecordEntry}
-use Rattle.record_lines.specs.Lines.{entry_line, entry_size, lines_from, lines_behind, record_lines}
+use Rattle.record_lines.specs.Lines.{read_line, entry_line, entry_size, lines_from, lines_behind, record_lines}
 use Rattle.record_lines.proofs.Laws.{none_left, one_more, entry_first}
+use Rattle.std.specs.Prelude.{Ok}
 
 -- ---- bytes in front move the place
 
@@ -34,7 +35,7 @@ module _ (front s : List ℕ) where
       go zero e more = none_left (suc k) (front ++ s) (length front + at) (size ∙ e) ∙ sym (none_left (suc k) s at e)
       go (suc n) e more =
           one_more k (front ++ s) (length front + at) n (size ∙ e)
-          ∙ ap₂ (λ (x y : List ℕ). x ++ y) (ap line_of (entry_behind front s at))
+          ∙ ap₂ (λ (x y : List ℕ). x ++ y) (ap read_line (entry_behind front s at))
           (ap (lines_from k (front ++ s)) (add_assoc (length front) at (suc n)) ∙ more (suc n))
           ∙ sym (one_more k s at n e)
 
@@ -61,11 +62,11 @@ unfolding entry_size entry_line
 entry_gives e h rest =
     let bytes : List ℕ = entry_bytes e in
     let s : List ℕ = bytes ++ rest in
-    let there : record_entry_at s 0 ≡ e = round_trip.entry e h [] rest in
-    let size : entry_size s 0 ≡ record_entry_size e = ap record_entry_size there in
+    let there : record_entry_at s 0 ≡ Ok e = round_trip.entry e h [] rest in
+    let size : entry_size s 0 ≡ record_entry_size (Ok e) = ap record_entry_size there in
     let place : 0 + entry_size s 0 ≡ length bytes = omega (arith, size, length_is e) in
     let more : lines_behind s (0 + entry_size s 0) ≡ record_lines rest = ap (lines_behind s) place ∙ lines_moved bytes rest in
-    entry_first s 0 (λ z. some e h (sym size ∙ z)) ∙ ap₂ (λ (x y : List ℕ). x ++ y) (ap line_of there) more
+    entry_first s 0 (λ z. some e h (sym size ∙ z)) ∙ ap₂ (λ (x y : List ℕ). x ++ y) (ap read_line there) more
 
 -- ---- the lines of a whole record
 

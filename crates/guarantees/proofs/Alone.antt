@@ -1,6 +1,6 @@
 -- Nobody is chosen while the engine copies out; so that where a copy-out ends, its interval does not end before the releases.
 use Rattle.std.proofs.Common.{◌≡◌, ◌&&◌, ◌⊎◌}
-use Rattle.guarantees.specs.Types.{refl, sym, ap, ◌∙◌, subst, Bool, true, false, not, true≢false, false≢true, inl, inr, ⊎_elim, [], ℕ, Jobs, MaybeTask, NoTask, Task, CopyOut, NoCopyOut, CopyingOut, CopiedOut, CopyIn, Unchosen, Interval, Phase, Between, Within, State, Stage}
+use Rattle.guarantees.specs.Types.{refl, sym, ap, ◌∙◌, subst, Bool, true, false, not, true≢false, false≢true, inl, inr, ⊎_elim, [], ℕ, Jobs, Option, None, Some, CopyOut, NoCopyOut, CopyingOut, CopiedOut, CopyIn, Unchosen, Interval, Phase, Between, Within, State, Stage}
 use Rattle.sets.proofs.Laws.{by-test, clash}
 use Rattle.rules.specs.With.{at_clock}
 use Rattle.rules.specs.Order.{highest_of}
@@ -45,9 +45,9 @@ module _ (t : ℕ) where
   unfolding choose
   e_alone d h = e_cases AloneIn d t h (λ i e u v. chosen i (highest_of d d.jobs.ready) v)
     where
-      chosen : (i : Interval) (q : MaybeTask) → copying_out i.copyout ≡ false → Alone (choose d t i q).phase
-      chosen i NoTask v = λ z. clash (copying_out i.copyout) z v
-      chosen i (Task n) v = λ z. clash (copying_out i.copyout) z v
+      chosen : (i : Interval) (q : Option ℕ) → copying_out i.copyout ≡ false → Alone (choose d t i q).phase
+      chosen i None v = λ z. clash (copying_out i.copyout) z v
+      chosen i (Some n) v = λ z. clash (copying_out i.copyout) z v
 
   g_alone : (f : State) (taken : ℕ) → AloneIn f → AloneIn (step_g f t taken f.phase)
   g_alone f taken h =

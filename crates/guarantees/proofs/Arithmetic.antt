@@ -1,6 +1,6 @@
 -- Every state that calls made names tasks of the table alone, and no time and no count of it comes near the end of its type.
 use Rattle.std.proofs.Common.{◌≡◌, ◌⊎◌, ◌+◌, ◌^◌, ◌≤◌, ◌<◌}
-use Rattle.guarantees.specs.Types.{refl, sym, ap, ◌∙◌, subst, List, inl, inr, ℕ, min, Table, Jobs, WaitingReleases, NoneNext, NoneOutgoing, Phase, Between, State, Due, Never, Tick, Call}
+use Rattle.guarantees.specs.Types.{refl, sym, ap, ◌∙◌, subst, List, inl, inr, ℕ, min, Table, Jobs, WaitingReleases, NoneNext, NoneOutgoing, Phase, Between, State, Option, None, Some, Call}
 use native.Mathlib.Omega.{arith}
 use mathlib.Core.Path.{ap₂}
 use borrow.Author.Tests.{eqb-true, eq-eqb, leb-true, leb-false}
@@ -90,9 +90,9 @@ module _ (table : Table) (marks : ℕ) (fair : Fair table marks) where
       (λ l. inl (subst (λ (x : Table). PlainTime x t) (sym g.table_is) (plain_time t (leb-true t 3000000000 l))))
       (λ l. by-test (eqb set 0) (λ e. inr (late (leb-false t 3000000000 l) (eqb-true set 0 e))) (λ e. absurd (omega (arith, s.early e, leb-false t 3000000000 l))))
     where
-      go : (x : Due) → due d.phase ≡ x → 3000000000 < t → at_g d t 0 ≡ at_clock d t
-      go Never e l = nothing_begins d t g.before_few (rests table marks fair d g e)
-      go (Tick u) e l =
+      go : (x : Option ℕ) → due d.phase ≡ x → 3000000000 < t → at_g d t 0 ≡ at_clock d t
+      go None e l = nothing_begins d t g.before_few (rests table marks fair d g e)
+      go (Some u) e l =
           absurd (omega (arith, (due_times table marks fair d u g e).bound, debt_less d g.sound, drop_one (NotBefore t) u d.phase s.due (due_drop u d.phase e)))
 
       late : 3000000000 < t → set ≡ 0 → at_g d t set ≡ at_clock d t

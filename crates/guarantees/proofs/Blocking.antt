@@ -1,7 +1,7 @@
 -- No blocked count goes over 2: a job's first and second interval may each count one, and from the third on none does.
 use Rattle.std.proofs.Common.{◌≡◌, ◌&&◌, ◌∷◌, ◌⊎◌, ◌+◌, ◌≤◌, ◌<◌}
 use Rattle.guarantees.specs.Queries.{is_task}
-use Rattle.guarantees.specs.Types.{refl, sym, ap, ◌∙◌, subst, Bool, true, false, cond, false≢true, List, [], inl, inr, ⊎_elim, ℕ, zero, suc, min, Table, MaybeTask, NoTask, Task, CopyIn, Unchosen, NoneChosen, Copying, Loaded, Cancelled, Interval, Next, Outgoing, Phase, Between, Within, State, Stage}
+use Rattle.guarantees.specs.Types.{refl, sym, ap, ◌∙◌, subst, Bool, true, false, cond, false≢true, List, [], inl, inr, ⊎_elim, ℕ, zero, suc, min, Table, Option, None, Some, CopyIn, Unchosen, NoneChosen, Copying, Loaded, Cancelled, Interval, Next, Outgoing, Phase, Between, Within, State, Stage}
 use Rattle.guarantees.specs.Claim.{NotLower}
 use native.Mathlib.Omega.{arith}
 use native.Mathlib.Nat.{add-zero, zero-add}
@@ -56,8 +56,8 @@ zeros (suc k) (suc n) = zeros k n
 
 -- between intervals, with the job that is to execute next; or in one, with the task that it executes
 pub data Place : Type 0 where
-  Out : MaybeTask → Place
-  In : MaybeTask → Place
+  Out : Option ℕ → Place
+  In : Option ℕ → Place
 
 abbrev pub place : Phase → Place
 place (Between next outgoing) = Out (next_task next)
@@ -78,7 +78,7 @@ module _ (pr : List ℕ) (n : ℕ) (small : n < 32) where
   Waits d = Old pr n d
 
   -- n's job is to be executed in a later interval
-  abbrev pub Awaits : ℕ → MaybeTask → Type 0
+  abbrev pub Awaits : ℕ → Option ℕ → Type 0
   Awaits ready h = (member n ready ≡ true) ⊎ (is_task n h ≡ true)
 
   abbrev pub AwaitsIn : State → Type 0
@@ -156,10 +156,10 @@ module _ (pr : List ℕ) (n : ℕ) (small : n < 32) where
   waiting_awaits ready (Loaded c) h = ⊎_elim (λ e. inr e) (λ m. inl m) (insert_out c ready n h)
   waiting_awaits ready (Cancelled c fate) h = inl h
 
-  higher_lower : (d : State) (s : ℕ) (r : MaybeTask) → member n (higher d r s) ≡ true → (member n s ≡ true) × (NotLower d.table.priority n r → ⊥)
+  higher_lower : (d : State) (s : ℕ) (r : Option ℕ) → member n (higher d r s) ≡ true → (member n s ≡ true) × (NotLower d.table.priority n r → ⊥)
   unfolding higher_than
-  higher_lower d s NoTask h = clash (member n 0) h (none n)
-  higher_lower d s (Task r) h =
+  higher_lower d s None h = clash (member n 0) h (none n)
+  higher_lower d s (Some r) h =
       let x : (member n s && ltb (get_or d.table.priority n 0) (get_or d.table.priority r 0)) ≡ true =
       collect_out (λ k. member k s && ltb (get_or d.table.priority k 0) (get_or d.table.priority r 0)) n h in
       let l : get_or d.table.priority n 0 < get_or d.table.priority r 0 =
@@ -167,13 +167,13 @@ module _ (pr : List ℕ) (n : ℕ) (small : n < 32) where
       (left (member n s) (ltb (get_or d.table.priority n 0) (get_or d.table.priority r 0)) x, λ y. omega arith)
 
   -- and who awaits execution after it did before it
-  pub promoted_awaits : (ready : ℕ) (c : CopyIn) (q : MaybeTask) → (is_task n q ≡ true → member n ready ≡ true) → Awaits (without_promoted ready q) (next_task (next_of c q)) → Awaits ready (held_task c)
-  promoted_awaits ready c (Task q) f x = inl (⊎_elim (λ m. remove_out q ready n m) f x)
-  promoted_awaits ready Unchosen NoTask f x = x
-  promoted_awaits ready NoneChosen NoTask f x = x
-  promoted_awaits ready (Copying c until) NoTask f x = ⊎_elim (λ m. inl m) (λ e. absurd (false≢true e)) x
-  promoted_awaits ready (Loaded c) NoTask f x = x
-  promoted_awaits ready (Cancelled c fate) NoTask f x = x
+  pub promoted_awaits : (ready : ℕ) (c : CopyIn) (q : Option ℕ) → (is_task n q ≡ true → member n ready ≡ true) → Awaits (without_promoted ready q) (next_task (next_of c q)) → Awaits ready (held_task c)
+  promoted_awaits ready c (Some q) f x = inl (⊎_elim (λ m. remove_out q ready n m) f x)
+  promoted_awaits ready Unchosen None f x = x
+  promoted_awaits ready NoneChosen None f x = x
+  promoted_awaits ready (Copying c until) None f x = ⊎_elim (λ m. inl m) (λ e. absurd (false≢true e)) x
+  promoted_awaits ready (Loaded c) None f x = x
+  promoted_awaits ready (Cancelled c fate) None f x = x
 
   pub promoted_ready : (d : State) (i : Interval) (c : CopyIn) → is_task n (promoted d i c) ≡ true → member n d.jobs.ready ≡ true
   unfolding promoted
@@ -182,9 +182,9 @@ module _ (pr : List ℕ) (n : ℕ) (small : n < 32) where
       s : ℕ
       s = intersection i.candidates d.jobs.ready
 
-      picked : (q : MaybeTask) → Best d.table.priority (intersection i.candidates d.jobs.ready) q → is_task n q ≡ true → member n d.jobs.ready ≡ true
-      picked NoTask b e = absurd (false≢true e)
-      picked (Task q) b e =
+      picked : (q : Option ℕ) → Best d.table.priority (intersection i.candidates d.jobs.ready) q → is_task n q ≡ true → member n d.jobs.ready ≡ true
+      picked None b e = absurd (false≢true e)
+      picked (Some q) b e =
           intersection_right i.candidates d.jobs.ready n
           (ap (λ (k : ℕ). member k (intersection i.candidates d.jobs.ready)) (eqb-true n q e) ∙ b.1)
 
@@ -292,15 +292,15 @@ module _ (pr : List ℕ) (n : ℕ) (small : n < 32) where
       (d_waiting pr n (Bound pr n) (NotLower pr n) (rule_old pr n small) small taken d k)
 
   -- e
-  choose_like : (d : State) (t : ℕ) (i : Interval) (q : MaybeTask) → d.phase ≡ Within i → Best d.table.priority d.jobs.ready q → Like d (choose d t i q)
+  choose_like : (d : State) (t : ℕ) (i : Interval) (q : Option ℕ) → d.phase ≡ Within i → Best d.table.priority d.jobs.ready q → Like d (choose d t i q)
   unfolding choose
-  choose_like d t i NoTask e b = record {
+  choose_like d t i None e b = record {
     table = refl;
     count = refl;
     place = ap place e;
     awaits = λ x. ⊎_elim (λ y. inl y) (λ y. absurd (false≢true y)) x;
   }
-  choose_like d t i (Task q) e b = record {
+  choose_like d t i (Some q) e b = record {
     table = refl;
     count = refl;
     place = ap place e;

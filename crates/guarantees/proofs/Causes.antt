@@ -1,7 +1,7 @@
 -- A copy-in gives way only to a marked job of strictly higher priority that is taken at the same instant: the marked jobs of an instant, gathered along it,
 -- and what step d finds among them.
 use Rattle.std.proofs.Common.{◌≡◌, ◌∷◌, ◌++◌, ◌⊎◌, ◌≤◌, ◌<◌}
-use Rattle.guarantees.specs.Types.{refl, sym, ap, ◌∙◌, subst, Bool, true, false, cond, false≢true, List, [], append_assoc, inl, inr, ⊎_elim, ℕ, zero, suc, MaybeTask, NoTask, Task, CopyIn, Interval, Phase, Within, Table, State, Call}
+use Rattle.guarantees.specs.Types.{refl, sym, ap, ◌∙◌, subst, Bool, true, false, cond, false≢true, List, [], append_assoc, inl, inr, ⊎_elim, ℕ, zero, suc, Option, None, Some, CopyIn, Interval, Phase, Within, Table, State, Call}
 use native.Mathlib.Omega.{arith}
 use borrow.Author.Tests.{eqb-true, eqb-false, ltb-true}
 use lib.Dec.{eqb}
@@ -25,7 +25,7 @@ module _ (pr : List ℕ) where
 
   unfoldable pub Caused : ℕ → List Event → Type 0
   Caused s [] = Unit {0}
-  Caused s (e ∷ es) = ((n : ℕ) → gives_way e ≡ true → (details e).task ≡ Task n → Cause pr s n) × Caused (came_by s e) es
+  Caused s (e ∷ es) = ((n : ℕ) → gives_way e ≡ true → (details e).task ≡ Some n → Cause pr s n) × Caused (came_by s e) es
 
   at_giving : (before rest : List Event) (n s : ℕ) → Caused s (before ++ (GivesWay n ∷ rest)) → Cause pr (after came_by s before) n
   unfolding Caused after
@@ -89,9 +89,9 @@ module _ (pr : List ℕ) where
   abbrev Gave : ℕ → ℕ → Phase → Phase → Type 0
   Gave taken w p q = (giving_events_in p q ≡ []) ⊎ ((n : ℕ) × (giving_events_in p q ≡ GivesWay n ∷ []) × By taken w n)
 
-  outranked : (d : State) (n taken : ℕ) (q : MaybeTask) → d.table.priority ≡ pr → Best d.table.priority (intersection taken d.marked) q → outranks d n q ≡ true → By taken d.marked n
-  outranked d n taken NoTask e b o = absurd (false≢true o)
-  outranked d n taken (Task k) e b o = (
+  outranked : (d : State) (n taken : ℕ) (q : Option ℕ) → d.table.priority ≡ pr → Best d.table.priority (intersection taken d.marked) q → outranks d n q ≡ true → By taken d.marked n
+  outranked d n taken None e b o = absurd (false≢true o)
+  outranked d n taken (Some k) e b o = (
     k,
     b.0,
     intersection_left taken d.marked k b.1,
@@ -111,7 +111,7 @@ module _ (pr : List ℕ) where
       gives : (i : Interval) (n fate : ℕ) → HeldFor i.copyin n fate → giving_events_in (Within i) (cancel d i n fate true).phase ≡ GivesWay n ∷ []
       gives i n fate h =
           unfold cancel giving_events_in giving_events in
-          ⊎_elim (λ z. ap (λ (c : CopyIn). giving_events (given_way c) (Task n)) z.1) (λ z. ap (λ (c : CopyIn). giving_events (given_way c) (Task n)) z.0) h
+          ⊎_elim (λ z. ap (λ (c : CopyIn). giving_events (given_way c) (Some n)) z.1) (λ z. ap (λ (c : CopyIn). giving_events (given_way c) (Some n)) z.0) h
 
   pub c_same : (d : State) (t taken deferred : ℕ) (q : Phase) → giving_events_in (step_c d t taken deferred).phase q ≡ giving_events_in d.phase q
   unfolding step_c
@@ -144,7 +144,7 @@ module _ (pr : List ℕ) where
       ⊎_elim (λ x. rw (x) (any s))
       (λ x. rw x.1 ((λ n y z. let c = x.2 in (c.0, c.1, h c.0 c.1 c.2 c.3, subst (λ (i : ℕ). get_or pr c.0 0 < get_or pr i 0) (number x.0 n z) c.4)), any s)) g
     where
-      number : (a b : ℕ) → Task a ≡ Task b → a ≡ b
+      number : (a b : ℕ) → Some a ≡ Some b → a ≡ b
       number a b e = cc
 
   e_gave_at : (d : State) (t set : ℕ) → d.table.priority ≡ pr → Gave (taken_at d t set) d.marked (at_b d t).state.phase (at_e d t set).phase

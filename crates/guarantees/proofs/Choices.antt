@@ -1,7 +1,7 @@
 -- What the engine copies in, by the history: the job that is highest when the engine becomes free, for as long as its copy-in lasts; step by step and along the
 -- calls.
 use Rattle.std.proofs.Common.{◌≡◌, ◌&&◌, ◌||◌, ◌∷◌, ◌++◌, ◌⊎◌, ◌+◌, ◌≤◌, ◌<◌}
-use Rattle.guarantees.specs.Types.{refl, sym, ap, ◌∙◌, subst, Bool, true, false, cond, not, true≢false, false≢true, List, [], append_assoc, inl, inr, ⊎_elim, ℕ, zero, suc, Table, Jobs, MaybeTask, NoTask, Task, Processor, Idle, CopyingIn, Executing, Finished, CopyOut, NoCopyOut, CopyingOut, CopiedOut, CopyIn, Unchosen, NoneChosen, Copying, Loaded, Cancelled, Interval, Next, NoneNext, LoadedNext, PromotedNext, Outgoing, NoneOutgoing, AwaitsCopyOut, Phase, Between, Within, State, Stage, NoJob, Job, Due, Never, Tick, Call}
+use Rattle.guarantees.specs.Types.{refl, sym, ap, ◌∙◌, subst, Bool, true, false, cond, not, true≢false, false≢true, List, [], append_assoc, inl, inr, ⊎_elim, ℕ, zero, suc, Table, Jobs, Option, None, Some, Processor, Idle, CopyingIn, Executing, Finished, CopyOut, NoCopyOut, CopyingOut, CopiedOut, CopyIn, Unchosen, NoneChosen, Copying, Loaded, Cancelled, Interval, Next, NoneNext, LoadedNext, PromotedNext, Outgoing, NoneOutgoing, AwaitsCopyOut, Phase, Between, Within, State, Stage, Call}
 use mathlib.Core.List.{append-nil}
 use native.Mathlib.Omega.{arith}
 use borrow.Author.Tests.{eqb-true, eqb-false, ltb-false}
@@ -52,40 +52,40 @@ module _ (pr columns : List ℕ) where
   Open x = x.choosing ≡ false → settled x.engine ≡ true → x.works ≡ true
 
   -- where an instant is over no interval is open that is over, no copy-in is under way that should have ended, and none has a rival to give way to
-  abbrev Rest : Choice → Due → Type 0
+  abbrev Rest : Choice → Option ℕ → Type 0
   Rest x w =
       (settled x.engine ≡ true → x.works ≡ true)
-      × ((n t u : ℕ) → x.engine ≡ Copying n u → w ≡ Tick t → t < u)
-      × ((n k : ℕ) → k < 32 → copyin_task x.engine ≡ Task n → member k x.rivals ≡ true → get_or pr n 0 ≤ get_or pr k 0)
+      × ((n t u : ℕ) → x.engine ≡ Copying n u → w ≡ Some t → t < u)
+      × ((n k : ℕ) → k < 32 → copyin_task x.engine ≡ Some n → member k x.rivals ≡ true → get_or pr n 0 ≤ get_or pr k 0)
 
   -- and none comes behind its end
   abbrev InTime : Choice → ℕ → Type 0
   InTime x t = (n u : ℕ) → x.engine ≡ Copying n u → t ≤ u
 
-  abbrev So : Choice → Due → Event → Type 0
+  abbrev So : Choice → Option ℕ → Event → Type 0
   So x w e =
-      ((n : ℕ) → finishes e ≡ true → (details e).task ≡ Task n → (u : ℕ) × (x.engine ≡ Copying n u) × (w ≡ Tick u))
-      × ((n : ℕ) → gives_way e ≡ true → (details e).task ≡ Task n → (copyin_task x.engine ≡ Task n) × ((u : ℕ) → x.engine ≡ Copying n u → w ≡ Tick u → ⊥))
+      ((n : ℕ) → finishes e ≡ true → (details e).task ≡ Some n → (u : ℕ) × (x.engine ≡ Copying n u) × (w ≡ Some u))
+      × ((n : ℕ) → gives_way e ≡ true → (details e).task ≡ Some n → (copyin_task x.engine ≡ Some n) × ((u : ℕ) → x.engine ≡ Copying n u → w ≡ Some u → ⊥))
       × (ends e ≡ true → settled x.engine ≡ true)
       × (comes e ≡ true → Rest x w × InTime x (details e).tick)
       × ((takes e || defers e) ≡ true → Open x)
 
-  unfoldable pub Chosen : Choice → Due → List Event → Type 0
+  unfoldable pub Chosen : Choice → Option ℕ → List Event → Type 0
   Chosen x w [] = Rest x w
   Chosen x w (e ∷ es) = So x w e × Chosen (choice_by pr columns x e) (now_by w e) es
 
-  so_at : (before rest : List Event) (e : Event) (x : Choice) (w : Due) → Chosen x w (before ++ (e ∷ rest)) → So (after (choice_by pr columns) x before) (after now_by w before) e
+  so_at : (before rest : List Event) (e : Event) (x : Choice) (w : Option ℕ) → Chosen x w (before ++ (e ∷ rest)) → So (after (choice_by pr columns) x before) (after now_by w before) e
   unfolding Chosen after
   so_at [] rest e x w h = h.0
   so_at (y ∷ before) rest e x w h = so_at before rest e (choice_by pr columns x y) (now_by w y) h.1
 
-  rest_at : (before rest : List Event) (x : Choice) (w : Due) → at_rest rest ≡ true → Chosen x w (before ++ rest) → Rest (after (choice_by pr columns) x before) (after now_by w before)
+  rest_at : (before rest : List Event) (x : Choice) (w : Option ℕ) → at_rest rest ≡ true → Chosen x w (before ++ rest) → Rest (after (choice_by pr columns) x before) (after now_by w before)
   unfolding Chosen after
   rest_at [] [] x w q h = h
   rest_at [] (e ∷ es) x w q h = (h.0.3 q).0
   rest_at (y ∷ before) rest x w q h = rest_at before rest (choice_by pr columns x y) (now_by w y) q h.1
 
-  open_at : (before rest : List Event) (x : Choice) (w : Due) → past_b (after (choice_by pr columns) x before).choosing rest ≡ true → Chosen x w (before ++ rest)
+  open_at : (before rest : List Event) (x : Choice) (w : Option ℕ) → past_b (after (choice_by pr columns) x before).choosing rest ≡ true → Chosen x w (before ++ rest)
       → settled (after (choice_by pr columns) x before).engine ≡ true → (after (choice_by pr columns) x before).works ≡ true
   unfolding Chosen after
   open_at [] [] x w q h s = h.0 s
@@ -97,29 +97,29 @@ module _ (pr columns : List ℕ) where
       either false false c q = inr (refl, q)
   open_at (y ∷ before) rest x w q h s = open_at before rest (choice_by pr columns x y) (now_by w y) q h.1 s
 
-  pub copies : (h : List Event) → Chosen no_choice Never h → Copies pr columns h
+  pub copies : (h : List Event) → Chosen no_choice None h → Copies pr columns h
   copies h x = record {
     each_finish = λ before after n e. (at before (Finishes n) after e).0 n refl refl;
     each_giving = λ before after n e. (at before (GivesWay n) after e).1 n refl refl;
-    each_rival = λ before after n k e q. (rest_at before after no_choice Never q (subst (Chosen no_choice Never) e x)).2 n k;
+    each_rival = λ before after n k e q. (rest_at before after no_choice None q (subst (Chosen no_choice None) e x)).2 n k;
     each_instant = λ before after n t u e. ((at before (Comes t) after e).3 refl).1 n u;
-    each_copying = λ before after n t u e q. (rest_at before after no_choice Never q (subst (Chosen no_choice Never) e x)).1 n t u;
+    each_copying = λ before after n t u e q. (rest_at before after no_choice None q (subst (Chosen no_choice None) e x)).1 n t u;
     each_end = λ before after t e. (at before (Ends t) after e).2 refl;
-    each_open = λ before after e q. open_at before after no_choice Never q (subst (Chosen no_choice Never) e x);
+    each_open = λ before after e q. open_at before after no_choice None q (subst (Chosen no_choice None) e x);
   }
     where
-      at : (before : List Event) (e : Event) (es : List Event) → h ≡ before ++ (e ∷ es) → So (choice pr columns before) (after now_by Never before) e
-      at before e es z = so_at before es e no_choice Never (subst (Chosen no_choice Never) z x)
+      at : (before : List Event) (e : Event) (es : List Event) → h ≡ before ++ (e ∷ es) → So (choice pr columns before) (after now_by None before) e
+      at before e es z = so_at before es e no_choice None (subst (Chosen no_choice None) z x)
 
   not_so {ℓ} : {A : Type ℓ} (b : Bool) → b ≡ false → b ≡ true → A
   not_so b e f = absurd (true≢false (sym f ∙ e))
 
-  release_on : (e : Event) → finishes e ≡ false → gives_way e ≡ false → ends e ≡ false → comes e ≡ false → (x : Choice) (w : Due) (es : List Event) → ((takes e || defers e) ≡ true → Open x)
+  release_on : (e : Event) → finishes e ≡ false → gives_way e ≡ false → ends e ≡ false → comes e ≡ false → (x : Choice) (w : Option ℕ) (es : List Event) → ((takes e || defers e) ≡ true → Open x)
       → Chosen (choice_by pr columns x e) (now_by w e) es → Chosen x w (e ∷ es)
   unfolding Chosen
   release_on e a b c d x w es o h = (((λ n y z. not_so (finishes e) a y), (λ n y z. not_so (gives_way e) b y), (λ y. not_so (ends e) c y), (λ y. not_so (comes e) d y), o), h)
 
-  on : (e : Event) → finishes e ≡ false → gives_way e ≡ false → ends e ≡ false → comes e ≡ false → (takes e || defers e) ≡ false → (x : Choice) (w : Due) (es : List Event) → Chosen (choice_by pr columns x e) (now_by w e) es → Chosen x w (e ∷ es)
+  on : (e : Event) → finishes e ≡ false → gives_way e ≡ false → ends e ≡ false → comes e ≡ false → (takes e || defers e) ≡ false → (x : Choice) (w : Option ℕ) (es : List Event) → Chosen (choice_by pr columns x e) (now_by w e) es → Chosen x w (e ∷ es)
   on e a b c d f x w es h = release_on e a b c d x w es (λ y. not_so (takes e || defers e) f y) h
 
   -- ---- what agrees with the state
@@ -211,7 +211,7 @@ module _ (pr columns : List ℕ) where
     runs : Runs x d.phase
     working : Working x d.phase
 
-  no-job {ℓ} : {A : Type ℓ} (n : ℕ) → NoTask ≡ Task n → A
+  no-job {ℓ} : {A : Type ℓ} (n : ℕ) → None ≡ Some n → A
   no-job n e = absurd (let z : ◌≡◌ {A = ℕ} 0 1 = cc in omega arith)
 
   -- the end of a copy-in under way is one of the state's times
@@ -249,14 +249,14 @@ module _ (pr columns : List ℕ) where
       unrested (Cancelled n fate) r o = open_so (resting i.processor) (copying_out i.copyout) true r.0 refl o
 
   -- what holds where an instant is over
-  module _ (x : Choice) (w : Due) (now : ℕ) (at : (t : ℕ) → w ≡ Tick t → t ≡ now) where
-    no_rival : (p : Phase) → Runs x p → (n k : ℕ) → k < 32 → copyin_task x.engine ≡ Task n → member k x.rivals ≡ true → get_or pr n 0 ≤ get_or pr k 0
+  module _ (x : Choice) (w : Option ℕ) (now : ℕ) (at : (t : ℕ) → w ≡ Some t → t ≡ now) where
+    no_rival : (p : Phase) → Runs x p → (n k : ℕ) → k < 32 → copyin_task x.engine ≡ Some n → member k x.rivals ≡ true → get_or pr n 0 ≤ get_or pr k 0
     no_rival (Between next outgoing) r n k l p m = no-job n (sym (ap copyin_task r) ∙ p)
     no_rival (Within i) r n k l p m = go i.copyin r.0 r.1
       where
-        leads : (j : ℕ) → copyin_task x.engine ≡ Task j → Leads x 0 j → get_or pr n 0 ≤ get_or pr k 0
+        leads : (j : ℕ) → copyin_task x.engine ≡ Some j → Leads x 0 j → get_or pr n 0 ≤ get_or pr k 0
         leads j q a =
-            let same : j ≡ n = let z : Task j ≡ Task n = sym q ∙ p in cc in
+            let same : j ≡ n = let z : Some j ≡ Some n = sym q ∙ p in cc in
             subst (λ (i : ℕ). get_or pr i 0 ≤ get_or pr k 0) same (⊎_elim (λ z. clash (member k 0) z (none k)) (λ z. z) (a k l m))
 
         go : (c : CopyIn) → Run x i.copyout c → Ahead x 0 c → get_or pr n 0 ≤ get_or pr k 0
@@ -271,10 +271,10 @@ module _ (pr columns : List ℕ) where
 
   module _ (t : ℕ) where
     abbrev T : Choice → List Event → Type 0
-    T x es = Chosen x (Tick t) es
+    T x es = Chosen x (Some t) es
 
     -- it copies the job in from now on that is highest by what was taken so far
-    abbrev from_now : MaybeTask → CopyIn
+    abbrev from_now : Option ℕ → CopyIn
     from_now = engine_of (λ n. Copying n (t + copyin_length columns n))
 
     abbrev Picks : Choice → Type 0
@@ -311,12 +311,12 @@ module _ (pr columns : List ℕ) where
     finish_chosen x o (Cancelled n fate) ys r a u p k = k x (like x) refl r a u tt
     finish_chosen x o (Copying n until) ys r a u p k = go (eqb until t) refl k
       where
-        at_its_end : eqb until t ≡ true → (m : ℕ) → Task n ≡ Task m → (u : ℕ) × (x.engine ≡ Copying m u) × (Tick t ≡ Tick u)
+        at_its_end : eqb until t ≡ true → (m : ℕ) → Some n ≡ Some m → (u : ℕ) × (x.engine ≡ Copying m u) × (Some t ≡ Some u)
         at_its_end e m z =
             let c : ℕ = r.1.0 in
             let l : later c (copyin_length columns n) ≡ c + copyin_length columns n = exact c (copyin_length columns n) (subst (λ (y : ℕ). y ≤ 3000000000) r.1.2 p) in
             let same : n ≡ m = cc in
-            (c + copyin_length columns n, r.1.1 ∙ ap (λ (j : ℕ). Copying j (c + copyin_length columns n)) same, ap Tick (sym (eqb-true until t e) ∙ r.1.2 ∙ l))
+            (c + copyin_length columns n, r.1.1 ∙ ap (λ (j : ℕ). Copying j (c + copyin_length columns n)) same, ap Some (sym (eqb-true until t e) ∙ r.1.2 ∙ l))
 
         go : (b : Bool) → eqb until t ≡ b
             → ((y : Choice) → Like x y → y.choosing ≡ x.choosing → Run y o (cond b (Loaded n) (Copying n until)) → Ahead y 0 (cond b (Loaded n) (Copying n until)) → Decided (cond b (Loaded n) (Copying n until)) o → Unended (cond b (Loaded n) (Copying n until)) → T y ys)
@@ -343,9 +343,9 @@ module _ (pr columns : List ℕ) where
     completion_chosen x j (CopiedOut n) c i ys a b e r w u v k = k x (like x) (inr (e, (rw (a, b) r, rw a w), rw (a, b) u, rw a v))
     completion_chosen x j (CopyingOut n start until) c i ys a b e r w u v k = go (eqb until t) b
       where
-        go : (z : Bool) → i.copyout ≡ cond z (CopiedOut n) (CopyingOut n start until) → T x (completion_events (cond z (Job (job_entry j n start t)) NoJob) ++ ys)
+        go : (z : Bool) → i.copyout ≡ cond z (CopiedOut n) (CopyingOut n start until) → T x (completion_events (cond z (Some (job_entry j n start t)) None) ++ ys)
         go true b =
-            on (Completes n t) refl refl refl refl refl x (Tick t) ys
+            on (Completes n t) refl refl refl refl refl x (Some t) ys
             (k (choice_by pr columns x (Completes n t)) (record { ready = refl; origins = λ j. refl; works = refl }) (inl (refl, (a ∙ unchosen x (CopyingOut n start until) c r refl, ap copying_out b, refl, refl))))
         go false b = k x (like x) (inr (e, (rw (a, b) r, rw a w), rw (a, b) u, rw a v))
 
@@ -383,13 +383,13 @@ module _ (pr columns : List ℕ) where
       processor_chosen table x (CopyingIn n until) ys v k = go (eqb until t) k
         where
           go : (b : Bool) → ((y : Choice) → Still x y → y.works ≡ not (resting (cond b (Executing n t (later t (execution_length table.columns n))) (CopyingIn n until))) → T y ys) → T x (cond b (Starts n t ∷ []) [] ++ ys)
-          go true k = on (Starts n t) refl refl refl refl refl x (Tick t) ys (k x (still x) v)
+          go true k = on (Starts n t) refl refl refl refl refl x (Some t) ys (k x (still x) v)
           go false k = k x (still x) v
       processor_chosen table x (Executing n start until) ys v k = go (eqb until t) k
         where
           go : (b : Bool) → ((y : Choice) → Still x y → y.works ≡ not (resting (cond b (Finished n start) (Executing n start until))) → T y ys) → T x (cond b (Stops n t ∷ []) [] ++ ys)
           go true k =
-              on (Stops n t) refl refl refl refl refl x (Tick t) ys
+              on (Stops n t) refl refl refl refl refl x (Some t) ys
               (k (choice_by pr columns x (Stops n t)) (record { ready = refl; origins = λ j. refl; choosing = refl; engine = refl; rivals = refl }) refl)
           go false k = k x (still x) v
 
@@ -498,7 +498,7 @@ module _ (pr columns : List ℕ) where
           where
             go : (b : Bool) → T (after (choice_by pr columns) (after (choice_by pr columns) x (take_events k taken w t)) (cond b (Takes k t (member k w) ∷ []) [])) ys
                 → T (after (choice_by pr columns) x (take_events k taken w t)) (cond b (Takes k t (member k w) ∷ []) [] ++ ys)
-            go true h = release_on (Takes k t (member k w)) refl refl refl refl (after (choice_by pr columns) x (take_events k taken w t)) (Tick t) ys (λ y. kept_open x _ (takes_keep k x) o) h
+            go true h = release_on (Takes k t (member k w)) refl refl refl refl (after (choice_by pr columns) x (take_events k taken w t)) (Some t) ys (λ y. kept_open x _ (takes_keep k x) o) h
             go false h = h
 
         abbrev Grown : List Event → Type 0
@@ -575,7 +575,7 @@ module _ (pr columns : List ℕ) where
           where
             go : (b : Bool) → T (after (choice_by pr columns) (after (choice_by pr columns) x (defer_events k deferred t)) (cond b (Defers k t ∷ []) [])) ys
                 → T (after (choice_by pr columns) x (defer_events k deferred t)) (cond b (Defers k t ∷ []) [] ++ ys)
-            go true h = release_on (Defers k t) refl refl refl refl (after (choice_by pr columns) x (defer_events k deferred t)) (Tick t) ys (λ y. same_open x _ (defers_same k x) o) h
+            go true h = release_on (Defers k t) refl refl refl refl (after (choice_by pr columns) x (defer_events k deferred t)) (Some t) ys (λ y. same_open x _ (defers_same k x) o) h
             go false h = h
 
       -- ---- d, e
@@ -587,11 +587,11 @@ module _ (pr columns : List ℕ) where
           ((i.copyin ≡ Unchosen) × (copying_out i.copyout ≡ false) × (x.engine ≡ from_now (highest_of c c.jobs.ready)) × (x.rivals ≡ 0))
           ⊎ (Run x i.copyout i.copyin × Decided i.copyin i.copyout × Unended i.copyin × Ahead x s i.copyin)
 
-      chosen_runs : (x : Choice) (c : State) (i : Interval) (q : MaybeTask) → c.table.columns ≡ columns → copying_out i.copyout ≡ false → x.engine ≡ from_now q → x.rivals ≡ 0
+      chosen_runs : (x : Choice) (c : State) (i : Interval) (q : Option ℕ) → c.table.columns ≡ columns → copying_out i.copyout ≡ false → x.engine ≡ from_now q → x.rivals ≡ 0
           → Runs x (choose c t i q).phase
       unfolding choose
-      chosen_runs x c i NoTask e o p z = ((o, p), tt)
-      chosen_runs x c i (Task n) e o p z = (
+      chosen_runs x c i None e o p z = ((o, p), tt)
+      chosen_runs x c i (Some n) e o p z = (
         (o, (t, p, ap (λ (l : List ℕ). later t (copyin_length l n)) e)),
         λ k l m. clash (member k 0) (subst (λ (r : ℕ). member k r ≡ true) z m) (none k),
       )
@@ -620,7 +620,7 @@ module _ (pr columns : List ℕ) where
 
       -- what gives way is held, and where it is under way it does so before its end
       abbrev Early : Choice → ℕ → Type 0
-      Early x n = (copyin_task x.engine ≡ Task n) × ((u : ℕ) → x.engine ≡ Copying n u → Tick t ≡ Tick u → ⊥)
+      Early x n = (copyin_task x.engine ≡ Some n) × ((u : ℕ) → x.engine ≡ Copying n u → Some t ≡ Some u → ⊥)
 
       abbrev Gave : Choice → State → State → Type 0
       Gave x c z = ((n : ℕ) × (giving_events_in c.phase z.phase ≡ GivesWay n ∷ []) × Early x n × Ready (choice_by pr columns x (GivesWay n)) z 0 z.phase) ⊎ (z ≡ c)
@@ -636,14 +636,14 @@ module _ (pr columns : List ℕ) where
           gives_it : (i : Interval) (n fate : ℕ) → HeldFor i.copyin n fate → giving_events_in (Within i) (cancel c i n fate true).phase ≡ GivesWay n ∷ []
           gives_it i n fate h =
               unfold cancel giving_events_in giving_events in
-              ⊎_elim (λ z. ap (λ (c : CopyIn). giving_events (given_way c) (Task n)) z.1) (λ z. ap (λ (c : CopyIn). giving_events (given_way c) (Task n)) z.0) h
+              ⊎_elim (λ z. ap (λ (c : CopyIn). giving_events (given_way c) (Some n)) z.1) (λ z. ap (λ (c : CopyIn). giving_events (given_way c) (Some n)) z.0) h
 
           held_run : (i : Interval) (n fate : ℕ) → HeldFor i.copyin n fate → Ready x c s (Within i) → (copying_out i.copyout ≡ false) × (Early x n)
           held_run i n fate held r =
               ⊎_elim (λ a. ⊎_elim (λ z. absurd (true≢false (ap is_unchosen (sym a.0 ∙ z.1)))) (λ z. absurd (true≢false (ap is_unchosen (sym a.0 ∙ z.0)))) held)
               (λ a. ⊎_elim (λ z. copying z.0 z.1 a.0 a.2) (λ z. loaded z.0 a.0) held) r
             where
-              early : (until b u : ℕ) → until ≡ later b (copyin_length columns n) → eqb until t ≡ false → until ≤ 3000000000 → Copying n (b + copyin_length columns n) ≡ Copying n u → Tick t ≡ Tick u → ⊥
+              early : (until b u : ℕ) → until ≡ later b (copyin_length columns n) → eqb until t ≡ false → until ≤ 3000000000 → Copying n (b + copyin_length columns n) ≡ Copying n u → Some t ≡ Some u → ⊥
               early until b u e f l g z =
                   let same : b + copyin_length columns n ≡ u = cc in
                   let now : t ≡ u = cc in
@@ -688,9 +688,9 @@ module _ (pr columns : List ℕ) where
       unfolding step_d cancel_by cancel
       d_beats c taken e = go c.phase refl
         where
-          stays : (n : ℕ) (q : MaybeTask) → Best c.table.priority (intersection taken c.marked) q → outranks c n q ≡ false → (k : ℕ) → k < 32 → member k (intersection taken c.marked) ≡ true → get_or pr n 0 ≤ get_or pr k 0
-          stays n NoTask b o k l m = clash (member k (intersection taken c.marked)) m (b k l)
-          stays n (Task h) b o k l m =
+          stays : (n : ℕ) (q : Option ℕ) → Best c.table.priority (intersection taken c.marked) q → outranks c n q ≡ false → (k : ℕ) → k < 32 → member k (intersection taken c.marked) ≡ true → get_or pr n 0 ≤ get_or pr k 0
+          stays n None b o k l m = clash (member k (intersection taken c.marked)) m (b k l)
+          stays n (Some h) b o k l m =
               subst (λ (p : List ℕ). get_or p n 0 ≤ get_or p k 0) e (omega (arith, ltb-false (get_or c.table.priority h 0) (get_or c.table.priority n 0) o, b.2 k l m))
 
           highest_is : Best c.table.priority (intersection taken c.marked) (highest_of c (intersection taken c.marked))
@@ -745,7 +745,7 @@ module _ (pr columns : List ℕ) where
           (e_runs x c e (d_stays x c (intersection taken c.marked) c.phase (subst (λ (s : State). BeatsAt (intersection taken c.marked) s.phase) g (d_beats c taken f)) h)))))
           (d_gave x c taken (intersection taken c.marked) h)
         where
-          number : (a b : ℕ) → Task a ≡ Task b → a ≡ b
+          number : (a b : ℕ) → Some a ≡ Some b → a ≡ b
           number a b e = cc
 
           gone : (n : ℕ) → Early x n → T (choice_by pr columns x (GivesWay n)) ys → T x (GivesWay n ∷ ys)
@@ -844,10 +844,10 @@ module _ (pr columns : List ℕ) where
       unfolding cancel
       d_spots k d taken = d_cases (λ x. spots k x.phase ≡ spots k d.phase) d taken refl (λ i n u e s b. rw e)
 
-      choose_spots : (k : ℕ) (d : State) (i : Interval) (q : MaybeTask) → spots k (choose d t i q).phase ≡ spots k (Within i)
+      choose_spots : (k : ℕ) (d : State) (i : Interval) (q : Option ℕ) → spots k (choose d t i q).phase ≡ spots k (Within i)
       unfolding choose
-      choose_spots k d i NoTask = refl
-      choose_spots k d i (Task q) = refl
+      choose_spots k d i None = refl
+      choose_spots k d i (Some q) = refl
 
       e_spots : (k : ℕ) (d : State) → spots k (step_e d t d.phase).phase ≡ spots k d.phase
       e_spots k d = e_cases (λ x. spots k x.phase ≡ spots k d.phase) d t refl (λ i e s u. choose_spots k d i (highest_of d d.jobs.ready) ∙ ap (spots k) (sym e))
@@ -861,10 +861,10 @@ module _ (pr columns : List ℕ) where
           e_spots k (step_d c taken c.phase) ∙ d_spots k c taken ∙ c_spots k b taken b.phase
 
       -- and whether the processor is through with its job
-      choose_rest : (d : State) (i : Interval) (q : MaybeTask) → rest_of (choose d t i q).phase ≡ resting i.processor
+      choose_rest : (d : State) (i : Interval) (q : Option ℕ) → rest_of (choose d t i q).phase ≡ resting i.processor
       unfolding choose
-      choose_rest d i NoTask = refl
-      choose_rest d i (Task q) = refl
+      choose_rest d i None = refl
+      choose_rest d i (Some q) = refl
 
       e_rest : (d : State) → rest_of (step_e d t d.phase).phase ≡ rest_of d.phase
       e_rest d = e_cases (λ x. rest_of x.phase ≡ rest_of d.phase) d t refl (λ i e s u. choose_rest d i (highest_of d d.jobs.ready) ∙ ap rest_of (sym e))
@@ -888,7 +888,7 @@ module _ (pr columns : List ℕ) where
 
       -- ---- an interval that begins
 
-      begins_on : (x : Choice) (r l : MaybeTask) (ys : List Event) → T (choice_by pr columns x (Begins t r l)) ys → T x (Begins t r l ∷ ys)
+      begins_on : (x : Choice) (r l : Option ℕ) (ys : List Event) → T (choice_by pr columns x (Begins t r l)) ys → T x (Begins t r l ∷ ys)
       unfolding Chosen
       begins_on x r l ys h = (((λ n y z. absurd (false≢true y)), (λ n y z. absurd (false≢true y)), (λ y. absurd (false≢true y)), (λ y. absurd (false≢true y)), (λ y. absurd (false≢true y))), h)
 
@@ -987,7 +987,7 @@ module _ (pr columns : List ℕ) where
             ap (λ (o : Origin). o.since) (took_origin k l) ∙ sym (still (member k deferred) (taken_origin k l taken t (x.origins k)))
             ∙ (c_origin k l b t taken deferred (x.origins k) (origins k l)).since_is
           where
-            still : (d : Bool) (o : Origin) → (cond d (record { waits = Tick t; since = o.since }) o).since ≡ o.since
+            still : (d : Bool) (o : Origin) → (cond d (record { waits = Some t; since = o.since }) o).since ≡ o.since
             still true o = refl
             still false o = refl
 
@@ -1091,7 +1091,7 @@ module _ (pr columns : List ℕ) where
             (λ y a runs. f_chosen y (union B.jobs.pending taken) (fresh_stage E) E.phase _ refl (readies_e y a) runs (a.works ∙ held_works ∙ v ∙ ap not (sym (rest_e d set)))
             (λ u i r m v. g_chosen u F (held_at d t set) F.phase starts refl (ap (λ (z : Table). z.priority) table_f ∙ priority) (ap (λ (z : Table). z.columns) table_f ∙ lengths) parted_f
             (subst (λ (p : ℕ). Readies u p F.phase) (sym pending_f) r) m (λ j l. ap (λ (o : Origin). o.since) (i j ∙ a.origins j) ∙ (held_is j l).since_is ∙ ap (λ (z : Frame). get_or z.release j 0) (sym frame_f)) v
-            (λ z o r m v. by_starts (T z) t (λ n es q. on (Starts n t) refl refl refl refl refl z (Tick t) es q) F.phase G.phase ys
+            (λ z o r m v. by_starts (T z) t (λ n es q. on (Starts n t) refl refl refl refl refl z (Some t) es q) F.phase G.phase ys
             (k z (record {
               readies = subst (λ (p : ℕ). Readies z p G.phase) (pending_f ∙ sym (pending_g d t set)) r;
               origins = λ j l. rw (release_g d t set, waiting_g d t set) (subst (λ (u : Origin). OriginIs j u (at_c d t set).jobs.release (at_c d t set).waiting) (sym (o j ∙ i j ∙ a.origins j)) (held_is j l));
@@ -1138,7 +1138,7 @@ module _ (pr columns : List ℕ) where
             (λ z i r m v. k z (subst (λ (p : ℕ). Readies z p B.phase) (sym (ap (λ (z : Frame). z.pending) (b_frame a t))) r)
             (λ j s. rw (release_b d t, waiting_b d t) (subst (λ (o : Origin). OriginIs j o d.jobs.release d.waiting) (sym (i j ∙ l j)) (agrees.origins j s))) m v))
 
-        comes_on : (x : Choice) (w : Due) (es : List Event) → Rest x w → InTime x t → T (choice_by pr columns x (Comes t)) es → Chosen x w (Comes t ∷ es)
+        comes_on : (x : Choice) (w : Option ℕ) (es : List Event) → Rest x w → InTime x t → T (choice_by pr columns x (Comes t)) es → Chosen x w (Comes t ∷ es)
         unfolding Chosen
         comes_on x w es r f h = (((λ n y z. absurd (false≢true y)), (λ n y. absurd (false≢true y)), (λ y. absurd (false≢true y)), (λ y. (r, f)), (λ y. absurd (false≢true y))), h)
 
@@ -1146,7 +1146,7 @@ module _ (pr columns : List ℕ) where
         in_time : (x : Choice) (p : Phase) → Times Plain p → Times (λ u. t ≤ u) p → Runs x p → InTime x t
         in_time = under_way (λ u. t ≤ u)
 
-        happens_chosen : (x : Choice) (w : Due) (ys : List Event) → Times Plain d.phase → Times (λ u. t ≤ u) d.phase → DecidedAt d.phase → Rest x w → Agrees x d → ((y : Choice) → Agrees y G → T y ys) → Chosen x w (happens d t set ++ ys)
+        happens_chosen : (x : Choice) (w : Option ℕ) (ys : List Event) → Times Plain d.phase → Times (λ u. t ≤ u) d.phase → DecidedAt d.phase → Rest x w → Agrees x d → ((y : Choice) → Agrees y G → T y ys) → Chosen x w (happens d t set ++ ys)
         happens_chosen x w ys times due decided rest agrees k =
             let later : List Event = take_events 32 (taken_at d t set) d.marked t ++ (tail_of d t set ++ ys) in
             rw (happens_parts d t set ys, front_parts d t later)
@@ -1158,33 +1158,33 @@ module _ (pr columns : List ℕ) where
 
 module _ (table : Table) (marks : ℕ) (fair : Fair table marks) where
   -- what an instant finds when it comes
-  finds : (d : State) (x : Choice) (w : Due) → Good table marks fair d → ((u : ℕ) → w ≡ Tick u → u ≡ last d.clock) → Agrees table.priority table.columns x d → Rest table.priority table.columns x w
+  finds : (d : State) (x : Choice) (w : Option ℕ) → Good table marks fair d → ((u : ℕ) → w ≡ Some u → u ≡ last d.clock) → Agrees table.priority table.columns x d → Rest table.priority table.columns x w
   finds d x w g at a =
       rested table.priority table.columns x w (last d.clock) at d.phase (plain table marks fair d g) (sooner d.phase g.times) a.runs a.working g.settled.open_yet
     where
       sooner : (p : Phase) → Times (Until (last d.clock) (mass d) (debt d)) p → Times (λ u. last d.clock < u) p
       sooner p h = times_map (Until (last d.clock) (mass d) (debt d)) (λ u. last d.clock < u) (λ u z. z.after) p h
 
-  chosen : (cs : List Call) (d : State) → Good table marks fair d → (x : Choice) (w : Due) → ((u : ℕ) → w ≡ Tick u → u ≡ last d.clock) → Agrees table.priority table.columns x d
+  chosen : (cs : List Call) (d : State) → Good table marks fair d → (x : Choice) (w : Option ℕ) → ((u : ℕ) → w ≡ Some u → u ≡ last d.clock) → Agrees table.priority table.columns x d
       → Chosen table.priority table.columns x w (history d cs)
   chosen =
-      walk (λ d h. Good table marks fair d → (x : Choice) (w : Due) → ((u : ℕ) → w ≡ Tick u → u ≡ last d.clock) → Agrees table.priority table.columns x d → Chosen table.priority table.columns x w h)
+      walk (λ d h. Good table marks fair d → (x : Choice) (w : Option ℕ) → ((u : ℕ) → w ≡ Some u → u ≡ last d.clock) → Agrees table.priority table.columns x d → Chosen table.priority table.columns x w h)
       (λ d g x w at a. unfold Chosen in finds d x w g at a)
       (λ d t set cs e k g x w at a.
       let s : Served-at d t set = served_at d t set e in
       happens_chosen table.priority table.columns t table.present fair.present d set (subst (λ (y : Table). Sub set y.present) g.table_is s.known)
       (ap (λ (y : Table). y.priority) g.table_is) (ap (λ (y : Table). y.columns) g.table_is) g.parted x w (history (at_g d t set) cs) (plain table marks fair d g) s.due g.settled.decided
       (finds d x w g at a) a
-      (λ y b. k (good_next table marks fair d t set g s) y (Tick t) (λ u e. let z : u ≡ t = cc in z ∙ sym (ap last (clock_g d t set))) b))
+      (λ y b. k (good_next table marks fair d t set g s) y (Some t) (λ u e. let z : u ≡ t = cc in z ∙ sym (ap last (clock_g d t set))) b))
       (λ d m e h k g x w at a. k (good_quiet table marks fair d m e g) x w at (record { readies = a.readies; origins = a.origins; runs = a.runs; working = a.working }))
 
   -- every list of calls from the state that opening returned
   pub all_copies : (cs : List Call) → Copies table.priority table.columns (history (opened table marks) cs)
   all_copies cs =
       copies table.priority table.columns (history (opened table marks) cs)
-      (chosen cs (opened table marks) (good_opened table marks fair) no_choice Never (λ u e. absurd (never u e)) first)
+      (chosen cs (opened table marks) (good_opened table marks fair) no_choice None (λ u e. absurd (never u e)) first)
     where
-      never : (t : ℕ) → Never ≡ Tick t → ⊥
+      never : (t : ℕ) → None ≡ Some t → ⊥
       never t e = let z : ◌≡◌ {A = ℕ} 0 1 = cc in omega arith
 
       first : Agrees table.priority table.columns no_choice (opened table marks)

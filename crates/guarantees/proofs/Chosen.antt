@@ -1,6 +1,6 @@
 -- First come, first served: what the engine chooses goes no later than any job that is ready.
 use Rattle.std.proofs.Common.{◌≡◌, ◌∷◌, ◌++◌, ◌<◌}
-use Rattle.guarantees.specs.Types.{refl, sym, ap, ◌∙◌, subst, true, List, [], ℕ, Table, MaybeTask, NoTask, Task, Interval, State, Call, Instant}
+use Rattle.guarantees.specs.Types.{refl, sym, ap, ◌∙◌, subst, true, List, [], ℕ, Table, Option, None, Some, Interval, State, Call, Instant}
 use native.Mathlib.Omega.{arith}
 use borrow.Author.Tests.{eq-eqb}
 use lib.ListN.{get_or}
@@ -19,7 +19,7 @@ use Rattle.guarantees.proofs.Frames.{Frame, at_c, b_frame, d_frame, frame_e, rel
 use Rattle.guarantees.proofs.Walk.{after_append, served}
 use Rattle.guarantees.proofs.Origins.{opened_origin, since_after}
 
-none-task {ℓ} : {A : Type ℓ} (n : ℕ) → NoTask ≡ Task n → A
+none-task {ℓ} : {A : Type ℓ} (n : ℕ) → None ≡ Some n → A
 none-task n e = absurd (let z : ◌≡◌ {A = ℕ} 0 1 = cc in omega arith)
 
 -- ---- the choice, where the times are the state's
@@ -28,26 +28,26 @@ module _ (times : ℕ → ℕ) where
   abbrev TimesOf : State → Type 0
   TimesOf d = (k : ℕ) → k < 32 → times k ≡ get_or d.jobs.release k 0
 
-  picks : (d : State) (q n m : ℕ) → highest_of d d.jobs.ready ≡ Task q → TimesOf d → Task q ≡ Task n → m < 32 → member m d.jobs.ready ≡ true → NoLater d times n m
+  picks : (d : State) (q n m : ℕ) → highest_of d d.jobs.ready ≡ Some q → TimesOf d → Some q ≡ Some n → m < 32 → member m d.jobs.ready ≡ true → NoLater d times n m
   picks d q n m e h v l r =
-      let z : highest_of d d.jobs.ready ≡ Task n = e ∙ v in
+      let z : highest_of d d.jobs.ready ≡ Some n = e ∙ v in
       let s : n < 32 = (subst (Best d.table.priority d.jobs.ready) z (best_of d d.jobs.ready)).0 in
       rw (h n s, h m l) (first d.table.priority (λ k. get_or d.jobs.release k 0) d.jobs.ready n z m l r)
 
-  choice : (d : State) (t : ℕ) (i : Interval) (q : MaybeTask) → highest_of d d.jobs.ready ≡ q → TimesOf d → (n m : ℕ)
-      → (values (choose d t i q)).copyin ≡ Task n → m < 32 → member m d.jobs.ready ≡ true → NoLater d times n m
+  choice : (d : State) (t : ℕ) (i : Interval) (q : Option ℕ) → highest_of d d.jobs.ready ≡ q → TimesOf d → (n m : ℕ)
+      → (values (choose d t i q)).copyin ≡ Some n → m < 32 → member m d.jobs.ready ≡ true → NoLater d times n m
   unfolding choose
-  choice d t i NoTask e h n m v l r = none-task n v
-  choice d t i (Task q) e h n m v l r = picks d q n m e h v l r
+  choice d t i None e h n m v l r = none-task n v
+  choice d t i (Some q) e h n m v l r = picks d q n m e h v l r
 
   e_chooses : (d : State) (t : ℕ) → TimesOf d → Chooses d (step_e d t d.phase) times
   e_chooses d t h n m before after l r =
-      e_cases (λ x. (values x).copyin ≡ Task n → NoLater d times n m) d t (λ w. none-task n (sym before ∙ w))
+      e_cases (λ x. (values x).copyin ≡ Some n → NoLater d times n m) d t (λ w. none-task n (sym before ∙ w))
       (λ i e s u w. choice d t i (highest_of d d.jobs.ready) refl h n m w l r) after
 
   g_chooses : (f : State) (t taken : ℕ) → TimesOf f → Chooses f (step_g f t taken f.phase) times
   g_chooses f t taken h n m before after l r =
-      g_cases (λ x. (values x).copyin ≡ Task n → NoLater f times n m) f t taken (λ i e w. none-task n (sym before ∙ w)) (λ next outgoing e w v. none-task n (sym before ∙ v))
+      g_cases (λ x. (values x).copyin ≡ Some n → NoLater f times n m) f t taken (λ i e w. none-task n (sym before ∙ w)) (λ next outgoing e w v. none-task n (sym before ∙ v))
       (λ next outgoing e w v. unfold begin in e_chooses (begin f t taken next outgoing) t (unfold begin in h) n m (unfold begin in refl) v l (unfold begin in r)) after
 
 -- ---- along the calls

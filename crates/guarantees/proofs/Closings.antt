@@ -1,6 +1,6 @@
 -- At most one interval closes at an instant, and each job that completes has its entry.
 use Rattle.std.proofs.Common.{◌≡◌, ◌∷◌, ◌++◌, ◌⊎◌}
-use Rattle.guarantees.specs.Types.{refl, sym, ap, ◌∙◌, Bool, true, false, List, [], inl, inr, ⊎_elim, ℕ, Interval, Phase, Between, Within, State, Stage, Done, NoJob, Job, Closed, NoInterval, Span, Occurred, IntervalEntry, Call}
+use Rattle.guarantees.specs.Types.{refl, sym, ap, ◌∙◌, Bool, true, false, List, [], inl, inr, ⊎_elim, ℕ, Interval, Phase, Between, Within, State, Stage, Option, JobEntry, None, Some, Closed, NoInterval, Span, Occurred, IntervalEntry, Call}
 use native.Mathlib.Omega.{arith}
 use Rattle.rules.specs.With.{at_clock}
 use Rattle.rules.specs.Instant.{step_a, step_b, close, close_stage, closing, occurred, over, copyout_task, copyout_at, at_a, at_b, at_e, at_f, at_g, taken_at, deferred_at, fresh_stage}
@@ -73,10 +73,10 @@ pub done_so : (d : State) (t set : ℕ) → (occurred d t set).done ≡ (at_a d 
 unfolding occurred at_b
 done_so d t set = b_done (at_a d t) t (at_a d t).state.phase
 
-completes_so : (o : Done) (ys : List Event) → completions (completion_events o ++ ys) ≡ completed_in o ++ completions ys
+completes_so : (o : Option JobEntry) (ys : List Event) → completions (completion_events o ++ ys) ≡ completed_in o ++ completions ys
 unfolding completion_events each
-completes_so NoJob ys = refl
-completes_so (Job e) ys = refl
+completes_so None ys = refl
+completes_so (Some e) ys = refl
 
 happens_completions : (d : State) (t set : ℕ) (h : List Event) → completions (happens d t set ++ h) ≡ completed_in (occurred d t set).done ++ completions h
 happens_completions d t set h =
@@ -94,7 +94,7 @@ happens_completions d t set h =
     ∙ skip_defers (giving_events_in (at_b d t).state.phase (at_e d t set).phase ++ (end_events t (at_e d t set).phase (at_f d t set).state.phase ++ (begins ++ (starts ++ h))))
     ∙ skip_gives (at_b d t).state.phase (at_e d t set).phase (end_events t (at_e d t set).phase (at_f d t set).state.phase ++ (begins ++ (starts ++ h)))
     ∙ skip_ends (at_e d t set).phase (at_f d t set).state.phase (begins ++ (starts ++ h)) ∙ skip_begins (at_f d t set).state.phase (at_g d t set).phase)
-    ∙ ap (λ (o : Done). completed_in o ++ completions h) (sym (done_so d t set))
+    ∙ ap (λ (o : Option JobEntry). completed_in o ++ completions h) (sym (done_so d t set))
   where
     front : (zs : List Event) → completions (Comes t ∷ (processor_events_in t d.phase ++ (finish_events_in t d.phase ++ zs))) ≡ completions zs
     front zs =

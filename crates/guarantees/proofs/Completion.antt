@@ -1,7 +1,7 @@
 -- Empty sets at the due times come to an end, and then nothing is pending and nothing waits: each of them brings some phase to its end, nothing is
 -- due only where nothing is pending, and what waits does so behind a pending job.
 use Rattle.std.proofs.Common.{◌≡◌, ◌∷◌, ◌++◌, ◌+◌, ◌≤◌, ◌<◌}
-use Rattle.guarantees.specs.Types.{refl, sym, ap, ◌∙◌, subst, Bool, true, false, List, [], ℕ, zero, suc, Table, Clock, Unset, At, Processor, Idle, CopyingIn, Executing, Finished, CopyOut, NoCopyOut, CopyingOut, CopiedOut, CopyIn, Unchosen, NoneChosen, Copying, Loaded, Cancelled, Next, NoneNext, Outgoing, NoneOutgoing, Phase, Between, Within, State, Due, Never, Tick, Call, Instant}
+use Rattle.guarantees.specs.Types.{refl, sym, ap, ◌∙◌, subst, Bool, true, false, List, [], ℕ, zero, suc, Table, Clock, Unset, At, Processor, Idle, CopyingIn, Executing, Finished, CopyOut, NoCopyOut, CopyingOut, CopiedOut, CopyIn, Unchosen, NoneChosen, Copying, Loaded, Cancelled, Next, NoneNext, Outgoing, NoneOutgoing, Phase, Between, Within, State, Option, None, Some, Call, Instant}
 use native.Mathlib.Omega.{arith}
 use borrow.Author.Tests.{eq-eqb, le-ltb, lt-leb}
 use lib.Dec.{eqb}
@@ -23,31 +23,31 @@ use Rattle.guarantees.proofs.Totals.{takes_of, completes_of}
 
 -- ---- nothing is due only where nothing is pending
 
-processor_rests : (q : Processor) → processor_due q ≡ Never → resting q ≡ true
+processor_rests : (q : Processor) → processor_due q ≡ None → resting q ≡ true
 processor_rests Idle h = refl
 processor_rests (CopyingIn n until) h = absurd (let z : ◌≡◌ {A = ℕ} 0 1 = cc in omega arith)
 processor_rests (Executing n start until) h = absurd (let z : ◌≡◌ {A = ℕ} 0 1 = cc in omega arith)
 processor_rests (Finished n start) h = refl
 
-copyout_rests : (o : CopyOut) → copyout_due o ≡ Never → copying_out o ≡ false
+copyout_rests : (o : CopyOut) → copyout_due o ≡ None → copying_out o ≡ false
 copyout_rests NoCopyOut h = refl
 copyout_rests (CopyingOut n start until) h = absurd (let z : ◌≡◌ {A = ℕ} 0 1 = cc in omega arith)
 copyout_rests (CopiedOut n) h = refl
 
-copyin_rests : (c : CopyIn) (o : CopyOut) → copyin_due c ≡ Never → Decided c o → copying_out o ≡ false → settled c ≡ true
+copyin_rests : (c : CopyIn) (o : CopyOut) → copyin_due c ≡ None → Decided c o → copying_out o ≡ false → settled c ≡ true
 copyin_rests Unchosen o h e u = clash (copying_out o) e u
 copyin_rests NoneChosen o h e u = refl
 copyin_rests (Copying n until) o h e u = absurd (let z : ◌≡◌ {A = ℕ} 0 1 = cc in omega arith)
 copyin_rests (Loaded n) o h e u = refl
 copyin_rests (Cancelled n fate) o h e u = refl
 
-at_rest : (p : Phase) → due p ≡ Never → DecidedAt p → OpenAt p → (next : Next) × (outgoing : Outgoing) × (p ≡ Between next outgoing)
+at_rest : (p : Phase) → due p ≡ None → DecidedAt p → OpenAt p → (next : Next) × (outgoing : Outgoing) × (p ≡ Between next outgoing)
 unfolding due
 at_rest (Between next outgoing) h e o = (next, outgoing, refl)
 at_rest (Within i) h e o =
-    let x : (processor_due i.processor ≡ Never) × (sooner (copyout_due i.copyout) (copyin_due i.copyin) ≡ Never) =
+    let x : (processor_due i.processor ≡ None) × (sooner (copyout_due i.copyout) (copyin_due i.copyin) ≡ None) =
     sooner_never (processor_due i.processor) (sooner (copyout_due i.copyout) (copyin_due i.copyin)) h in
-    let y : (copyout_due i.copyout ≡ Never) × (copyin_due i.copyin ≡ Never) = sooner_never (copyout_due i.copyout) (copyin_due i.copyin) x.1 in
+    let y : (copyout_due i.copyout ≡ None) × (copyin_due i.copyin ≡ None) = sooner_never (copyout_due i.copyout) (copyin_due i.copyin) x.1 in
     let u : copying_out i.copyout ≡ false = copyout_rests i.copyout y.0 in
     clash (over i) (rw (processor_rests i.processor x.0, u, copyin_rests i.copyin i.copyout y.1 e u)) o
 
@@ -66,7 +66,7 @@ module _ (table : Table) (marks : ℕ) (fair : Fair table marks) where
   abbrev G : State → Type 0
   G d = Good table marks fair d
 
-  pub rests : (d : State) → G d → due d.phase ≡ Never → AtRest d
+  pub rests : (d : State) → G d → due d.phase ≡ None → AtRest d
   rests d g h = go d.phase refl (at_rest d.phase h g.settled.decided g.settled.open_yet)
     where
       go : (p : Phase) → d.phase ≡ p → (next : Next) × (outgoing : Outgoing) × (p ≡ Between next outgoing) → AtRest d
@@ -89,7 +89,7 @@ module _ (table : Table) (marks : ℕ) (fair : Fair table marks) where
 
   -- ---- the instants at due times
 
-  pub due_times : (d : State) (t : ℕ) → G d → due d.phase ≡ Tick t → Until (last d.clock) (mass d) (debt d) t
+  pub due_times : (d : State) (t : ℕ) → G d → due d.phase ≡ Some t → Until (last d.clock) (mass d) (debt d) t
   due_times d t g h = drop_one (Until (last d.clock) (mass d) (debt d)) t d.phase g.times (due_drop t d.phase h)
 
   pub not_late : (c : Clock) (t : ℕ) → last c < t → not_after c t ≡ false
@@ -102,42 +102,42 @@ module _ (table : Table) (marks : ℕ) (fair : Fair table marks) where
       (empty (difference 0 present) (difference_small 0 present)
       (λ k l. by-test (member k (difference 0 present)) (λ x. clash (member k 0) (difference_left 0 present k x) (none k)) (λ x. x)))
 
-  due_served : (d : State) (t : ℕ) → G d → due d.phase ≡ Tick t → eqb (refusal d t 0) 0 ≡ true
+  due_served : (d : State) (t : ℕ) → G d → due d.phase ≡ Some t → eqb (refusal d t 0) 0 ≡ true
   unfolding refusal unknown
   due_served d t g h =
       rw (none_unknown d.table.present, not_late d.clock t (due_times d t g h).after, h, le-ltb t t (omega arith))
 
   -- one more empty set, at the due time
-  one_more : (d : State) (t : ℕ) → G d → due d.phase ≡ Tick t → (rest : List Call) × EmptySets (at_g d t 0) rest → (rest : List Call) × EmptySets d rest
+  one_more : (d : State) (t : ℕ) → G d → due d.phase ≡ Some t → (rest : List Call) × EmptySets (at_g d t 0) rest → (rest : List Call) × EmptySets d rest
   unfolding EmptySets
   one_more d t g e h = (Instant t 0 ∷ h.0, ((t, e, refl), subst (λ (x : State). EmptySets x h.0) (sym (served d t 0 (due_served d t g e))) h.1))
 
-  served_due : (d : State) (t : ℕ) → G d → due d.phase ≡ Tick t → G (at_g d t 0)
+  served_due : (d : State) (t : ℕ) → G d → due d.phase ≡ Some t → G (at_g d t 0)
   served_due d t g e = good_next table marks fair d t 0 g (served_at d t 0 (due_served d t g e))
 
   -- an instant at a due time brings the end nearer
-  nearer : (d : State) (t : ℕ) → G d → due d.phase ≡ Tick t → mass (at_g d t 0) + debt d + 1 ≤ mass d + debt (at_g d t 0)
+  nearer : (d : State) (t : ℕ) → G d → due d.phase ≡ Some t → mass (at_g d t 0) + debt d + 1 ≤ mass d + debt (at_g d t 0)
   nearer d t g e = omega (arith, sinks d t 0 g.sound, due_drop t d.phase e, size_none)
 
-  none_due : (d : State) → due d.phase ≡ Never → (rest : List Call) × EmptySets d rest
+  none_due : (d : State) → due d.phase ≡ None → (rest : List Call) × EmptySets d rest
   unfolding EmptySets
   none_due d e = ([], e)
 
   pub drains : (m : ℕ) (d : State) → G d → mass d ≤ m + debt d → (rest : List Call) × EmptySets d rest
   drains zero d g h = go (due d.phase) refl
     where
-      go : (x : Due) → due d.phase ≡ x → (rest : List Call) × EmptySets d rest
-      go Never e = none_due d e
-      go (Tick t) e = absurd (omega (arith, nearer d t g e, debt_less (at_g d t 0) (served_due d t g e).sound))
+      go : (x : Option ℕ) → due d.phase ≡ x → (rest : List Call) × EmptySets d rest
+      go None e = none_due d e
+      go (Some t) e = absurd (omega (arith, nearer d t g e, debt_less (at_g d t 0) (served_due d t g e).sound))
   drains (suc m) d g h = go (due d.phase) refl (λ t e. drains m (at_g d t 0) (served_due d t g e) (omega (arith, nearer d t g e)))
     where
-      go : (x : Due) → due d.phase ≡ x → ((t : ℕ) → due d.phase ≡ Tick t → (rest : List Call) × EmptySets (at_g d t 0) rest) → (rest : List Call) × EmptySets d rest
-      go Never e f = none_due d e
-      go (Tick t) e f = one_more d t g e (f t e)
+      go : (x : Option ℕ) → due d.phase ≡ x → ((t : ℕ) → due d.phase ≡ Some t → (rest : List Call) × EmptySets (at_g d t 0) rest) → (rest : List Call) × EmptySets d rest
+      go None e f = none_due d e
+      go (Some t) e f = one_more d t g e (f t e)
 
   -- and what they leave
   pub record Drained (d : State) (rest : List Call) : Type 0 where
-    pub never : due (after_calls d rest).phase ≡ Never
+    pub never : due (after_calls d rest).phase ≡ None
     -- what waited is taken or waits still, and nothing else is taken
     pub takes : total is_take (history d rest) + size (after_calls d rest).waiting.tasks ≡ size d.waiting.tasks
 
@@ -168,8 +168,8 @@ module _ (table : Table) (marks : ℕ) (fair : Fair table marks) where
   drained [] d g h = unfold after_calls history total in record { never = h; takes = omega arith }
   drained (c ∷ rest) d g h = go h.0.0 h.0.1 h.0.2 (λ t e x. drained rest (at_g d t 0) (served_due d t g e) x)
     where
-      go : (t : ℕ) → due d.phase ≡ Tick t → c ≡ Instant t 0
-          → ((t : ℕ) → due d.phase ≡ Tick t → EmptySets (at_g d t 0) rest → Drained (at_g d t 0) rest) → Drained d (c ∷ rest)
+      go : (t : ℕ) → due d.phase ≡ Some t → c ≡ Instant t 0
+          → ((t : ℕ) → due d.phase ≡ Some t → EmptySets (at_g d t 0) rest → Drained (at_g d t 0) rest) → Drained d (c ∷ rest)
       go t e x k =
           let s : eqb (refusal d t 0) 0 ≡ true = due_served d t g e in
           subst (λ (c : Call). Drained d (c ∷ rest)) (sym x)

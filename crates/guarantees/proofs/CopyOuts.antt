@@ -1,6 +1,6 @@
 -- The copy-outs: the engine of a state, step by step and along the calls.
 use Rattle.std.proofs.Common.{◌≡◌, ◌∷◌, ◌++◌, ◌+◌, ◌^◌, ◌≤◌, ◌<◌}
-use Rattle.guarantees.specs.Types.{refl, sym, ap, ◌∙◌, subst, Bool, true, false, cond, true≢false, false≢true, List, ℕ, Table, Jobs, Clock, MaybeTask, NoTask, Task, Processor, Idle, CopyingIn, Executing, Finished, CopyOut, NoCopyOut, CopyingOut, CopiedOut, Interval, Next, Outgoing, NoneOutgoing, AwaitsCopyOut, Phase, Between, Within, State, NoJob, Job, Stage, Call}
+use Rattle.guarantees.specs.Types.{refl, sym, ap, ◌∙◌, subst, Bool, true, false, cond, true≢false, false≢true, List, ℕ, Table, Jobs, Clock, Option, None, Some, Processor, Idle, CopyingIn, Executing, Finished, CopyOut, NoCopyOut, CopyingOut, CopiedOut, Interval, Next, Outgoing, NoneOutgoing, AwaitsCopyOut, Phase, Between, Within, State, Stage, Call}
 use native.Mathlib.Omega.{arith}
 use borrow.Author.Tests.{eqb-true, eqb-false, ne_eqb}
 use lib.Dec.{eqb}
@@ -31,7 +31,7 @@ use Rattle.guarantees.specs.States.{copyout_known}
 abbrev pub Plain : ℕ → Type 0
 Plain u = u ≤ 3000000000
 
-abbrev engine_in : MaybeTask → CopyOut → Engine
+abbrev engine_in : Option ℕ → CopyOut → Engine
 engine_in r NoCopyOut = Running r
 engine_in r (CopyingOut n start until) = Busy r n until
 engine_in r (CopiedOut n) = Running r
@@ -46,9 +46,9 @@ engine_of t (Between next outgoing) = engine_left t outgoing
 engine_of t (Within i) = engine_in (processor_task i.processor) i.copyout
 
 -- no task is executed and copied out in one interval
-abbrev ApartIn : MaybeTask → CopyOut → Type 0
+abbrev ApartIn : Option ℕ → CopyOut → Type 0
 ApartIn r NoCopyOut = Unit {0}
-ApartIn r (CopyingOut n start until) = Apart r (Task n)
+ApartIn r (CopyingOut n start until) = Apart r (Some n)
 ApartIn r (CopiedOut n) = Unit {0}
 
 abbrev ApartAt : Phase → Type 0
@@ -86,7 +86,7 @@ apart_in present tasks d i q (CopyingOut m start until) e f h = go q (at_m q e)
         (apart_bits (eqb m n) (eqb m m) (member m d.jobs.pending) (bit (member m d.jobs.ready) + copyin_bit m i.copyin) x (same_task m)) (sym y))
 
     go : (q : Processor) → bit (member m d.jobs.pending) ≡ bit (member m d.jobs.ready) + copyin_bit m i.copyin + processor_bit m q + bit (eqb m m)
-        → Apart (processor_task q) (Task m)
+        → Apart (processor_task q) (Some m)
     go Idle x = tt
     go (CopyingIn n u) x = other n x
     go (Executing n s u) x = other n x
@@ -107,10 +107,10 @@ d_engine : (d : State) (t taken : ℕ) → engine_of t (step_d d taken d.phase).
 unfolding cancel
 d_engine d t taken = d_cases (λ x. engine_of t x.phase ≡ engine_of t d.phase) d taken refl (λ i n u e s b. rw e)
 
-choose_engine : (d : State) (t x : ℕ) (i : Interval) (q : MaybeTask) → engine_of x (choose d t i q).phase ≡ engine_of x (Within i)
+choose_engine : (d : State) (t x : ℕ) (i : Interval) (q : Option ℕ) → engine_of x (choose d t i q).phase ≡ engine_of x (Within i)
 unfolding choose
-choose_engine d t x i NoTask = refl
-choose_engine d t x i (Task q) = refl
+choose_engine d t x i None = refl
+choose_engine d t x i (Some q) = refl
 
 e_engine : (d : State) (t : ℕ) → engine_of t (step_e d t d.phase).phase ≡ engine_of t d.phase
 e_engine d t = e_cases (λ x. engine_of t x.phase ≡ engine_of t d.phase) d t refl (λ i e s u. choose_engine d t t i (highest_of d d.jobs.ready) ∙ rw e)
@@ -127,14 +127,14 @@ engine_e d t set =
 
 module _ (columns : List ℕ) (t : ℕ) where
   -- a
-  completes_leaving : (j : Jobs) (r : MaybeTask) (o : CopyOut) (ys : List Event) → Leaving columns t (engine_in r (copyout_at t o)) ys
+  completes_leaving : (j : Jobs) (r : Option ℕ) (o : CopyOut) (ys : List Event) → Leaving columns t (engine_in r (copyout_at t o)) ys
       → Leaving columns t (engine_in r o) (completion_events (completed j t o) ++ ys)
   unfolding completion_events completed copyout_at Leaving
   completes_leaving j r NoCopyOut ys h = h
   completes_leaving j r (CopyingOut n start until) ys h = go (eqb until t) refl h
     where
       go : (b : Bool) → eqb until t ≡ b → Leaving columns t (engine_in r (cond b (CopiedOut n) (CopyingOut n start until))) ys
-          → Leaving columns t (Busy r n until) (completion_events (cond b (Job (job_entry j n start t)) NoJob) ++ ys)
+          → Leaving columns t (Busy r n until) (completion_events (cond b (Some (job_entry j n start t)) None) ++ ys)
       go true e h = ((refl, sym (eqb-true until t e), refl), h)
       go false e h = h
   completes_leaving j r (CopiedOut n) ys h = h
@@ -145,7 +145,7 @@ module _ (columns : List ℕ) (t : ℕ) where
   a_leaving d (Between next outgoing) ys e h = subst (λ (p : Phase). Leaving columns t (engine_of t p) ys) e h
   a_leaving d (Within i) ys e h =
       completes_leaving d.jobs (processor_task i.processor) i.copyout ys
-      (subst (λ (r : MaybeTask). Leaving columns t (engine_in r (copyout_at t i.copyout)) ys) (processor_task_same d.table t i.processor) h)
+      (subst (λ (r : Option ℕ). Leaving columns t (engine_in r (copyout_at t i.copyout)) ys) (processor_task_same d.table t i.processor) h)
 
   -- b, f
   leaves_owed : (q : Processor) → resting q ≡ true → engine_left t (awaiting_copyout q) ≡ owes t (processor_task q)
@@ -154,7 +154,7 @@ module _ (columns : List ℕ) (t : ℕ) where
   leaves_owed (Executing n start until) h = absurd (false≢true h)
   leaves_owed (Finished n start) h = refl
 
-  close_leaving : (r : MaybeTask) (o : CopyOut) (ys : List Event) → copying_out o ≡ false → Leaving columns t (owes t r) ys → Leaving columns t (engine_in r o) (Ends t ∷ ys)
+  close_leaving : (r : Option ℕ) (o : CopyOut) (ys : List Event) → copying_out o ≡ false → Leaving columns t (owes t r) ys → Leaving columns t (engine_in r o) (Ends t ∷ ys)
   unfolding Leaving
   close_leaving r NoCopyOut ys u h = (tt, h)
   close_leaving r (CopyingOut n start until) ys u h = absurd (true≢false u)
@@ -182,21 +182,21 @@ module _ (columns : List ℕ) (t : ℕ) where
   Both q o (Between next outgoing) = ⊥
   Both q o (Within j) = (j.processor ≡ q) × (j.copyout ≡ o)
 
-  choose_both : (d : State) (i : Interval) (q : Processor) (o : CopyOut) (r : MaybeTask) → Both q o (Within i) → Both q o (choose d t i r).phase
+  choose_both : (d : State) (i : Interval) (q : Processor) (o : CopyOut) (r : Option ℕ) → Both q o (Within i) → Both q o (choose d t i r).phase
   unfolding choose
-  choose_both d i q o NoTask h = h
-  choose_both d i q o (Task r) h = h
+  choose_both d i q o None h = h
+  choose_both d i q o (Some r) h = h
 
   pub begun_both : (d : State) (q : Processor) (o : CopyOut) → Both q o d.phase → Both q o (step_e d t d.phase).phase
   begun_both d q o h =
       e_cases (λ x. Both q o x.phase) d t h (λ i e s u. choose_both d i q o (highest_of d d.jobs.ready) (subst (Both q o) e h))
 
-  none_apart : (r : MaybeTask) → Apart r NoTask
-  none_apart NoTask = tt
-  none_apart (Task n) = tt
+  none_apart : (r : Option ℕ) → Apart r None
+  none_apart None = tt
+  none_apart (Some n) = tt
 
   -- the copy-out in an interval that begins now
-  out_leaving : (table : Table) (r : MaybeTask) (outgoing : Outgoing) (ys : List Event) → table.columns ≡ columns → copyout_times Plain (begin_copyout table t outgoing)
+  out_leaving : (table : Table) (r : Option ℕ) (outgoing : Outgoing) (ys : List Event) → table.columns ≡ columns → copyout_times Plain (begin_copyout table t outgoing)
       → ApartIn r (begin_copyout table t outgoing) → Leaving columns t (engine_in r (begin_copyout table t outgoing)) ys
       → Leaving columns t (engine_left t outgoing) (Begins t r (copyout_task (begin_copyout table t outgoing)) ∷ ys)
   unfolding Leaving

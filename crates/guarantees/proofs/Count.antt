@@ -2,7 +2,7 @@
 -- for its copy-out, and then 0; a cancelled copy-in, whose job is ready again, owes 1, which the job that is promoted pays. Every interval
 -- that begins takes a weight of 1 at least. Beside it a mass falls at every phase's end, so that the empty sets come to an end.
 use Rattle.std.proofs.Common.{◌≡◌, ◌+◌, ◌*◌, ◌^◌, ◌≤◌, ◌<◌}
-use Rattle.guarantees.specs.Types.{refl, sym, ap, subst, Bool, true, false, cond, false≢true, ⊎_elim, List, ℕ, Table, MaybeTask, NoTask, Task, Processor, Idle, CopyingIn, Executing, Finished, CopyOut, NoCopyOut, CopyingOut, CopiedOut, CopyIn, Unchosen, NoneChosen, Copying, Loaded, Cancelled, Interval, Next, NoneNext, LoadedNext, PromotedNext, Outgoing, NoneOutgoing, AwaitsCopyOut, Phase, Between, Within, State, Stage, Call}
+use Rattle.guarantees.specs.Types.{refl, sym, ap, subst, Bool, true, false, cond, false≢true, ⊎_elim, List, ℕ, Table, Option, None, Some, Processor, Idle, CopyingIn, Executing, Finished, CopyOut, NoCopyOut, CopyingOut, CopiedOut, CopyIn, Unchosen, NoneChosen, Copying, Loaded, Cancelled, Interval, Next, NoneNext, LoadedNext, PromotedNext, Outgoing, NoneOutgoing, AwaitsCopyOut, Phase, Between, Within, State, Stage, Call}
 use native.Mathlib.Omega.{arith}
 use borrow.Author.Tests.{eqb-false, not-true}
 use lib.Dec.{eqb}
@@ -194,15 +194,15 @@ outgoing_lighter (CopyingIn n until) = omega arith
 outgoing_lighter (Executing n start until) = omega arith
 outgoing_lighter (Finished n start) = omega arith
 
-promote : (ready s : ℕ) (pr : List ℕ) (q : MaybeTask) → Best pr s q → Sub s ready
+promote : (ready s : ℕ) (pr : List ℕ) (q : Option ℕ) → Best pr s q → Sub s ready
     → 3 * size (without_promoted ready q) + next_weight (next_of NoneChosen q) ≤ 3 * size ready
-promote ready s pr NoTask b h = omega arith
-promote ready s pr (Task q) b h = omega (arith, size_remove q ready b.0 (h q b.0 b.1))
+promote ready s pr None b h = omega arith
+promote ready s pr (Some q) b h = omega (arith, size_remove q ready b.0 (h q b.0 b.1))
 
-promote_debt : (ready s : ℕ) (pr : List ℕ) (q : MaybeTask) (c fate k : ℕ) → Best pr s q → Sub s ready → k < 32 → member k s ≡ true
+promote_debt : (ready s : ℕ) (pr : List ℕ) (q : Option ℕ) (c fate k : ℕ) → Best pr s q → Sub s ready → k < 32 → member k s ≡ true
     → 3 * size (without_promoted ready q) + next_weight (next_of (Cancelled c fate) q) + 1 ≤ 3 * size ready
-promote_debt ready s pr NoTask c fate k b h l m = clash (member k s) m (b k l)
-promote_debt ready s pr (Task q) c fate k b h l m = omega (arith, size_remove q ready b.0 (h q b.0 b.1))
+promote_debt ready s pr None c fate k b h l m = clash (member k s) m (b k l)
+promote_debt ready s pr (Some q) c fate k b h l m = omega (arith, size_remove q ready b.0 (h q b.0 b.1))
 
 b_next : (d : State) (i : Interval) (c : CopyIn) → Paid-in d.jobs.ready i.candidates c
     → 3 * size (without_promoted d.jobs.ready (promoted d i c)) + next_weight (next_of c (promoted d i c)) + copyin_debt c ≤ 3 * size d.jobs.ready + copyin_weight c
@@ -221,9 +221,9 @@ b_next d i (Cancelled n fate) h =
           h.task (intersection_in i.candidates d.jobs.ready h.who h.task h.is_candidate h.is_ready),
     )
 
-minus_small : (s : ℕ) (q : MaybeTask) → s < 2 ^ 32 → without_promoted s q < 2 ^ 32
-minus_small s NoTask h = h
-minus_small s (Task n) h = remove_small n s
+minus_small : (s : ℕ) (q : Option ℕ) → s < 2 ^ 32 → without_promoted s q < 2 ^ 32
+minus_small s None h = h
+minus_small s (Some n) h = remove_small n s
 
 pub b_leads : (s : Stage) (t : ℕ) (p : Phase) → s.state.phase ≡ p → Sound s.state p → Leads s.state p (step_b s t p).state (step_b s t p).state.phase 0 0
 unfolding step_b close_stage close
@@ -276,10 +276,10 @@ c_leads d t taken deferred h = record {
 }
 
 -- d
-d_rival : (d : State) (taken : ℕ) (i : Interval) (c : ℕ) (q : MaybeTask) → NewIn d taken i
+d_rival : (d : State) (taken : ℕ) (i : Interval) (c : ℕ) (q : Option ℕ) → NewIn d taken i
     → Best d.table.priority (intersection taken d.marked) q → outranks d c q ≡ true → Rival (insert c d.jobs.ready) i.candidates
-d_rival d taken i c NoTask f b t = absurd (false≢true t)
-d_rival d taken i c (Task q) f b t =
+d_rival d taken i c None f b t = absurd (false≢true t)
+d_rival d taken i c (Some q) f b t =
     let is-new : member q taken ≡ true = intersection_left taken d.marked q b.1 in
     record {
       who = q;
@@ -313,26 +313,26 @@ d_leads d taken f h =
     subst (λ (p : Phase). Leads d p (cancel d i c fate true) (cancel d i c fate true).phase 0 0) (sym e) (d_cancel d taken i c fate s (subst (NewAt d taken) e f) (subst (Sound d) e h) b))
 
 -- e
-choose_leads : (d : State) (t : ℕ) (i : Interval) (q : MaybeTask) → i.copyin ≡ Unchosen → Sound d (Within i) → Best d.table.priority d.jobs.ready q
+choose_leads : (d : State) (t : ℕ) (i : Interval) (q : Option ℕ) → i.copyin ≡ Unchosen → Sound d (Within i) → Best d.table.priority d.jobs.ready q
     → Leads d (Within i) (choose d t i q) (choose d t i q).phase 0 0
 unfolding choose
-choose_leads d t i NoTask s h b = record { sound = record { few = h.few; paid = tt }; weigh = rw s (omega arith); sink = rw s (omega arith) }
-choose_leads d t i (Task q) s h b = record {
+choose_leads d t i None s h b = record { sound = record { few = h.few; paid = tt }; weigh = rw s (omega arith); sink = rw s (omega arith) }
+choose_leads d t i (Some q) s h b = record {
   sound = record { few = remove_small q d.jobs.ready; paid = tt };
   weigh = rw s (omega (arith, size_remove q d.jobs.ready b.0 b.1));
   sink = rw s (omega (arith, size_remove q d.jobs.ready b.0 b.1));
 }
 
 -- with a job that is ready the choice takes one
-choose_falls : (d : State) (t : ℕ) (i : Interval) (q : MaybeTask) → i.copyin ≡ Unchosen → d.jobs.ready < 2 ^ 32 → eqb d.jobs.ready 0 ≡ false
+choose_falls : (d : State) (t : ℕ) (i : Interval) (q : Option ℕ) → i.copyin ≡ Unchosen → d.jobs.ready < 2 ^ 32 → eqb d.jobs.ready 0 ≡ false
     → Best d.table.priority d.jobs.ready q → weight (choose d t i q) (choose d t i q).phase + 1 ≤ weight d (Within i)
 unfolding choose
-choose_falls d t i NoTask s f h b = absurd (eqb-false d.jobs.ready 0 h (empty d.jobs.ready f b))
-choose_falls d t i (Task q) s f h b = rw s (omega (arith, size_remove q d.jobs.ready b.0 b.1))
+choose_falls d t i None s f h b = absurd (eqb-false d.jobs.ready 0 h (empty d.jobs.ready f b))
+choose_falls d t i (Some q) s f h b = rw s (omega (arith, size_remove q d.jobs.ready b.0 b.1))
 
 e_leads : (d : State) (t : ℕ) → Sound d d.phase → Leads d d.phase (step_e d t d.phase) (step_e d t d.phase).phase 0 0
 e_leads d t h =
-    let q : MaybeTask = highest_of d d.jobs.ready in
+    let q : Option ℕ = highest_of d d.jobs.ready in
     e_cases (λ x. Leads d d.phase x x.phase 0 0) d t (stays d h)
     (λ i e s u. subst (λ (p : Phase). Leads d p (choose d t i q) (choose d t i q).phase 0 0) (sym e) (choose_leads d t i q s (subst (Sound d) e h) (best_of d d.jobs.ready)))
 

@@ -1,7 +1,7 @@
 -- The counts at an interval's end, in every state that calls made: a pending job of a task that the interval can block has one more, and no other
 -- count changes. What is pending then is ready, loaded, or the job that was executed, which is not higher than itself.
 use Rattle.std.proofs.Common.{◌≡◌, ◌&&◌, ◌||◌, ◌+◌, ◌^◌, ◌<◌}
-use Rattle.guarantees.specs.Types.{refl, sym, ap, ◌∙◌, subst, Bool, true, false, cond, true≢false, false≢true, List, ℕ, Table, MaybeTask, NoTask, Task, Processor, Idle, CopyingIn, Executing, Finished, CopyOut, NoCopyOut, CopyingOut, CopiedOut, CopyIn, Unchosen, NoneChosen, Copying, Loaded, Cancelled, Interval, Phase, Within, State, Stage, Call}
+use Rattle.guarantees.specs.Types.{refl, sym, ap, ◌∙◌, subst, Bool, true, false, cond, true≢false, false≢true, List, ℕ, Table, Option, None, Some, Processor, Idle, CopyingIn, Executing, Finished, CopyOut, NoCopyOut, CopyingOut, CopiedOut, CopyIn, Unchosen, NoneChosen, Copying, Loaded, Cancelled, Interval, Phase, Within, State, Stage, Call}
 use native.Mathlib.Omega.{arith}
 use native.Mathlib.Nat.{add-zero}
 use borrow.Author.Tests.{eq-eqb}
@@ -39,8 +39,8 @@ module _ (pr : List ℕ) (n : ℕ) (small : n < 32) where
   out_bit (CopiedOut m) h = refl
 
   -- a job that is higher than the executed one is another
-  other_bit : (m : ℕ) → is_lower pr n (Task m) ≡ true → bit (eqb n m) ≡ 0
-  other_bit m l = by-test (eqb n m) (λ e. clash (is_lower pr n (Task m)) l (not_itself pr n m e)) (λ e. rw e)
+  other_bit : (m : ℕ) → is_lower pr n (Some m) ≡ true → bit (eqb n m) ≡ 0
+  other_bit m l = by-test (eqb n m) (λ e. clash (is_lower pr n (Some m)) l (not_itself pr n m e)) (λ e. rw e)
 
   executed_bit : (q : Processor) → is_lower pr n (processor_task q) ≡ true → processor_bit n q ≡ 0
   executed_bit Idle l = refl
@@ -85,7 +85,7 @@ module _ (pr : List ℕ) (n : ℕ) (small : n < 32) where
     unfolding blockable
     in_set =
         ap (λ (x : Phase). member n (higher d (executed_in x) d.table.present)) e
-        ∙ ap (λ (b : Bool). member n (higher d (cond b (processor_task i.processor) NoTask) d.table.present)) o
+        ∙ ap (λ (b : Bool). member n (higher d (cond b (processor_task i.processor) None) d.table.present)) o
         ∙ higher_is pr n small d d.table.present (processor_task i.processor) p
         ∙ ap (λ (x : ℕ). member n x && is_lower pr n (processor_task i.processor)) t
 
@@ -107,15 +107,15 @@ module _ (pr : List ℕ) (n : ℕ) (small : n < 32) where
 
   -- ---- an interval ends, or none does
 
-  none_blocked : (d : State) → executed_in d.phase ≡ NoTask → member n (blockable d) ≡ false
+  none_blocked : (d : State) → executed_in d.phase ≡ None → member n (blockable d) ≡ false
   unfolding blockable
-  none_blocked d e = ap (λ (r : MaybeTask). member n (higher d r d.table.present)) e ∙ none n
+  none_blocked d e = ap (λ (r : Option ℕ). member n (higher d r d.table.present)) e ∙ none n
 
   -- one count of the task, before and after
   abbrev Rises-one : State → State → Type 0
   Rises-one before after = get_or after.jobs.blocked n 0 ≡ get_or before.jobs.blocked n 0 + cond (member n before.jobs.pending && member n (blockable before)) 1 0
 
-  stays : (d : State) → executed_in d.phase ≡ NoTask → Rises-one d d
+  stays : (d : State) → executed_in d.phase ≡ None → Rises-one d d
   stays d e = rw (none_blocked d e, and_false pr n small (member n d.jobs.pending)) (sym (add-zero (get_or d.jobs.blocked n 0)))
 
   -- what is known of the state before an interval's end

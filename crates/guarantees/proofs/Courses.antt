@@ -1,7 +1,7 @@
 -- The entry of an interval closed tells the truth, and each interval executes what the history says: the course of an interval along a history agrees with the
 -- state, step by step and along the calls.
 use Rattle.std.proofs.Common.{◌≡◌, ◌&&◌, ◌||◌, ◌∷◌, ◌++◌, ◌⊎◌, ◌+◌, ◌-◌, ◌≤◌, ◌<◌}
-use Rattle.guarantees.specs.Types.{refl, sym, ap, ◌∙◌, subst, Bool, true, false, cond, not, true≢false, false≢true, List, [], inl, inr, ⊎_elim, ℕ, Table, MaybeTask, NoTask, Task, CopyIn, Unchosen, NoneChosen, Copying, Loaded, Cancelled, Interval, Next, NoneNext, Outgoing, Phase, Between, Within, State, Stage, NoInterval, IntervalEntry, Call}
+use Rattle.guarantees.specs.Types.{refl, sym, ap, ◌∙◌, subst, Bool, true, false, cond, not, true≢false, false≢true, List, [], inl, inr, ⊎_elim, ℕ, Table, Option, None, Some, CopyIn, Unchosen, NoneChosen, Copying, Loaded, Cancelled, Interval, Next, NoneNext, Outgoing, Phase, Between, Within, State, Stage, NoInterval, IntervalEntry, Call}
 use mathlib.Core.List.{append-nil}
 use native.Mathlib.Omega.{arith}
 use lib.Dec.{eqb}
@@ -101,7 +101,7 @@ module _ (pr : List ℕ) where
       allowed : Allowed x (Finishes n)
       allowed = record { begins_so = other false refl; ends_so = other false refl; finishes_so = λ y. (o, f); gives_so = other false refl }
 
-  follows_gives : (l : List IntervalEntry) (x : Course) (n : ℕ) (es : List Event) → x.is_open ≡ true → ((x.fate ≡ 0) ⊎ ((x.fate ≡ 1) × (x.chosen ≡ Task n)))
+  follows_gives : (l : List IntervalEntry) (x : Course) (n : ℕ) (es : List Event) → x.is_open ≡ true → ((x.fate ≡ 0) ⊎ ((x.fate ≡ 1) × (x.chosen ≡ Some n)))
       → Follows l (course_by pr x (GivesWay n)) es → Follows l x (GivesWay n ∷ es)
   follows_gives l x n es o f h = record { executing = unfold Executing-so in (allowed, h.executing); says = unfold ended in h.says }
     where
@@ -118,7 +118,7 @@ module _ (pr : List ℕ) where
       allowed : Allowed x (Ends t)
       allowed = record { begins_so = other false refl; ends_so = λ y. o; finishes_so = other false refl; gives_so = other false refl }
 
-  follows_begins : (l : List IntervalEntry) (x : Course) (t : ℕ) (r o : MaybeTask) (es : List Event) → x.is_open ≡ false → r ≡ x.decided
+  follows_begins : (l : List IntervalEntry) (x : Course) (t : ℕ) (r o : Option ℕ) (es : List Event) → x.is_open ≡ false → r ≡ x.decided
       → Follows l (course_by pr x (Begins t r o)) es → Follows l x (Begins t r o ∷ es)
   follows_begins l x t r o es s e h = record { executing = unfold Executing-so in (allowed, h.executing); says = unfold ended in h.says }
     where
@@ -127,12 +127,12 @@ module _ (pr : List ℕ) where
 
   -- ---- what agrees with the state
 
-  abbrev Shown : MaybeTask → ℕ → CopyIn → Type 0
-  Shown c f Unchosen = (c ≡ NoTask) × (f ≡ 0)
-  Shown c f NoneChosen = (c ≡ NoTask) × (f ≡ 0)
-  Shown c f (Copying n until) = (c ≡ NoTask) × (f ≡ 0)
-  Shown c f (Loaded n) = (c ≡ Task n) × (f ≡ 1)
-  Shown c f (Cancelled n fate) = (c ≡ Task n) × (f ≡ fate) × (eqb fate 1 ≡ false)
+  abbrev Shown : Option ℕ → ℕ → CopyIn → Type 0
+  Shown c f Unchosen = (c ≡ None) × (f ≡ 0)
+  Shown c f NoneChosen = (c ≡ None) × (f ≡ 0)
+  Shown c f (Copying n until) = (c ≡ None) × (f ≡ 0)
+  Shown c f (Loaded n) = (c ≡ Some n) × (f ≡ 1)
+  Shown c f (Cancelled n fate) = (c ≡ Some n) × (f ≡ fate) × (eqb fate 1 ≡ false)
 
   record InCourse (x : Course) (ready : ℕ) (i : Interval) : Type 0 where
     is_open : x.is_open ≡ true
@@ -292,13 +292,13 @@ module _ (pr : List ℕ) where
       (λ k l. (g k l).since_is)
 
   -- where no job is loaded
-  promotes : (c : CopyIn) (q : MaybeTask) → next_of c NoTask ≡ NoneNext → next_task (next_of c q) ≡ q
-  promotes c NoTask h = ap next_task h
-  promotes c (Task q) h = refl
+  promotes : (c : CopyIn) (q : Option ℕ) → next_of c None ≡ NoneNext → next_task (next_of c q) ≡ q
+  promotes c None h = ap next_task h
+  promotes c (Some q) h = refl
 
-  promotes_work : (c : CopyIn) (q : MaybeTask) (fate : ℕ) → next_of c NoTask ≡ NoneNext → eqb fate 1 ≡ false → work_of (next_of c q) ≡ work_by fate (next_task (next_of c q))
-  promotes_work c NoTask fate h e = rw h refl
-  promotes_work c (Task q) fate h e = rw e refl
+  promotes_work : (c : CopyIn) (q : Option ℕ) (fate : ℕ) → next_of c None ≡ NoneNext → eqb fate 1 ≡ false → work_of (next_of c q) ≡ work_by fate (next_task (next_of c q))
+  promotes_work c None fate h e = rw h refl
+  promotes_work c (Some q) fate h e = rw e refl
 
   promoted_so : (d : State) (i : Interval) (c : CopyIn) (x : Course) → settled c ≡ true → Shown x.chosen x.fate c
       → ((k : ℕ) → k < 32 → copyin_bit k c ≡ 0 → member k i.candidates ≡ true → member k d.jobs.ready ≡ true)
@@ -311,7 +311,7 @@ module _ (pr : List ℕ) where
       record { chosen_is = h.0; fate_is = h.1; promoted_is = rw h.1 refl; executes = rw h.1 (sym h.0); works = rw h.1 refl }
   promoted_so d i NoneChosen x s h f e g o =
       let b : highest_own pr x ≡ highest_of d (intersection i.candidates d.jobs.ready) = best_own d i x (λ k l. f k l refl) e g o in
-      let q : MaybeTask = highest_of d (intersection i.candidates d.jobs.ready) in
+      let q : Option ℕ = highest_of d (intersection i.candidates d.jobs.ready) in
       record {
         chosen_is = h.0;
         fate_is = h.1;
@@ -321,7 +321,7 @@ module _ (pr : List ℕ) where
       }
   promoted_so d i (Cancelled n fate) x s h f e g o =
       let b : highest_own pr x ≡ highest_of d (intersection i.candidates d.jobs.ready) = best_own d i x (λ k l. f k l refl) e g o in
-      let q : MaybeTask = highest_of d (intersection i.candidates d.jobs.ready) in
+      let q : Option ℕ = highest_of d (intersection i.candidates d.jobs.ready) in
       record {
         chosen_is = h.0;
         fate_is = h.1;
@@ -348,7 +348,7 @@ module _ (pr : List ℕ) where
       let c : ClosedSo d i i.copyin x = closed_so d i x o a in
       entry_same a.phase.begin_is a.half_is a.phase.task_is a.phase.work_is a.phase.out_is c.chosen_is c.fate_is c.promoted_is
     where
-      entry_same : {b b' h h' w w' f f' : ℕ} {r r' o o' c c' p p' : MaybeTask} → b ≡ b' → h ≡ h' → r ≡ r' → w ≡ w' → o ≡ o' → c ≡ c' → f ≡ f' → p ≡ p'
+      entry_same : {b b' h h' w w' f f' : ℕ} {r r' o o' c c' p p' : Option ℕ} → b ≡ b' → h ≡ h' → r ≡ r' → w ≡ w' → o ≡ o' → c ≡ c' → f ≡ f' → p ≡ p'
           → ◌≡◌ {A = IntervalEntry} (record { begin = b; end = t; half = h; task = r; work = w; copiedout = o; chosen = c; fate = f; promoted = p })
           (record { begin = b'; end = t; half = h'; task = r'; work = w'; copiedout = o'; chosen = c'; fate = f'; promoted = p' })
       entry_same e1 e2 e3 e4 e5 e6 e7 e8 = rw (e1, e2, e3, e4, e5, e6, e7, e8) refl
@@ -607,7 +607,7 @@ module _ (pr : List ℕ) where
             (union_out i.candidates (intersection taken d.marked) j z);
       }
         where
-          shown_same : (c : CopyIn) {a a' : MaybeTask} {f f' : ℕ} → a' ≡ a → f' ≡ f → Shown a f c → Shown a' f' c
+          shown_same : (c : CopyIn) {a a' : Option ℕ} {f f' : ℕ} → a' ≡ a → f' ≡ f → Shown a f c → Shown a' f' c
           shown_same c e1 e2 h = rw (e1, e2) h
 
           more : (r n : Bool) (c : ℕ) (u : Bool) → u ≡ (r || n) → 1 ≤ bit r + c → 1 ≤ bit u + c
@@ -631,9 +631,9 @@ module _ (pr : List ℕ) where
   gives_same (Between next outgoing) = refl
   gives_same (Within i) = go (given_way i.copyin)
     where
-      go : (g : MaybeTask) → giving_events g g ≡ []
-      go NoTask = unfold giving_events in refl
-      go (Task n) = unfold giving_events in refl
+      go : (g : Option ℕ) → giving_events g g ≡ []
+      go None = unfold giving_events in refl
+      go (Some n) = unfold giving_events in refl
 
   pub c_gives : (d : State) (taken : ℕ) (p q : Phase) → giving_events_in (with_candidates d taken p) q ≡ giving_events_in p q
   unfolding giving_events_in with_candidates
@@ -646,7 +646,7 @@ module _ (pr : List ℕ) where
   Gave s x p y =
       ((giving_events_in p y.phase ≡ []) × Agrees s x y y.phase)
       ⊎ ((n : ℕ) × (giving_events_in p y.phase ≡ GivesWay n ∷ []) × Agrees s (course_by pr x (GivesWay n)) y y.phase
-      × (x.is_open ≡ true) × ((x.fate ≡ 0) ⊎ ((x.fate ≡ 1) × (x.chosen ≡ Task n))))
+      × (x.is_open ≡ true) × ((x.fate ≡ 0) ⊎ ((x.fate ≡ 1) × (x.chosen ≡ Some n))))
 
   gives_on : (l : List IntervalEntry) (s : ℕ) (x : Course) (p : Phase) (y : State) (ys : List Event) → Gave s x p y
       → ((z : Course) → Agrees s z y y.phase → Follows l z ys) → Follows l x (giving_events_in p y.phase ++ ys)
@@ -688,21 +688,21 @@ module _ (pr : List ℕ) where
       gives_same_but : SameButCopy x (course_by pr x (GivesWay n))
       gives_same_but = record { interval = record { is_open = refl; begin_same = refl; half_same = refl; task_same = refl; work_same = refl; out_same = refl }; own_same = refl; next_same = refl; origins_same = refl }
 
-      gives : giving_events (given_way i.copyin) (Task n) ≡ GivesWay n ∷ []
-      gives = unfold giving_events in ⊎_elim (λ z. ap (λ (c : CopyIn). giving_events (given_way c) (Task n)) z.1) (λ z. ap (λ (c : CopyIn). giving_events (given_way c) (Task n)) z.0) h
+      gives : giving_events (given_way i.copyin) (Some n) ≡ GivesWay n ∷ []
+      gives = unfold giving_events in ⊎_elim (λ z. ap (λ (c : CopyIn). giving_events (given_way c) (Some n)) z.1) (λ z. ap (λ (c : CopyIn). giving_events (given_way c) (Some n)) z.0) h
 
       fate_is : cond (eqb x.fate 1) 3 2 ≡ fate
       fate_is =
           ⊎_elim
-          (λ z. let y : (x.chosen ≡ NoTask) × (x.fate ≡ 0) = subst (Shown x.chosen x.fate) z.1 a.phase.shown in ap (λ (f : ℕ). cond (eqb f 1) 3 2) y.1 ∙ sym z.2)
-          (λ z. let y : (x.chosen ≡ Task n) × (x.fate ≡ 1) = subst (Shown x.chosen x.fate) z.0 a.phase.shown in ap (λ (f : ℕ). cond (eqb f 1) 3 2) y.1 ∙ sym z.1)
+          (λ z. let y : (x.chosen ≡ None) × (x.fate ≡ 0) = subst (Shown x.chosen x.fate) z.1 a.phase.shown in ap (λ (f : ℕ). cond (eqb f 1) 3 2) y.1 ∙ sym z.2)
+          (λ z. let y : (x.chosen ≡ Some n) × (x.fate ≡ 1) = subst (Shown x.chosen x.fate) z.0 a.phase.shown in ap (λ (f : ℕ). cond (eqb f 1) 3 2) y.1 ∙ sym z.1)
           h
 
-      under_way : (x.fate ≡ 0) ⊎ ((x.fate ≡ 1) × (x.chosen ≡ Task n))
+      under_way : (x.fate ≡ 0) ⊎ ((x.fate ≡ 1) × (x.chosen ≡ Some n))
       under_way =
           ⊎_elim
-          (λ z. let y : (x.chosen ≡ NoTask) × (x.fate ≡ 0) = subst (Shown x.chosen x.fate) z.1 a.phase.shown in inl y.1)
-          (λ z. let y : (x.chosen ≡ Task n) × (x.fate ≡ 1) = subst (Shown x.chosen x.fate) z.0 a.phase.shown in inr (y.1, y.0))
+          (λ z. let y : (x.chosen ≡ None) × (x.fate ≡ 0) = subst (Shown x.chosen x.fate) z.1 a.phase.shown in inl y.1)
+          (λ z. let y : (x.chosen ≡ Some n) × (x.fate ≡ 1) = subst (Shown x.chosen x.fate) z.0 a.phase.shown in inr (y.1, y.0))
           h
 
       bit_is : (k : ℕ) → copyin_bit k i.copyin ≡ bit (eqb k n)
@@ -725,15 +725,15 @@ module _ (pr : List ℕ) where
     gives : (p : Phase) → giving_events_in p y.phase ≡ giving_events_in p d.phase
     agrees : (x : Course) → Agrees s x d d.phase → Agrees s x y y.phase
 
-  chose : (s : ℕ) (d : State) (t : ℕ) (i : Interval) (q : MaybeTask) → i.copyin ≡ Unchosen → (x : Course) → Agrees s x d (Within i) → Agrees s x (choose d t i q) (choose d t i q).phase
+  chose : (s : ℕ) (d : State) (t : ℕ) (i : Interval) (q : Option ℕ) → i.copyin ≡ Unchosen → (x : Course) → Agrees s x d (Within i) → Agrees s x (choose d t i q) (choose d t i q).phase
   unfolding choose
-  chose s d t i NoTask e x a = record {
+  chose s d t i None e x a = record {
     table_is = a.table_is;
     half_is = a.half_is;
     origins_are = a.origins_are;
     phase = with_other_copy i NoneChosen (unchanged x) a.phase (subst (Shown x.chosen x.fate) e a.phase.shown) (λ k l m. omega (arith, m, ap (copyin_bit k) e));
   }
-  chose s d t i (Task q) e x a = record {
+  chose s d t i (Some q) e x a = record {
     table_is = a.table_is;
     half_is = a.half_is;
     origins_are = a.origins_are;
@@ -745,12 +745,12 @@ module _ (pr : List ℕ) where
       go true b l = omega arith
       go false b l = omega arith
 
-  pub choose_gives : (d : State) (t : ℕ) (i : Interval) (q : MaybeTask) (p : Phase) → i.copyin ≡ Unchosen → giving_events_in p (choose d t i q).phase ≡ giving_events_in p (Within i)
+  pub choose_gives : (d : State) (t : ℕ) (i : Interval) (q : Option ℕ) (p : Phase) → i.copyin ≡ Unchosen → giving_events_in p (choose d t i q).phase ≡ giving_events_in p (Within i)
   unfolding choose giving_events_in
-  choose_gives d t i NoTask (Between next outgoing) e = refl
-  choose_gives d t i NoTask (Within j) e = ap (λ (c : CopyIn). giving_events (given_way j.copyin) (given_way c)) (sym e)
-  choose_gives d t i (Task q) (Between next outgoing) e = refl
-  choose_gives d t i (Task q) (Within j) e = ap (λ (c : CopyIn). giving_events (given_way j.copyin) (given_way c)) (sym e)
+  choose_gives d t i None (Between next outgoing) e = refl
+  choose_gives d t i None (Within j) e = ap (λ (c : CopyIn). giving_events (given_way j.copyin) (given_way c)) (sym e)
+  choose_gives d t i (Some q) (Between next outgoing) e = refl
+  choose_gives d t i (Some q) (Within j) e = ap (λ (c : CopyIn). giving_events (given_way j.copyin) (given_way c)) (sym e)
 
   e_chooses : (s : ℕ) (d : State) (t : ℕ) → Chooses s d (step_e d t d.phase)
   e_chooses s d t =
@@ -786,8 +786,8 @@ module _ (pr : List ℕ) where
       follows_begins l x t (processor_task j.processor) (copyout_task j.copyout) (start_events t (Between next outgoing) (Within j) ++ ys) o
       (ap processor_task b.0 ∙ runs table t next ∙ e)
       (by_starts (Follows l y) t (λ k es z. follows_on l y (Starts k t) es (record { begins_not = refl; ends_not = refl; finishes_not = refl; gives_not = refl }) z) (Between next outgoing) (Within j) ys
-      (subst (λ (o : MaybeTask). Follows l (course_by pr x (Begins t (processor_task j.processor) o)) ys) (ap copyout_task (sym b.1))
-      (subst (λ (r : MaybeTask). Follows l (course_by pr x (Begins t r (copyout_task (begin_copyout table t outgoing)))) ys) (ap processor_task (sym b.0)) h)))
+      (subst (λ (o : Option ℕ). Follows l (course_by pr x (Begins t (processor_task j.processor) o)) ys) (ap copyout_task (sym b.1))
+      (subst (λ (r : Option ℕ). Follows l (course_by pr x (Begins t r (copyout_task (begin_copyout table t outgoing)))) ys) (ap processor_task (sym b.0)) h)))
     where
       y : Course
       y = course_by pr x (Begins t (processor_task j.processor) (copyout_task j.copyout))

@@ -1,7 +1,7 @@
 -- The releases that wait, by the history: one waits from its event until the next taking of its task, and the state's set says the same; none begins
 -- to wait while one of its task waits.
 use Rattle.std.proofs.Common.{◌≡◌, ◌&&◌, ◌||◌, ◌∷◌, ◌++◌, ◌≤◌, ◌<◌}
-use Rattle.guarantees.specs.Types.{refl, sym, ap, ◌∙◌, subst, Bool, true, false, cond, true≢false, false≢true, List, [], append_assoc, ℕ, zero, suc, MaybeTask, State, Call, Never}
+use Rattle.guarantees.specs.Types.{refl, sym, ap, ◌∙◌, subst, Bool, true, false, cond, true≢false, false≢true, List, [], append_assoc, ℕ, zero, suc, Option, State, Call, None}
 use native.Mathlib.Omega.{arith}
 use native.Mathlib.Nat.{not-suc-le-zero}
 use borrow.Author.Tests.{eqb-true, eqb-false, ne_eqb}
@@ -47,7 +47,7 @@ module _ (n s : ℕ) (make : ℕ → Event) (events : ℕ → List Event) (at_fi
 
 -- what each event behind the releases keeps
 pub by_rest : (P : List Event → Type 0) → ((n : ℕ) (es : List Event) → P es → P (GivesWay n ∷ es)) → ((t : ℕ) (es : List Event) → P es → P (Ends t ∷ es))
-    → ((t : ℕ) (r l : MaybeTask) (es : List Event) → P es → P (Begins t r l ∷ es)) → ((n t : ℕ) (es : List Event) → P es → P (Starts n t ∷ es))
+    → ((t : ℕ) (r l : Option ℕ) (es : List Event) → P es → P (Begins t r l ∷ es)) → ((n t : ℕ) (es : List Event) → P es → P (Starts n t ∷ es))
     → (d : State) (t set : ℕ) (es : List Event) → P es
     → P (giving_events_in (at_b d t).state.phase (at_e d t set).phase
     ++ (end_events t (at_e d t set).phase (at_f d t set).state.phase
@@ -137,7 +137,7 @@ module _ (n : ℕ) where
     tick : ℕ
     marked : Bool
     is : es ≡ between ++ (Takes n tick marked ∷ later)
-    next : taking n between ≡ Never
+    next : taking n between ≡ None
 
   not_yet : (e : Event) (es : List Event) → takes_it e ≡ false → NextTaken es → NextTaken (e ∷ es)
   unfolding first
@@ -266,7 +266,7 @@ alone n small d cs =
 -- a release that is set waiting, where nothing waits after the calls, is taken later
 pub taken_later : (d : State) (calls : List Call) → (after_calls d calls).waiting.tasks ≡ 0 → (before after : List Event) (n t : ℕ) → n < 32
     → history d calls ≡ before ++ (Defers n t ∷ after)
-    → (between later : List Event) × (tick : ℕ) × (marked : Bool) × (after ≡ between ++ (Takes n tick marked ∷ later)) × (taking n between ≡ Never)
+    → (between later : List Event) × (tick : ℕ) × (marked : Bool) × (after ≡ between ++ (Takes n tick marked ∷ later)) × (taking n between ≡ None)
 unfolding Alone
 taken_later d calls z before after n t small e =
     let last : Bool = member n (after_calls d calls).waiting.tasks in

@@ -1,6 +1,6 @@
 -- Demand 3: the claim holds of every list of calls.
-use Rattle.std.proofs.Common.{◌≡◌, ◌∷◌, ◌++◌, ◌<◌}
-use Rattle.guarantees.specs.Types.{refl, sym, ap, ◌∙◌, subst, Bool, true, false, List, append_assoc, ℕ, Table, MaybeTask, NoTask, Task, State, NoRefusal, Never, Call}
+use Rattle.std.proofs.Common.{◌≡◌, ◌∷◌, ◌++◌, ◌<◌, Ok}
+use Rattle.guarantees.specs.Types.{refl, sym, ap, ◌∙◌, subst, Bool, true, false, List, append_assoc, ℕ, Table, Option, None, Some, State, Call}
 use native.Mathlib.Omega.{arith}
 use lib.ListN.{get_or}
 use Rattle.sets.specs.Sets.{member, size}
@@ -50,16 +50,16 @@ use Rattle.guarantees.proofs.Completion.{AtRest, rests, drains, Drained, drained
 module _ (table : Table) (marks : ℕ) (fair : Fair table marks) where
   -- ---- the order
 
-  not_lower : (n : ℕ) (r : MaybeTask) → NotLower table.priority n r → Lower table.priority n r → ⊥
-  not_lower n NoTask h l = l
-  not_lower n (Task k) h l = omega arith
+  not_lower : (n : ℕ) (r : Option ℕ) → NotLower table.priority n r → Lower table.priority n r → ⊥
+  not_lower n None h l = l
+  not_lower n (Some k) h l = omega arith
 
   in_order : (n : ℕ) (m : Bool) (at : Situation) (es : List Event)
       → Waits table.priority n m at (intervals es) → InOrder table.priority n m (met n at (intervals es))
   in_order n m at es w = record {
-    lower_in_two = λ i a l. not_lower n (get_or (met n at (intervals es)) i NoTask) (w.third i a l);
+    lower_in_two = λ i a l. not_lower n (get_or (met n at (intervals es)) i None) (w.third i a l);
     third_on = w.third;
-    marked_in_one = λ e i a l. not_lower n (get_or (met n at (intervals es)) i NoTask) (w.later e i a l);
+    marked_in_one = λ e i a l. not_lower n (get_or (met n at (intervals es)) i None) (w.later e i a l);
   }
 
   -- ---- the claim of each history
@@ -86,9 +86,9 @@ module _ (table : Table) (marks : ℕ) (fair : Fair table marks) where
     each_task = λ n. record {
       at_taking = λ before after t m e. (one n (taken_small (opened table marks) calls before after n t m e)).at_taking before after t m e;
       at_execution = λ before after t l e.
-          (one n (small n (begins_known table.present before after t (Task n) l (subst (AllKnown table.present) e known)).0)).at_execution before after t l e;
+          (one n (small n (begins_known table.present before after t (Some n) l (subst (AllKnown table.present) e known)).0)).at_execution before after t l e;
       at_copyout = λ before after t r e.
-          (one n (small n (begins_known table.present before after t r (Task n) (subst (AllKnown table.present) e known)).1)).at_copyout before after t r e;
+          (one n (small n (begins_known table.present before after t r (Some n) (subst (AllKnown table.present) e known)).1)).at_copyout before after t r e;
       at_completion = λ before after c e. (one n (completes_small before after n c e)).at_completion before after c e;
       at_waiting = λ before after t e. (one n (deferred_small (opened table marks) calls before after n t e)).at_waiting before after t e;
       at_resuming = λ before after c u e w. (one n (completes_small before after n c e)).at_resuming before after c u e w;
@@ -134,7 +134,7 @@ module _ (table : Table) (marks : ℕ) (fair : Fair table marks) where
         small : n < 32
         small = deferred_small (opened table marks) calls before after n t e
 
-        go : (between later : List Event) × (tick : ℕ) × (marked : Bool) × (after ≡ between ++ (Takes n tick marked ∷ later)) × (taking n between ≡ Never) → TakenLater n after
+        go : (between later : List Event) × (tick : ℕ) × (marked : Bool) × (after ≡ between ++ (Takes n tick marked ∷ later)) × (taking n between ≡ None) → TakenLater n after
         go x = record {
           between = x.0;
           later = x.1;
@@ -202,7 +202,7 @@ module _ (table : Table) (marks : ℕ) (fair : Fair table marks) where
 
       -- where a mark call is served nothing of its task waits
       unwaited : (before : List Call) (c : Call) (n : ℕ) → n < 32 → (row c).number (after_calls (opened table marks) before) ≡ 0 → member n (row c).names ≡ true
-          → waiting n Never (history (opened table marks) before) ≡ Never
+          → waiting n None (history (opened table marks) before) ≡ None
       unwaited before c n l x h =
           none_waits_so n l (opened table marks) before (none_waits n) (names_free (after_calls (opened table marks) before) n l c x h)
 
@@ -220,11 +220,10 @@ module _ (table : Table) (marks : ℕ) (fair : Fair table marks) where
 
 pub demand_3 : Demand3
 unfolding Demand3
-demand_3 bytes e calls =
-    let o : Opens (opening bytes).state = opens bytes e in
-    let d : State = (opening bytes).state in
+demand_3 bytes d e calls =
+    let o : Opens d = opens bytes d e in
     subst (λ (x : State). Claim x calls) (sym o.fresh) (claim d.table d.marked o.proper.fair calls)
 
 -- the figure of each table that opening serves
-pub figure_opened : (bytes : List ℕ) → (opening bytes).refusal ≡ NoRefusal → PlainFigure (opening bytes).state.table
-figure_opened bytes e = let d : State = (opening bytes).state in plain_figure d.table d.marked (opens bytes e).proper.fair
+pub figure_opened : (bytes : List ℕ) (d : State) → opening bytes ≡ Ok d → PlainFigure d.table
+figure_opened bytes d e = plain_figure d.table d.marked (opens bytes d e).proper.fair

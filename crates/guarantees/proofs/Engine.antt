@@ -2,7 +2,7 @@
 -- each interval that copies a job out, and on each completion.
 use Rattle.std.proofs.Common.{◌≡◌, ◌∷◌, ◌++◌, ◌+◌, ◌≤◌, ◌<◌}
 use Rattle.table.specs.Table.{copyout_length}
-use Rattle.guarantees.specs.Types.{refl, sym, ap, ◌∙◌, subst, false, List, [], ℕ, MaybeTask, NoTask, Task, Tick, Never}
+use Rattle.guarantees.specs.Types.{refl, sym, ap, ◌∙◌, subst, false, List, [], ℕ, Option, None, Some}
 use native.Mathlib.Omega.{arith}
 use borrow.Author.Tests.{eq-eqb, le-leb, lt-leb}
 use lib.Dec.{eqb}
@@ -17,8 +17,8 @@ use Rattle.guarantees.specs.Claim.{if_reached, CopiedOut}
 pub data Engine : Type 0 where
   Free : Engine
   Owed : ℕ → ℕ → Engine
-  Running : MaybeTask → Engine
-  Busy : MaybeTask → ℕ → ℕ → Engine
+  Running : Option ℕ → Engine
+  Busy : Option ℕ → ℕ → ℕ → Engine
 
 -- a copy-out that is due has ended
 abbrev pub at_end : ℕ → Engine → Type 0
@@ -45,9 +45,9 @@ may_end (Owed t n) = ⊥
 may_end (Running r) = Unit {0}
 may_end (Busy r m u) = ⊥
 
-abbrev pub owes : ℕ → MaybeTask → Engine
-owes t NoTask = Free
-owes t (Task n) = Owed t n
+abbrev pub owes : ℕ → Option ℕ → Engine
+owes t None = Free
+owes t (Some n) = Owed t n
 
 abbrev pub ended_to : Engine → ℕ → Engine
 ended_to Free t = Free
@@ -55,22 +55,22 @@ ended_to (Owed x n) t = Owed x n
 ended_to (Running r) t = owes t r
 ended_to (Busy r m u) t = Busy r m u
 
-abbrev pub may_begin : Engine → ℕ → MaybeTask → Type 0
-may_begin Free t l = l ≡ NoTask
-may_begin (Owed x n) t l = (t ≡ x) × (l ≡ Task n)
+abbrev pub may_begin : Engine → ℕ → Option ℕ → Type 0
+may_begin Free t l = l ≡ None
+may_begin (Owed x n) t l = (t ≡ x) × (l ≡ Some n)
 may_begin (Running r) t l = ⊥
 may_begin (Busy r m u) t l = ⊥
 
 -- an interval does not copy out the task that it executes
-abbrev pub Apart : MaybeTask → MaybeTask → Type 0
-Apart NoTask l = Unit {0}
-Apart (Task n) NoTask = Unit {0}
-Apart (Task n) (Task m) = eqb n m ≡ false
+abbrev pub Apart : Option ℕ → Option ℕ → Type 0
+Apart None l = Unit {0}
+Apart (Some n) None = Unit {0}
+Apart (Some n) (Some m) = eqb n m ≡ false
 
 module _ (columns : List ℕ) where
-  abbrev pub begun_to : ℕ → MaybeTask → MaybeTask → Engine
-  begun_to t r NoTask = Running r
-  begun_to t r (Task n) = Busy r n (t + copyout_length columns n)
+  abbrev pub begun_to : ℕ → Option ℕ → Option ℕ → Engine
+  begun_to t r None = Running r
+  begun_to t r (Some n) = Busy r n (t + copyout_length columns n)
 
   -- from the engine's state at a time on
   unfoldable pub Leaving : ℕ → Engine → List Event → Type 0
@@ -105,7 +105,7 @@ module _ (columns : List ℕ) where
 
   module _ (n : ℕ) where
     -- its copy-out is under way
-    busy : (es : List Event) (now : ℕ) (r : MaybeTask) (u : ℕ) → Leaving columns now (Busy r n u) es → completion n es ≡ if_reached (last_instant now es) u
+    busy : (es : List Event) (now : ℕ) (r : Option ℕ) (u : ℕ) → Leaving columns now (Busy r n u) es → completion n es ≡ if_reached (last_instant now es) u
     unfolding Leaving first after
     busy [] now r u h = rw (lt-leb u now h)
     busy (Comes t ∷ es) now r u h = busy es t r u h.1
@@ -117,13 +117,13 @@ module _ (columns : List ℕ) where
     busy (Stops k v ∷ es) now r u h = busy es now r u h
     busy (Completes k t ∷ es) now r u h =
         let l : u ≤ last_instant now es = omega (arith, h.0.1, h.0.2, onward es now (Running r) h.1) in
-        rw (eq-eqb n k (sym h.0.0), le-leb u (last_instant now es) l) (ap Tick h.0.1)
+        rw (eq-eqb n k (sym h.0.0), le-leb u (last_instant now es) l) (ap Some h.0.1)
     busy (Ends t ∷ es) now r u h = absurd h.0
     busy (Begins t q l ∷ es) now r u h = absurd h.0.2
 
     -- its interval has ended at e
     pub record Leaves (e now : ℕ) (es : List Event) : Type 0 where
-      pub begins : (begin_tick es ≡ Tick e) × (copied_out es ≡ Task n)
+      pub begins : (begin_tick es ≡ Some e) × (copied_out es ≡ Some n)
       pub completes : completion n es ≡ if_reached (last_instant now es) (e + copyout_length columns n)
 
     owed : (es : List Event) (now e : ℕ) → Leaving columns now (Owed e n) es → Leaves e now es
@@ -139,7 +139,7 @@ module _ (columns : List ℕ) where
     owed (Completes k t ∷ es) now e h = absurd h.0
     owed (Ends t ∷ es) now e h = absurd h.0
     owed (Begins t r l ∷ es) now e h = record {
-      begins = (ap Tick h.0.2.0, h.0.2.1);
+      begins = (ap Some h.0.2.0, h.0.2.1);
       completes =
           busy es now r (e + copyout_length columns n)
           (subst (λ (s : Engine). Leaving columns now s es) (ap (begun_to columns t r) h.0.2.1 ∙ ap (λ (x : ℕ). Busy r n (x + copyout_length columns n)) h.0.2.0) h.1);
@@ -149,10 +149,10 @@ module _ (columns : List ℕ) where
     abbrev Runs : Engine → Type 0
     Runs Free = ⊥
     Runs (Owed t m) = ⊥
-    Runs (Running r) = r ≡ Task n
-    Runs (Busy r m u) = (r ≡ Task n) × (eqb n m ≡ false)
+    Runs (Running r) = r ≡ Some n
+    Runs (Busy r m u) = (r ≡ Some n) × (eqb n m ≡ false)
 
-    running : (es : List Event) (now : ℕ) (s : Engine) → Runs s → Leaving columns now s es → (e : ℕ) → end_tick es ≡ Tick e → Leaves e now es
+    running : (es : List Event) (now : ℕ) (s : Engine) → Runs s → Leaving columns now s es → (e : ℕ) → end_tick es ≡ Some e → Leaves e now es
     unfolding Leaving first after
     running [] now s r h e x = absurd (let z : ◌≡◌ {A = ℕ} 0 1 = cc in omega arith)
     running (Comes t ∷ es) now s r h e x = let y : Leaves e t es = running es t s r h.1 e x in record { begins = y.begins; completes = y.completes }
@@ -180,22 +180,22 @@ module _ (columns : List ℕ) where
     running (Begins t q l ∷ es) now (Running p) r h e x = absurd h.0.2
     running (Begins t q l ∷ es) now (Busy p m u) r h e x = absurd h.0.2
 
-    begun_runs : (t : ℕ) (l : MaybeTask) → Apart (Task n) l → Runs (begun_to columns t (Task n) l)
-    begun_runs t NoTask a = refl
-    begun_runs t (Task m) a = (refl, a)
+    begun_runs : (t : ℕ) (l : Option ℕ) → Apart (Some n) l → Runs (begun_to columns t (Some n) l)
+    begun_runs t None a = refl
+    begun_runs t (Some m) a = (refl, a)
 
-    pub copied : (t : ℕ) (l : MaybeTask) (es : List Event) → Apart (Task n) l → Leaving columns t (begun_to columns t (Task n) l) es → CopiedOut (copyout_length columns n) n t es
+    pub copied : (t : ℕ) (l : Option ℕ) (es : List Event) → Apart (Some n) l → Leaving columns t (begun_to columns t (Some n) l) es → CopiedOut (copyout_length columns n) n t es
     copied t l es a h = record {
-      copyout_begins = λ e x. (running es t (begun_to columns t (Task n) l) (begun_runs t l a) h e x).begins;
-      copyout_ends = λ e x. (running es t (begun_to columns t (Task n) l) (begun_runs t l a) h e x).completes;
+      copyout_begins = λ e x. (running es t (begun_to columns t (Some n) l) (begun_runs t l a) h e x).begins;
+      copyout_ends = λ e x. (running es t (begun_to columns t (Some n) l) (begun_runs t l a) h e x).completes;
     }
 
     -- at each interval of a history that executes it
-    split : (before after : List Event) (t now : ℕ) (l : MaybeTask) (s : Engine) → Leaving columns now s (before ++ (Begins t (Task n) l ∷ after))
+    split : (before after : List Event) (t now : ℕ) (l : Option ℕ) (s : Engine) → Leaving columns now s (before ++ (Begins t (Some n) l ∷ after))
         → CopiedOut (copyout_length columns n) n t after
     unfolding Leaving
     split [] after t now l s h =
-        copied t l after h.0.1 (subst (λ (x : ℕ). Leaving columns x (begun_to columns t (Task n) l) after) (sym h.0.0) h.1)
+        copied t l after h.0.1 (subst (λ (x : ℕ). Leaving columns x (begun_to columns t (Some n) l) after) (sym h.0.0) h.1)
     split (Comes u ∷ es) after t now l s h = split es after t u l s h.1
     split (Takes k u m ∷ es) after t now l s h = split es after t now l s h
     split (Finishes k ∷ es) after t now l s h = split es after t now l s h
@@ -207,8 +207,8 @@ module _ (columns : List ℕ) where
     split (Ends u ∷ es) after t now l s h = split es after t now l (ended_to s u) h.1
     split (Begins u r m ∷ es) after t now l s h = split es after t now l (begun_to columns u r m) h.1
 
-    pub executed_in : (h before after : List Event) (t now : ℕ) (l : MaybeTask) (s : Engine) → Leaving columns now s h
-        → h ≡ before ++ (Begins t (Task n) l ∷ after) → CopiedOut (copyout_length columns n) n t after
+    pub executed_in : (h before after : List Event) (t now : ℕ) (l : Option ℕ) (s : Engine) → Leaving columns now s h
+        → h ≡ before ++ (Begins t (Some n) l ∷ after) → CopiedOut (copyout_length columns n) n t after
     executed_in h before after t now l s x e = split before after t now l s (subst (Leaving columns now s) e x)
 
 -- ---- and to the claim on what is copied out, and on what completes
@@ -217,9 +217,9 @@ module _ (columns : List ℕ) where
   -- what the engine does, by the last interval begun
   abbrev Agrees : Engine → Latest → Type 0
   Agrees Free x = Unit {0}
-  Agrees (Owed e m) x = (x.executed ≡ Task m) × (x.ended ≡ Tick e)
+  Agrees (Owed e m) x = (x.executed ≡ Some m) × (x.ended ≡ Some e)
   Agrees (Running r) x = x.executed ≡ r
-  Agrees (Busy r m u) x = (x.executed ≡ r) × ((b : ℕ) × (x.begun ≡ Tick b) × (x.ended ≡ Never) × (x.out ≡ Task m) × (u ≡ b + copyout_length columns m))
+  Agrees (Busy r m u) x = (x.executed ≡ r) × ((b : ℕ) × (x.begun ≡ Some b) × (x.ended ≡ None) × (x.out ≡ Some m) × (u ≡ b + copyout_length columns m))
 
   agrees_completed : (s : Engine) (x : Latest) → Agrees s x → Agrees (completed_to s) x
   agrees_completed Free x a = tt
@@ -230,13 +230,13 @@ module _ (columns : List ℕ) where
   agrees_ended : (s : Engine) (x : Latest) (t : ℕ) → may_end s → Agrees s x → Agrees (ended_to s t) (latest_by x (Ends t))
   agrees_ended Free x t m a = absurd m
   agrees_ended (Owed e k) x t m a = absurd m
-  agrees_ended (Running NoTask) x t m a = tt
-  agrees_ended (Running (Task k)) x t m a = (a, refl)
+  agrees_ended (Running None) x t m a = tt
+  agrees_ended (Running (Some k)) x t m a = (a, refl)
   agrees_ended (Busy r k u) x t m a = absurd m
 
-  agrees_begun : (t : ℕ) (r l : MaybeTask) (x : Latest) → Agrees (begun_to columns t r l) (latest_by x (Begins t r l))
-  agrees_begun t r NoTask x = refl
-  agrees_begun t r (Task n) x = (refl, (t, refl, refl, refl, refl))
+  agrees_begun : (t : ℕ) (r l : Option ℕ) (x : Latest) → Agrees (begun_to columns t r l) (latest_by x (Begins t r l))
+  agrees_begun t r None x = refl
+  agrees_begun t r (Some n) x = (refl, (t, refl, refl, refl, refl))
 
   -- at each event the engine's state agrees with what has occurred
   record Meets (s : Engine) (now : ℕ) (x : Latest) (e : Event) (after : List Event) : Type 0 where
@@ -258,33 +258,33 @@ module _ (columns : List ℕ) where
   meets (Ends t ∷ es) e after now s x h a = meets es e after now (ended_to s t) (latest_by x (Ends t)) h.1 (agrees_ended s x t h.0 a)
   meets (Begins t r l ∷ es) e after now s x h a = meets es e after now (begun_to columns t r l) (latest_by x (Begins t r l)) h.1 (agrees_begun t r l x)
 
-  begins_so : (s : Engine) (now n b : ℕ) (r : MaybeTask) (x : Latest) (after : List Event) → Leaving columns now s (Begins b r (Task n) ∷ after) → Agrees s x
-      → (x.executed ≡ Task n) × (x.ended ≡ Tick b)
+  begins_so : (s : Engine) (now n b : ℕ) (r : Option ℕ) (x : Latest) (after : List Event) → Leaving columns now s (Begins b r (Some n) ∷ after) → Agrees s x
+      → (x.executed ≡ Some n) × (x.ended ≡ Some b)
   unfolding Leaving
-  begins_so Free now n b r x after h a = absurd (let z : Task n ≡ NoTask = h.0.2 in let y : ◌≡◌ {A = ℕ} 0 1 = cc in omega arith)
-  begins_so (Owed e m) now n b r x after h a = (a.0 ∙ sym h.0.2.1, a.1 ∙ ap Tick (sym h.0.2.0))
+  begins_so Free now n b r x after h a = absurd (let z : Some n ≡ None = h.0.2 in let y : ◌≡◌ {A = ℕ} 0 1 = cc in omega arith)
+  begins_so (Owed e m) now n b r x after h a = (a.0 ∙ sym h.0.2.1, a.1 ∙ ap Some (sym h.0.2.0))
   begins_so (Running q) now n b r x after h a = absurd h.0.2
   begins_so (Busy q m u) now n b r x after h a = absurd h.0.2
 
   completes_so : (s : Engine) (now n c : ℕ) (x : Latest) (after : List Event) → Leaving columns now s (Completes n c ∷ after) → Agrees s x
-      → (b : ℕ) × (x.begun ≡ Tick b) × (x.ended ≡ Never) × (x.out ≡ Task n) × (c ≡ b + copyout_length columns n)
+      → (b : ℕ) × (x.begun ≡ Some b) × (x.ended ≡ None) × (x.out ≡ Some n) × (c ≡ b + copyout_length columns n)
   unfolding Leaving
   completes_so Free now n c x after h a = absurd h.0
   completes_so (Owed e m) now n c x after h a = absurd h.0
   completes_so (Running q) now n c x after h a = absurd h.0
   completes_so (Busy q m u) now n c x after h a =
       let e : m ≡ n = sym h.0.0 in
-      (a.1.0, a.1.1, a.1.2, a.1.3 ∙ ap Task e, h.0.1 ∙ a.1.4 ∙ ap (λ (k : ℕ). a.1.0 + copyout_length columns k) e)
+      (a.1.0, a.1.1, a.1.2, a.1.3 ∙ ap Some e, h.0.1 ∙ a.1.4 ∙ ap (λ (k : ℕ). a.1.0 + copyout_length columns k) e)
 
   module _ (h : List Event) (allowed : Leaving columns 0 Free h) (before after : List Event) where
-    pub copied_out_so : (n b : ℕ) (r : MaybeTask) → h ≡ before ++ (Begins b r (Task n) ∷ after) → let x : Latest = latest none_yet before in (x.executed ≡ Task n) × (x.ended ≡ Tick b)
+    pub copied_out_so : (n b : ℕ) (r : Option ℕ) → h ≡ before ++ (Begins b r (Some n) ∷ after) → let x : Latest = latest none_yet before in (x.executed ≡ Some n) × (x.ended ≡ Some b)
     copied_out_so n b r e =
-        let m : (s : Engine) × (now : ℕ) × Meets s now (latest none_yet before) (Begins b r (Task n)) after =
-        meets before (Begins b r (Task n)) after 0 Free none_yet (subst (Leaving columns 0 Free) e allowed) tt in
+        let m : (s : Engine) × (now : ℕ) × Meets s now (latest none_yet before) (Begins b r (Some n)) after =
+        meets before (Begins b r (Some n)) after 0 Free none_yet (subst (Leaving columns 0 Free) e allowed) tt in
         begins_so m.0 m.1 n b r (latest none_yet before) after m.2.allowed m.2.agrees
 
     pub completed_so : (n c : ℕ) → h ≡ before ++ (Completes n c ∷ after) → let x : Latest = latest none_yet before in
-        (b : ℕ) × (x.begun ≡ Tick b) × (x.ended ≡ Never) × (x.out ≡ Task n) × (c ≡ b + copyout_length columns n)
+        (b : ℕ) × (x.begun ≡ Some b) × (x.ended ≡ None) × (x.out ≡ Some n) × (c ≡ b + copyout_length columns n)
     completed_so n c e =
         let m : (s : Engine) × (now : ℕ) × Meets s now (latest none_yet before) (Completes n c) after =
         meets before (Completes n c) after 0 Free none_yet (subst (Leaving columns 0 Free) e allowed) tt in

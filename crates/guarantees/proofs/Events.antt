@@ -1,7 +1,7 @@
 -- The events of an instant: what holds of a list of events and is kept by each kind of event holds with those of a step before it; the three
 -- parts of an instant, before, at and after the releases; and the intervals that begin in them.
 use Rattle.std.proofs.Common.{◌≡◌, ◌∷◌, ◌++◌, ◌<◌}
-use Rattle.guarantees.specs.Types.{refl, ap, ◌∙◌, Bool, true, false, cond, List, [], append_assoc, ℕ, zero, suc, MaybeTask, NoTask, Task, Processor, Idle, CopyingIn, Executing, Finished, CopyIn, Unchosen, NoneChosen, Copying, Loaded, Cancelled, Phase, Between, Within, State, Done, NoJob, Job}
+use Rattle.guarantees.specs.Types.{refl, ap, ◌∙◌, Bool, true, false, cond, List, [], append_assoc, ℕ, zero, suc, Option, JobEntry, None, Some, Processor, Idle, CopyingIn, Executing, Finished, CopyIn, Unchosen, NoneChosen, Copying, Loaded, Cancelled, Phase, Between, Within, State}
 use native.Mathlib.Omega.{arith}
 use lib.Dec.{eqb}
 use Rattle.sets.specs.Sets.{member}
@@ -70,15 +70,15 @@ module _ (P : List Event → Type 0) where
   by_gives f (Within i) (Between next outgoing) es h = h
   by_gives f (Within i) (Within j) es h = go (given_way i.copyin) (given_way j.copyin)
     where
-      go : (a b : MaybeTask) → P (giving_events a b ++ es)
-      go NoTask NoTask = h
-      go NoTask (Task n) = f n es h
-      go (Task n) b = h
+      go : (a b : Option ℕ) → P (giving_events a b ++ es)
+      go None None = h
+      go None (Some n) = f n es h
+      go (Some n) b = h
 
-  pub by_completes : ((n t : ℕ) (es : List Event) → P es → P (Completes n t ∷ es)) → (o : Done) (es : List Event) → P es → P (completion_events o ++ es)
+  pub by_completes : ((n t : ℕ) (es : List Event) → P es → P (Completes n t ∷ es)) → (o : Option JobEntry) (es : List Event) → P es → P (completion_events o ++ es)
   unfolding completion_events
-  by_completes f NoJob es h = h
-  by_completes f (Job e) es h = f e.task e.completion es h
+  by_completes f None es h = h
+  by_completes f (Some e) es h = f e.task e.completion es h
 
   pub by_ends : (t : ℕ) → ((es : List Event) → P es → P (Ends t ∷ es)) → (p q : Phase) (es : List Event) → P es → P (end_events t p q ++ es)
   unfolding end_events
@@ -110,7 +110,7 @@ module _ (P : List Event → Type 0) where
       go true f = f refl es h
       go false f = h
 
-  pub by_begins : (t : ℕ) → ((r l : MaybeTask) (es : List Event) → P es → P (Begins t r l ∷ es)) → (p q : Phase) (es : List Event) → P es → P (begin_events t p q ++ es)
+  pub by_begins : (t : ℕ) → ((r l : Option ℕ) (es : List Event) → P es → P (Begins t r l ∷ es)) → (p q : Phase) (es : List Event) → P es → P (begin_events t p q ++ es)
   unfolding begin_events
   by_begins t f (Within i) q es h = h
   by_begins t f (Between next outgoing) (Between x y) es h = h
@@ -205,7 +205,7 @@ tail_intervals d t set h =
     ∙ by_gives (As (e ++ (b ++ (s ++ h)))) (λ n es e. e) (at_b d t).state.phase (at_e d t set).phase (e ++ (b ++ (s ++ h))) refl
     ∙ by_ends (As (b ++ (s ++ h))) t (λ es e. e) (at_e d t set).phase (at_f d t set).state.phase (b ++ (s ++ h)) refl
     ∙ begins_intervals t (at_f d t set).state.phase (at_g d t set).phase (s ++ h)
-    ∙ ap (λ (x : List MaybeTask). intervals b ++ x) (by_starts (As h) t (λ n es e. e) (at_f d t set).state.phase (at_g d t set).phase h refl)
+    ∙ ap (λ (x : List (Option ℕ)). intervals b ++ x) (by_starts (As h) t (λ n es e. e) (at_f d t set).state.phase (at_g d t set).phase h refl)
 
 pub happens_intervals : (d : State) (t set : ℕ) (h : List Event)
     → intervals (happens d t set ++ h) ≡ intervals (begin_events t (at_f d t set).state.phase (at_g d t set).phase) ++ intervals h

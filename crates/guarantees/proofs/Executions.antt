@@ -1,6 +1,6 @@
 -- The executions: what the processor of a state does, step by step and along the calls.
 use Rattle.std.proofs.Common.{◌≡◌, ◌⊎◌, ◌∷◌, ◌++◌, ◌+◌, ◌≤◌}
-use Rattle.guarantees.specs.Types.{refl, sym, ap, ◌∙◌, subst, Bool, true, false, cond, false≢true, inl, inr, ⊎_elim, List, [], ℕ, Table, Clock, MaybeTask, NoTask, Task, Processor, Idle, CopyingIn, Executing, Finished, CopyIn, Unchosen, NoneChosen, Copying, Loaded, Cancelled, Interval, Next, NoneNext, LoadedNext, PromotedNext, Outgoing, Phase, Between, Within, State, Stage, Call}
+use Rattle.guarantees.specs.Types.{refl, sym, ap, ◌∙◌, subst, Bool, true, false, cond, false≢true, inl, inr, ⊎_elim, List, [], ℕ, Table, Clock, Option, None, Some, Processor, Idle, CopyingIn, Executing, Finished, CopyIn, Unchosen, NoneChosen, Copying, Loaded, Cancelled, Interval, Next, NoneNext, LoadedNext, PromotedNext, Outgoing, Phase, Between, Within, State, Stage, Call}
 use native.Mathlib.Omega.{arith}
 use native.Mathlib.Nat.{add-zero}
 use borrow.Author.Tests.{eqb-true}
@@ -29,28 +29,28 @@ use Rattle.guarantees.proofs.Processing.{Doing, Shut, ToStart, Runs, Rests, Work
 -- ---- the processor of a state
 
 abbrev pub doing_in : Processor → Doing
-doing_in Idle = Rests NoTask
+doing_in Idle = Rests None
 doing_in (CopyingIn n until) = ToStart n until
 doing_in (Executing n start until) = Runs n until
-doing_in (Finished n start) = Rests (Task n)
+doing_in (Finished n start) = Rests (Some n)
 
 -- the job that the engine has copied in in the open interval
-abbrev pub finished_of : CopyIn → MaybeTask
-finished_of Unchosen = NoTask
-finished_of NoneChosen = NoTask
-finished_of (Copying n until) = NoTask
-finished_of (Loaded n) = Task n
-finished_of (Cancelled n fate) = NoTask
+abbrev pub finished_of : CopyIn → Option ℕ
+finished_of Unchosen = None
+finished_of NoneChosen = None
+finished_of (Copying n until) = None
+finished_of (Loaded n) = Some n
+finished_of (Cancelled n fate) = None
 
 -- and in the last one
-abbrev pub loaded_next : Next → MaybeTask
-loaded_next NoneNext = NoTask
-loaded_next (LoadedNext n) = Task n
-loaded_next (PromotedNext n) = NoTask
+abbrev pub loaded_next : Next → Option ℕ
+loaded_next NoneNext = None
+loaded_next (LoadedNext n) = Some n
+loaded_next (PromotedNext n) = None
 
 pub record View : Type 0 where
   pub doing : Doing
-  pub copied : MaybeTask
+  pub copied : Option ℕ
 
 abbrev pub view_of : Phase → View
 view_of (Between next outgoing) = record { doing = Shut; copied = loaded_next next }
@@ -58,27 +58,27 @@ view_of (Within i) = record { doing = doing_in i.processor; copied = finished_of
 
 -- ---- step by step, at an instant
 
-choose_view : (d : State) (t : ℕ) (i : Interval) (q : MaybeTask) → view_of (choose d t i q).phase ≡ record { doing = doing_in i.processor; copied = NoTask }
+choose_view : (d : State) (t : ℕ) (i : Interval) (q : Option ℕ) → view_of (choose d t i q).phase ≡ record { doing = doing_in i.processor; copied = None }
 unfolding choose
-choose_view d t i NoTask = refl
-choose_view d t i (Task q) = refl
+choose_view d t i None = refl
+choose_view d t i (Some q) = refl
 
 pub e_view : (d : State) (t : ℕ) → view_of (step_e d t d.phase).phase ≡ view_of d.phase
 e_view d t = e_cases (λ x. view_of x.phase ≡ view_of d.phase) d t refl (λ i e s u. choose_view d t i (highest_of d d.jobs.ready) ∙ rw (e, s))
 
 -- c to e: no copy-in gives way, or one does, and then the engine has copied in none
 abbrev without_copied : View → View
-without_copied v = record { doing = v.doing; copied = NoTask }
+without_copied v = record { doing = v.doing; copied = None }
 
 abbrev pub Given : Phase → Phase → Type 0
 Given p q =
     ((giving_events_in p q ≡ []) × (view_of q ≡ view_of p))
     ⊎ ((n : ℕ) × (giving_events_in p q ≡ GivesWay n ∷ []) × (view_of q ≡ without_copied (view_of p)))
 
-gives_none : (m : MaybeTask) → giving_events m m ≡ []
+gives_none : (m : Option ℕ) → giving_events m m ≡ []
 unfolding giving_events
-gives_none NoTask = refl
-gives_none (Task n) = refl
+gives_none None = refl
+gives_none (Some n) = refl
 
 same_given : (p : Phase) → Given p p
 unfolding giving_events_in
@@ -91,7 +91,7 @@ c_given d taken (Between next outgoing) q h = h
 c_given d taken (Within i) (Between next outgoing) h = h
 c_given d taken (Within i) (Within j) h = h
 
-held_not_given : (k : CopyIn) (n : ℕ) → Held k n → given_way k ≡ NoTask
+held_not_given : (k : CopyIn) (n : ℕ) → Held k n → given_way k ≡ None
 held_not_given k n s = ⊎_elim (λ x. ap given_way x.1) (λ x. ap given_way x) s
 
 d_given : (d : State) (taken : ℕ) → Given d.phase (step_d d taken d.phase).phase
@@ -99,23 +99,23 @@ unfolding cancel giving_events_in giving_events
 d_given d taken =
     d_cases (λ x. Given d.phase x.phase) d taken (same_given d.phase)
     (λ i n fate e s b.
-    subst (λ (p : Phase). Given p (cancel d i n fate true).phase) (sym e) (inr (n, ap (λ (m : MaybeTask). giving_events m (Task n)) (held_not_given i.copyin n s), refl)))
+    subst (λ (p : Phase). Given p (cancel d i n fate true).phase) (sym e) (inr (n, ap (λ (m : Option ℕ). giving_events m (Some n)) (held_not_given i.copyin n s), refl)))
 
 like_given : (p q q' : Phase) → giving_events_in p q' ≡ giving_events_in p q → view_of q' ≡ view_of q → Given p q → Given p q'
 like_given p q q' e v h = ⊎_elim (λ x. inl (e ∙ x.0, v ∙ x.1)) (λ x. inr (x.0, e ∙ x.1, v ∙ x.2)) h
 
-choose_given : (d : State) (t : ℕ) (i : Interval) (q : MaybeTask) (p : Phase) → i.copyin ≡ Unchosen → giving_events_in p (choose d t i q).phase ≡ giving_events_in p (Within i)
+choose_given : (d : State) (t : ℕ) (i : Interval) (q : Option ℕ) (p : Phase) → i.copyin ≡ Unchosen → giving_events_in p (choose d t i q).phase ≡ giving_events_in p (Within i)
 unfolding choose giving_events_in
-choose_given d t i NoTask (Between next outgoing) s = refl
-choose_given d t i NoTask (Within j) s = rw s
-choose_given d t i (Task q) (Between next outgoing) s = refl
-choose_given d t i (Task q) (Within j) s = rw s
+choose_given d t i None (Between next outgoing) s = refl
+choose_given d t i None (Within j) s = rw s
+choose_given d t i (Some q) (Between next outgoing) s = refl
+choose_given d t i (Some q) (Within j) s = rw s
 
 e_given : (p : Phase) (d : State) (t : ℕ) → Given p d.phase → Given p (step_e d t d.phase).phase
 e_given p d t h =
     e_cases (λ x. Given p x.phase) d t h
     (λ i e s u.
-    let q : MaybeTask = highest_of d d.jobs.ready in
+    let q : Option ℕ = highest_of d d.jobs.ready in
     like_given p (Within i) (choose d t i q).phase (choose_given d t i q p s) (choose_view d t i q ∙ rw s) (subst (Given p) e h))
 
 pub given_e : (d : State) (t set : ℕ) → Given (at_b d t).state.phase (at_e d t set).phase
@@ -140,7 +140,7 @@ module _ (table : Table) (marks : ℕ) (fair : Fair table marks) (t : ℕ) where
   Works v ys = Working table.columns t v.doing v.copied ys
 
   -- a
-  processor_works : (q : Processor) (l : MaybeTask) (ys : List Event) → processor_known table.present q → processor_times Plain q
+  processor_works : (q : Processor) (l : Option ℕ) (ys : List Event) → processor_known table.present q → processor_times Plain q
       → Working table.columns t (doing_in (processor_at table t q)) l ys → Working table.columns t (doing_in q) l (processor_events t q ++ ys)
   unfolding processor_events processor_at Working
   processor_works Idle l ys k p h = h
@@ -170,7 +170,7 @@ module _ (table : Table) (marks : ℕ) (fair : Fair table marks) (t : ℕ) where
   finishes_works s NoneChosen ys h = h
   finishes_works s (Copying n until) ys h = go (eqb until t) h
     where
-      go : (b : Bool) → Working table.columns t s (finished_of (cond b (Loaded n) (Copying n until))) ys → Working table.columns t s NoTask (cond b (Finishes n ∷ []) [] ++ ys)
+      go : (b : Bool) → Working table.columns t s (finished_of (cond b (Loaded n) (Copying n until))) ys → Working table.columns t s None (cond b (Finishes n ∷ []) [] ++ ys)
       go true h = h
       go false h = h
   finishes_works s (Loaded n) ys h = h
@@ -186,20 +186,20 @@ module _ (table : Table) (marks : ℕ) (fair : Fair table marks) (t : ℕ) where
       (subst (λ (y : Table). Working table.columns t (doing_in (processor_at y t i.processor)) (finished_of (copyin_at t i.copyin)) ys) x h))
 
   -- b, f
-  shuts : (q : Processor) (l : MaybeTask) (ys : List Event) → resting q ≡ true → Working table.columns t Shut l ys → Working table.columns t (doing_in q) l (Ends t ∷ ys)
+  shuts : (q : Processor) (l : Option ℕ) (ys : List Event) → resting q ≡ true → Working table.columns t Shut l ys → Working table.columns t (doing_in q) l (Ends t ∷ ys)
   unfolding Working
   shuts Idle l ys r h = (tt, h)
   shuts (CopyingIn n until) l ys r h = absurd (false≢true r)
   shuts (Executing n start until) l ys r h = absurd (false≢true r)
   shuts (Finished n start) l ys r h = (tt, h)
 
-  none_chosen : (q : MaybeTask) → loaded_next (next_of NoneChosen q) ≡ NoTask
-  none_chosen NoTask = refl
-  none_chosen (Task n) = refl
+  none_chosen : (q : Option ℕ) → loaded_next (next_of NoneChosen q) ≡ None
+  none_chosen None = refl
+  none_chosen (Some n) = refl
 
-  none_left : (c fate : ℕ) (q : MaybeTask) → loaded_next (next_of (Cancelled c fate) q) ≡ NoTask
-  none_left c fate NoTask = refl
-  none_left c fate (Task n) = refl
+  none_left : (c fate : ℕ) (q : Option ℕ) → loaded_next (next_of (Cancelled c fate) q) ≡ None
+  none_left c fate None = refl
+  none_left c fate (Some n) = refl
 
   -- where an interval can end, what its engine has copied in is what is loaded for the next one
   pub stays_loaded : (d : State) (i : Interval) (c : CopyIn) → settled c ≡ true → loaded_next (next_of c (promoted d i c)) ≡ finished_of c
@@ -223,23 +223,23 @@ module _ (table : Table) (marks : ℕ) (fair : Fair table marks) (t : ℕ) where
       go : (b : Bool) → over i ≡ b → Works (view_of (close_stage s t i b).state.phase) ys → Works (view_of (Within i)) (end_events t (Within i) (close_stage s t i b).state.phase ++ ys)
       go true o h =
           shuts i.processor (finished_of i.copyin) ys (rests i o)
-          (subst (λ (l : MaybeTask). Working table.columns t Shut l ys) (stays_loaded s.state i i.copyin (settles i o)) h)
+          (subst (λ (l : Option ℕ). Working table.columns t Shut l ys) (stays_loaded s.state i i.copyin (settles i o)) h)
       go false o h = b_stays i s.state.phase ys e h
 
   -- g
-  opens_works : (next : Next) (o : MaybeTask) (ys : List Event) → processor_times Plain (begin_processor table t next)
-      → Working table.columns t (doing_in (begin_processor table t next)) NoTask ys
+  opens_works : (next : Next) (o : Option ℕ) (ys : List Event) → processor_times Plain (begin_processor table t next)
+      → Working table.columns t (doing_in (begin_processor table t next)) None ys
       → Working table.columns t Shut (loaded_next next) (Begins t (processor_task (begin_processor table t next)) o ∷ (execution_events t (begin_processor table t next) ++ ys))
   unfolding execution_events Working
   opens_works NoneNext o ys p h = (refl, h)
   opens_works (LoadedNext n) o ys p h =
       let z : t + cond (eqb n n) 0 (copyin_length table.columns n) ≡ t = rw (same_task n) (add-zero t) in
-      (refl, ((refl, sym z, refl), subst (λ (x : ℕ). Working table.columns t (Runs n x) NoTask ys) (exact t (execution_length table.columns n) p) h))
+      (refl, ((refl, sym z, refl), subst (λ (x : ℕ). Working table.columns t (Runs n x) None ys) (exact t (execution_length table.columns n) p) h))
   opens_works (PromotedNext n) o ys p h =
-      (refl, subst (λ (x : ℕ). Working table.columns t (ToStart n x) NoTask ys) (exact t (copyin_length table.columns n) p) h)
+      (refl, subst (λ (x : ℕ). Working table.columns t (ToStart n x) None ys) (exact t (copyin_length table.columns n) p) h)
 
   opened_works : (next : Next) (outgoing : Outgoing) (q : Phase) (ys : List Event) → Opened (begin_processor table t next) q → Times Plain q
-      → Working table.columns t (doing_in (begin_processor table t next)) NoTask ys
+      → Working table.columns t (doing_in (begin_processor table t next)) None ys
       → Working table.columns t Shut (loaded_next next) (begin_events t (Between next outgoing) q ++ (start_events t (Between next outgoing) q ++ ys))
   unfolding begin_events start_events
   opened_works next outgoing (Between x y) ys o p h = absurd o
@@ -264,10 +264,10 @@ module _ (table : Table) (marks : ℕ) (fair : Fair table marks) (t : ℕ) where
       begun : Opened (begin_processor table t next) (step_e b t b.phase).phase
       begun = unfold begin in subst (λ (y : Table). Opened (begin_processor y t next) (step_e b t b.phase).phase) x (e_opens b t (begin_processor f.table t next) refl)
 
-      seen : Works (view_of (step_e b t b.phase).phase) ys → Working table.columns t (doing_in (begin_processor table t next)) NoTask ys
+      seen : Works (view_of (step_e b t b.phase).phase) ys → Working table.columns t (doing_in (begin_processor table t next)) None ys
       seen h =
           unfold begin in
-          subst (λ (y : Table). Working table.columns t (doing_in (begin_processor y t next)) NoTask ys) x
+          subst (λ (y : Table). Working table.columns t (doing_in (begin_processor y t next)) None ys) x
           (subst (λ (v : View). Works v ys) (e_view b t) h)
 
       go : (w : Bool) → Times Plain (cond w (step_e b t b.phase) f).phase → Works (view_of (cond w (step_e b t b.phase) f).phase) ys
@@ -349,5 +349,5 @@ module _ (table : Table) (marks : ℕ) (fair : Fair table marks) where
       cs d
 
   -- every list of calls from the state that opening returned
-  pub executed : (cs : List Call) → Working table.columns 0 Shut NoTask (history (opened table marks) cs)
+  pub executed : (cs : List Call) → Working table.columns 0 Shut None (history (opened table marks) cs)
   executed cs = unfold opened in works (opened table marks) cs (good_opened table marks fair)

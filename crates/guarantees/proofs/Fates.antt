@@ -1,6 +1,6 @@
 -- The balance of the releases of a task, instant by instant and along the calls.
 use Rattle.std.proofs.Common.{◌≡◌, ◌&&◌, ◌||◌, ◌∷◌, ◌++◌, ◌⊎◌, ◌+◌, ◌≤◌, ◌<◌}
-use Rattle.guarantees.specs.Types.{refl, sym, ap, ◌∙◌, subst, Bool, true, false, cond, not, false≢true, List, [], inl, inr, ⊎_elim, ℕ, Table, State, WaitingReleases, Call, Instant, Occurred, Served, Refused, Never, Tick}
+use Rattle.guarantees.specs.Types.{refl, sym, ap, ◌∙◌, subst, Bool, true, false, cond, not, false≢true, List, [], inl, inr, ⊎_elim, ℕ, Table, State, WaitingReleases, Call, Instant, Occurred, Ok, Err, None, Some}
 use mathlib.Core.List.{append-nil}
 use native.Mathlib.Omega.{arith}
 use native.Mathlib.Nat.{zero-add}
@@ -194,24 +194,24 @@ module _ (n : ℕ) (small : n < 32) where
   -- ---- an instant
 
   -- what waits, by the history and by the state
-  waits_in_state : (d : State) (cs : List Call) → member n d.waiting.tasks ≡ false → stands n (waiting n Never (history d cs)) ≡ member n (after_calls d cs).waiting.tasks
+  waits_in_state : (d : State) (cs : List Call) → member n d.waiting.tasks ≡ false → stands n (waiting n None (history d cs)) ≡ member n (after_calls d cs).waiting.tasks
   waits_in_state d cs e =
-      held_is n (history d cs) Never
+      held_is n (history d cs) None
       ∙ ap (λ (b : Bool). waits_in n b (history d cs)) (sym e)
       ∙ alone_end n (history d cs) (member n (after_calls d cs).waiting.tasks) (member n d.waiting.tasks) (alone n small d cs)
 
   waits_so : (d : State) (cs : List Call) → member n d.waiting.tasks ≡ false → member n (after_calls d cs).waiting.tasks ≡ true
-      → (u : ℕ) × (waiting n Never (history d cs) ≡ Tick u)
-  waits_so d cs e m = some_held n (waiting n Never (history d cs)) (waits_in_state d cs e ∙ m)
+      → (u : ℕ) × (waiting n None (history d cs) ≡ Some u)
+  waits_so d cs e m = some_held n (waiting n None (history d cs)) (waits_in_state d cs e ∙ m)
 
   pub none_waits_so : (d : State) (cs : List Call) → member n d.waiting.tasks ≡ false → member n (after_calls d cs).waiting.tasks ≡ false
-      → waiting n Never (history d cs) ≡ Never
-  none_waits_so d cs e m = none_held n (waiting n Never (history d cs)) (waits_in_state d cs e ∙ m)
+      → waiting n None (history d cs) ≡ None
+  none_waits_so d cs e m = none_held n (waiting n None (history d cs)) (waits_in_state d cs e ∙ m)
 
   abbrev As : List Event → List Event → Type 0
   As ys zs = taking n zs ≡ taking n ys
 
-  none_taken : (d : State) (t set : ℕ) → member n (taken_at d t set) ≡ false → taking n (happens d t set) ≡ Never
+  none_taken : (d : State) (t set : ℕ) → member n (taken_at d t set) ≡ false → taking n (happens d t set) ≡ None
   unfolding first
   none_taken d t set e =
       ap (taking n) (sym (append-nil (happens d t set)) ∙ happens_parts d t set [])
@@ -237,9 +237,9 @@ module _ (n : ℕ) (small : n < 32) where
 
   -- what is taken at an instant is, by its events
   abbrev Found : ℕ → Bool → List Event → Type 0
-  Found t found es = cond found (Unit {0}) (taking n es ≡ Tick t)
+  Found t found es = cond found (Unit {0}) (taking n es ≡ Some t)
 
-  some_taken : (d : State) (t set : ℕ) → member n (taken_at d t set) ≡ true → taking n (happens d t set) ≡ Tick t
+  some_taken : (d : State) (t set : ℕ) → member n (taken_at d t set) ≡ true → taking n (happens d t set) ≡ Some t
   unfolding first take_events
   some_taken d t set m =
       ap (taking n) (sym (append-nil (happens d t set)) ∙ happens_parts d t set [])
@@ -257,12 +257,12 @@ module _ (n : ℕ) (small : n < 32) where
       other true k e es h = tt
       other false k e es h = unfold first in rw e h
 
-  happens_by : (d : State) (t set : ℕ) (o : Occurred) → (instant d t set).answer ≡ Served o → (by_call d (Instant t set) ≡ happens d t set) × (occurred d t set ≡ o)
+  happens_by : (d : State) (t set : ℕ) (o : Occurred) → (instant d t set).answer ≡ Ok o → (by_call d (Instant t set) ≡ happens d t set) × (occurred d t set ≡ o)
   unfolding by_call
   happens_by d t set o h = (by-test (eqb (refusal d t set) 0) (λ e. rw e) (λ e. absurd (not_served e)), served_so d t set o h)
     where
       not_served : eqb (refusal d t set) 0 ≡ false → ⊥
-      not_served e = let z : Refused (refusal d t set) ≡ Served o = sym (refused_answer d t set e) ∙ h in let y : ◌≡◌ {A = ℕ} 0 1 = cc in omega arith
+      not_served e = let z : Err (refusal d t set) ≡ Ok o = sym (refused_answer d t set e) ∙ h in let y : ◌≡◌ {A = ℕ} 0 1 = cc in omega arith
 
   -- the state that the calls left has the table that it was opened with, whose spacings are none of 0 ticks, and the history's last release
   module _ (d : State) (cs : List Call) (unheld : member n d.waiting.tasks ≡ false) (table : Table) (some : member n table.spaced ≡ true → 1 ≤ spacing table.columns n)
@@ -294,13 +294,13 @@ module _ (n : ℕ) (small : n < 32) where
         (is_sooner t (spacing table.columns n) x.1.0 (last_released n H) (some x.0) x.1.1 x.1.2)
 
     -- and what waits
-    waits_b : member n At-b.waiting.tasks ≡ stands n (waiting n Never H)
+    waits_b : member n At-b.waiting.tasks ≡ stands n (waiting n None H)
     waits_b = ap (λ (w : WaitingReleases). member n w.tasks) (waiting_b G t) ∙ sym (waits_in_state d cs unheld)
 
-    from : member n (taken_at G t set) ≡ true → (member n set ≡ true) ⊎ ((u : ℕ) × (waiting n Never H ≡ Tick u))
+    from : member n (taken_at G t set) ≡ true → (member n set ≡ true) ⊎ ((u : ℕ) × (waiting n None H ≡ Some u))
     unfolding taken_at
     from m =
-        ⊎_elim (λ w. inr (some_held n (waiting n Never H) (sym waits_b ∙ w))) (λ s. inl (passing_from At-b t set n s)) (taken_from At-b (passed G t set) n m)
+        ⊎_elim (λ w. inr (some_held n (waiting n None H) (sym waits_b ∙ w))) (λ s. inl (passing_from At-b t set n s)) (taken_from At-b (passed G t set) n m)
 
     -- what passes and is skipped stands behind one that waits and is not taken
     behind : is_skipped (member n At-b.jobs.pending) (member n At-b.waiting.tasks) (member n (passed G t set)) ≡ true
@@ -309,7 +309,7 @@ module _ (n : ℕ) (small : n < 32) where
     behind m =
         let z = go (member n At-b.jobs.pending) (member n At-b.waiting.tasks) (member n (passed G t set)) m in (
           passing_from At-b t set n z.0,
-          (some_held n (waiting n Never H) (sym waits_b ∙ z.1), none_taken G t set (taken_member At-b (passed G t set) n small ∙ z.2)),
+          (some_held n (waiting n None H) (sym waits_b ∙ z.1), none_taken G t set (taken_member At-b (passed G t set) n small ∙ z.2)),
         )
       where
         go : (p w s : Bool) → is_skipped p w s ≡ true → (s ≡ true) × (w ≡ true) × (is_taken p w s ≡ false)
@@ -339,7 +339,7 @@ module _ (n : ℕ) (small : n < 32) where
         (λ y. untaken (taken_member At-b (passed G t set) n small ∙ rw (passing_member At-b t set n small, s) y)))
       where
         untaken : member n (taken_at (after_calls d cs) t set) ≡ true → ⊥
-        untaken y = let z : Tick t ≡ Never = sym (some_taken G t set y) ∙ x.1 in let q : ◌≡◌ {A = ℕ} 0 1 = cc in omega arith
+        untaken y = let z : Some t ≡ None = sym (some_taken G t set y) ∙ x.1 in let q : ◌≡◌ {A = ℕ} 0 1 = cc in omega arith
 
         go : (p w soon : Bool) → w ≡ true → (is_taken p w (not soon) ≡ true → ⊥) → (soon || is_skipped p w (not soon)) ≡ true
         go p w true e f = refl
@@ -348,13 +348,13 @@ module _ (n : ℕ) (small : n < 32) where
         go false true false e f = absurd (f refl)
         go false false false e f = absurd (false≢true e)
 
-    pub placed : (o : Occurred) → (instant (after_calls d cs) t set).answer ≡ Served o
+    pub placed : (o : Occurred) → (instant (after_calls d cs) t set).answer ≡ Ok o
         → Placed n table t set o.skipped (history d cs) (by_call (after_calls d cs) (Instant t set))
     placed o h =
         let s : (by_call G (Instant t set) ≡ happens G t set) × (occurred G t set ≡ o) = happens_by G t set o h in
         subst (Placed n table t set o.skipped H) (sym s.0)
         (subst (λ (x : Occurred). Placed n table t set x.skipped H (happens G t set)) s.1 (unfold occurred in record {
-          taken_from = λ u x. by-test (member n (taken_at G t set)) (λ m. from m) (λ m. absurd (let z : Never ≡ Tick u = sym (none_taken G t set m) ∙ x in let y : ◌≡◌ {A = ℕ} 0 1 = cc in omega arith));
+          taken_from = λ u x. by-test (member n (taken_at G t set)) (λ m. from m) (λ m. absurd (let z : None ≡ Some u = sym (none_taken G t set m) ∙ x in let y : ◌≡◌ {A = ℕ} 0 1 = cc in omega arith));
           skipped_by = skipped_so;
           sooner_skipped = soon_skipped;
           behind_skipped = behind_skipped;

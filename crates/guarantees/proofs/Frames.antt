@@ -1,7 +1,7 @@
 -- The steps leave the table and the marks, and the clock at the instant's time; steps a and c alone change what is pending, and step c alone what
 -- waits and the release times.
 use Rattle.std.proofs.Common.{◌≡◌}
-use Rattle.guarantees.specs.Types.{refl, ap, ◌∙◌, List, ℕ, Table, WaitingReleases, Clock, At, MaybeTask, NoTask, Task, Interval, Phase, Between, Within, State, Stage}
+use Rattle.guarantees.specs.Types.{refl, ap, ◌∙◌, List, ℕ, Table, WaitingReleases, Clock, At, Option, None, Some, Interval, Phase, Between, Within, State, Stage}
 use Rattle.sets.specs.Sets.{union}
 use Rattle.rules.specs.Instant.{step_a, step_b, step_c, step_d, step_e, step_g, without_done, after_done, close, cancel, choose, begin, at_a, at_b, at_e, at_f, at_g, taken_at, deferred_at, fresh_stage}
 use Rattle.rules.specs.With.{at_clock}
@@ -37,10 +37,10 @@ pub d_frame : (d : State) (taken : ℕ) → frame (step_d d taken d.phase) ≡ f
 unfolding cancel
 d_frame d taken = d_cases (λ x. frame x ≡ frame d) d taken refl (λ i n u e s b. refl)
 
-choose_frame : (d : State) (t : ℕ) (i : Interval) (q : MaybeTask) → frame (choose d t i q) ≡ frame d
+choose_frame : (d : State) (t : ℕ) (i : Interval) (q : Option ℕ) → frame (choose d t i q) ≡ frame d
 unfolding choose
-choose_frame d t i NoTask = refl
-choose_frame d t i (Task q) = refl
+choose_frame d t i None = refl
+choose_frame d t i (Some q) = refl
 
 pub e_frame : (d : State) (t : ℕ) → frame (step_e d t d.phase) ≡ frame d
 e_frame d t = e_cases (λ x. frame x ≡ frame d) d t refl (λ i e s u. choose_frame d t i (highest_of d d.jobs.ready))

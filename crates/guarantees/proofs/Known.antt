@@ -1,6 +1,6 @@
 -- Every task that is taken, executed, copied out or completed in a history is one of the table's.
 use Rattle.std.proofs.Common.{◌≡◌, ◌∷◌, ◌++◌}
-use Rattle.guarantees.specs.Types.{true, List, [], sym, subst, ℕ, Table, MaybeTask, NoTask, Task, Processor, Idle, CopyingIn, Executing, Finished, CopyOut, NoCopyOut, CopyingOut, CopiedOut, Phase, Between, Within, State, Call}
+use Rattle.guarantees.specs.Types.{true, List, [], sym, subst, ℕ, Table, Option, None, Some, Processor, Idle, CopyingIn, Executing, Finished, CopyOut, NoCopyOut, CopyingOut, CopiedOut, Phase, Between, Within, State, Call}
 use lib.Dec.{eqb}
 use Rattle.sets.specs.Sets.{member}
 use Rattle.sets.proofs.Laws.{by-test}
@@ -17,9 +17,9 @@ use Rattle.guarantees.proofs.Invariant.{Good, good_next, good_quiet}
 use Rattle.guarantees.specs.States.{set_known, processor_known, copyout_known, phase_known}
 
 module _ (present : ℕ) where
-  abbrev pub KnownTask : MaybeTask → Type 0
-  KnownTask NoTask = Unit {0}
-  KnownTask (Task n) = member n present ≡ true
+  abbrev pub KnownTask : Option ℕ → Type 0
+  KnownTask None = Unit {0}
+  KnownTask (Some n) = member n present ≡ true
 
   abbrev pub KnownIn : Event → Type 0
   KnownIn (Comes t) = Unit {0}
@@ -39,7 +39,7 @@ module _ (present : ℕ) where
 
   -- ---- what a history with known tasks says of a release
 
-  pub begins_known : (before after : List Event) (t : ℕ) (r l : MaybeTask) → AllKnown (before ++ (Begins t r l ∷ after)) → KnownTask r × KnownTask l
+  pub begins_known : (before after : List Event) (t : ℕ) (r l : Option ℕ) → AllKnown (before ++ (Begins t r l ∷ after)) → KnownTask r × KnownTask l
   unfolding AllKnown
   begins_known [] after t r l h = h.0
   begins_known (e ∷ es) after t r l h = begins_known es after t r l h.1

@@ -1,6 +1,6 @@
 -- What a state knows of the last job of a task is what the walk of Tally finds, and each step keeps that.
 use Rattle.std.proofs.Common.{◌≡◌, ◌&&◌, ◌||◌, ◌∷◌, ◌++◌, ◌⊎◌, ◌+◌, ◌^◌, ◌≤◌, ◌<◌}
-use Rattle.guarantees.specs.Types.{refl, sym, ap, ◌∙◌, subst, Bool, true, false, cond, false≢true, List, [], inl, inr, ⊎_elim, ℕ, min, Table, WaitingReleases, MaybeTask, NoTask, Task, Processor, Idle, CopyingIn, Executing, Finished, CopyOut, NoCopyOut, CopyingOut, CopiedOut, CopyIn, Unchosen, NoneChosen, Copying, Loaded, Cancelled, Interval, Next, NoneNext, LoadedNext, PromotedNext, Outgoing, NoneOutgoing, AwaitsCopyOut, Phase, Between, Within, State, Stage, Due, Never, Tick}
+use Rattle.guarantees.specs.Types.{refl, sym, ap, ◌∙◌, subst, Bool, true, false, cond, false≢true, List, [], inl, inr, ⊎_elim, ℕ, min, Table, WaitingReleases, Option, None, Some, Processor, Idle, CopyingIn, Executing, Finished, CopyOut, NoCopyOut, CopyingOut, CopiedOut, CopyIn, Unchosen, NoneChosen, Copying, Loaded, Cancelled, Interval, Next, NoneNext, LoadedNext, PromotedNext, Outgoing, NoneOutgoing, AwaitsCopyOut, Phase, Between, Within, State, Stage}
 use native.Mathlib.Omega.{arith}
 use native.Mathlib.Nat.{add-zero, zero-add}
 use borrow.Author.Tests.{eqb-true, ne_eqb, le-ltb}
@@ -29,13 +29,13 @@ use Rattle.guarantees.proofs.Tallies.{counted_length, counted_exact, stamped_len
 -- ---- how many intervals are lower
 
 module _ (pr : List ℕ) (n : ℕ) where
-  lower_more : (w : List MaybeTask) (r : MaybeTask) → lower_in pr n (w ++ (r ∷ [])) ≡ lower_in pr n w + cond (is_lower pr n r) 1 0
+  lower_more : (w : List (Option ℕ)) (r : Option ℕ) → lower_in pr n (w ++ (r ∷ [])) ≡ lower_in pr n w + cond (is_lower pr n r) 1 0
   unfolding lower_in
   lower_more [] r = omega arith
   lower_more (q ∷ w) r = omega (arith, lower_more w r)
 
   -- none is lower than itself
-  pub not_itself : (m : ℕ) → eqb n m ≡ true → is_lower pr n (Task m) ≡ false
+  pub not_itself : (m : ℕ) → eqb n m ≡ true → is_lower pr n (Some m) ≡ false
   not_itself m e = subst (λ (k : ℕ). ltb (get_or pr n 0) (get_or pr k 0) ≡ false) (eqb-true n m e) (le-ltb (get_or pr n 0) (get_or pr n 0) (omega arith))
 
 -- ---- what a state knows of a task's last job
@@ -47,43 +47,43 @@ module _ (pr : List ℕ) (n : ℕ) (small : n < 32) where
   low (In r) = cond (is_lower pr n r) 1 0
 
   -- it is executed, is copied out, or waits for that, and its execution has started at a tick or not yet
-  abbrev pub InProcessor : Due → Processor → Type 0
+  abbrev pub InProcessor : Option ℕ → Processor → Type 0
   InProcessor s Idle = ⊥
-  InProcessor s (CopyingIn m until) = (eqb n m ≡ true) × (s ≡ Never)
-  InProcessor s (Executing m start until) = (eqb n m ≡ true) × (s ≡ Tick start)
-  InProcessor s (Finished m start) = (eqb n m ≡ true) × (s ≡ Tick start)
+  InProcessor s (CopyingIn m until) = (eqb n m ≡ true) × (s ≡ None)
+  InProcessor s (Executing m start until) = (eqb n m ≡ true) × (s ≡ Some start)
+  InProcessor s (Finished m start) = (eqb n m ≡ true) × (s ≡ Some start)
 
-  abbrev pub InCopyOut : Due → CopyOut → Type 0
+  abbrev pub InCopyOut : Option ℕ → CopyOut → Type 0
   InCopyOut s NoCopyOut = ⊥
-  InCopyOut s (CopyingOut m start until) = (eqb n m ≡ true) × (s ≡ Tick start)
+  InCopyOut s (CopyingOut m start until) = (eqb n m ≡ true) × (s ≡ Some start)
   InCopyOut s (CopiedOut m) = ⊥
 
-  abbrev pub InOutgoing : Due → Outgoing → Type 0
+  abbrev pub InOutgoing : Option ℕ → Outgoing → Type 0
   InOutgoing s NoneOutgoing = ⊥
-  InOutgoing s (AwaitsCopyOut m start) = (eqb n m ≡ true) × (s ≡ Tick start)
+  InOutgoing s (AwaitsCopyOut m start) = (eqb n m ≡ true) × (s ≡ Some start)
 
-  abbrev pub RunsAt : Due → Phase → Type 0
+  abbrev pub RunsAt : Option ℕ → Phase → Type 0
   RunsAt s (Between next outgoing) = InOutgoing s outgoing
   RunsAt s (Within i) = InProcessor s i.processor ⊎ InCopyOut s i.copyout
 
   -- a job that awaits execution: its count is of all intervals but the open one
   pub record Awaiting (x : Tally) (d : State) : Type 0 where
-    pub release : x.release ≡ Tick (get_or d.jobs.release n 0)
+    pub release : x.release ≡ Some (get_or d.jobs.release n 0)
     pub unexecuted : x.executed ≡ false
     pub count : get_or d.jobs.blocked n 0 + low (place d.phase) ≡ lower_in pr n x.waits
-    pub unstarted : x.started ≡ Never
+    pub unstarted : x.started ≡ None
 
   -- one that is executed, or was: its count is of all
-  pub record Ran (x : Tally) (s : Due) (d : State) : Type 0 where
-    pub release : x.release ≡ Tick (get_or d.jobs.release n 0)
+  pub record Ran (x : Tally) (s : Option ℕ) (d : State) : Type 0 where
+    pub release : x.release ≡ Some (get_or d.jobs.release n 0)
     pub executed : x.executed ≡ true
     pub count : get_or d.jobs.blocked n 0 ≡ lower_in pr n x.waits
     pub started : x.started ≡ s
 
   -- the release that waits
-  pub record HoldsWaiting (h : Due) (w : WaitingReleases) : Type 0 where
+  pub record HoldsWaiting (h : Option ℕ) (w : WaitingReleases) : Type 0 where
     pub times : n < length w.times
-    pub is : h ≡ cond (member n w.tasks) (Tick (get_or w.times n 0)) Never
+    pub is : h ≡ cond (member n w.tasks) (Some (get_or w.times n 0)) None
 
   pub record Knows (x : Tally) (d : State) : Type 0 where
     pub table : d.table.priority ≡ pr
@@ -92,7 +92,7 @@ module _ (pr : List ℕ) (n : ℕ) (small : n < 32) where
     pub counts : n < length d.jobs.blocked
     pub holds : HoldsWaiting x.held d.waiting
     pub awaits : AwaitsIn pr n small d → Awaiting x d
-    pub runs : (s : Due) → RunsAt s d.phase → Ran x s d
+    pub runs : (s : Option ℕ) → RunsAt s d.phase → Ran x s d
 
   -- ---- a step that changes none of it but what waits
 
@@ -102,9 +102,9 @@ module _ (pr : List ℕ) (n : ℕ) (small : n < 32) where
     releases : length g.jobs.release ≡ length d.jobs.release
     counts : length g.jobs.blocked ≡ length d.jobs.blocked
     at : situation_of g.phase ≡ situation_of d.phase
-    runs : (s : Due) → RunsAt s g.phase → RunsAt s d.phase
+    runs : (s : Option ℕ) → RunsAt s g.phase → RunsAt s d.phase
 
-  alike_knows : (d g : State) (x : Tally) (h : Due) → Alike d g → HoldsWaiting h g.waiting → Knows x d → Knows (with_held n x h) g
+  alike_knows : (d g : State) (x : Tally) (h : Option ℕ) → Alike d g → HoldsWaiting h g.waiting → Knows x d → Knows (with_held n x h) g
   alike_knows d g x h l z k = record {
     table = l.like.table ∙ k.table;
     at = k.at ∙ sym l.at;
@@ -114,14 +114,14 @@ module _ (pr : List ℕ) (n : ℕ) (small : n < 32) where
     awaits = λ w.
         let a : Awaiting x d = k.awaits (l.like.awaits w) in
         record {
-          release = a.release ∙ ap Tick (sym l.release);
+          release = a.release ∙ ap Some (sym l.release);
           unexecuted = a.unexecuted;
           count = omega (arith, a.count, l.like.count, ap low l.like.place);
           unstarted = a.unstarted;
         };
     runs = λ s r.
         let a : Ran x s d = k.runs s (l.runs s r) in
-        record { release = a.release ∙ ap Tick (sym l.release); executed = a.executed; count = l.like.count ∙ a.count; started = a.started };
+        record { release = a.release ∙ ap Some (sym l.release); executed = a.executed; count = l.like.count ∙ a.count; started = a.started };
   }
 
   -- d
@@ -141,15 +141,15 @@ module _ (pr : List ℕ) (n : ℕ) (small : n < 32) where
       alike_knows d (step_d d taken d.phase) x x.held (d_alike taken d) (subst (HoldsWaiting x.held) (sym (ap (λ (y : Frame). y.waiting) (d_frame d taken))) k.holds) k
 
   -- e
-  choose_same : (d : State) (t : ℕ) (i : Interval) (q : MaybeTask) → ((choose d t i q).jobs.release ≡ d.jobs.release) × ((choose d t i q).jobs.blocked ≡ d.jobs.blocked)
+  choose_same : (d : State) (t : ℕ) (i : Interval) (q : Option ℕ) → ((choose d t i q).jobs.release ≡ d.jobs.release) × ((choose d t i q).jobs.blocked ≡ d.jobs.blocked)
   unfolding choose
-  choose_same d t i NoTask = (refl, refl)
-  choose_same d t i (Task q) = (refl, refl)
+  choose_same d t i None = (refl, refl)
+  choose_same d t i (Some q) = (refl, refl)
 
-  choose_runs : (d : State) (t : ℕ) (i : Interval) (q : MaybeTask) (s : Due) → RunsAt s (choose d t i q).phase → RunsAt s (Within i)
+  choose_runs : (d : State) (t : ℕ) (i : Interval) (q : Option ℕ) (s : Option ℕ) → RunsAt s (choose d t i q).phase → RunsAt s (Within i)
   unfolding choose
-  choose_runs d t i NoTask s r = r
-  choose_runs d t i (Task q) s r = r
+  choose_runs d t i None s r = r
+  choose_runs d t i (Some q) s r = r
 
   e_alike : (t : ℕ) (d : State) → Alike d (step_e d t d.phase)
   e_alike t d = record {
@@ -172,11 +172,11 @@ module _ (pr : List ℕ) (n : ℕ) (small : n < 32) where
   -- ---- a
 
   -- the start of an execution that has started stays
-  start_stays : (t : ℕ) (q : Processor) (a : ℕ) → started_after n t q (Tick a) ≡ Tick a
+  start_stays : (t : ℕ) (q : Processor) (a : ℕ) → started_after n t q (Some a) ≡ Some a
   start_stays t Idle a = refl
   start_stays t (CopyingIn m until) a = go (eqb until t) (eqb n m)
     where
-      go : (b c : Bool) → cond b (cond c (Tick a) (Tick a)) (Tick a) ≡ Tick a
+      go : (b c : Bool) → cond b (cond c (Some a) (Some a)) (Some a) ≡ Some a
       go true true = refl
       go true false = refl
       go false c = refl
@@ -184,46 +184,46 @@ module _ (pr : List ℕ) (n : ℕ) (small : n < 32) where
   start_stays t (Finished m start) a = refl
 
   -- and none of a job starts that is not copied in
-  no_start : (t : ℕ) (q : Processor) (s : Due) → (InProcessor Never q → ⊥) → started_after n t q s ≡ s
+  no_start : (t : ℕ) (q : Processor) (s : Option ℕ) → (InProcessor None q → ⊥) → started_after n t q s ≡ s
   no_start t Idle s f = refl
   no_start t (CopyingIn m until) s f = go (eqb until t) (eqb n m) refl
     where
-      go : (b c : Bool) → eqb n m ≡ c → cond b (cond c (or_else s (Tick t)) s) s ≡ s
+      go : (b c : Bool) → eqb n m ≡ c → cond b (cond c (or_else s (Some t)) s) s ≡ s
       go true true e = absurd (f (e, refl))
       go true false e = refl
       go false c e = refl
   no_start t (Executing m start until) s f = refl
   no_start t (Finished m start) s f = refl
 
-  in_copyout_tick : (s : Due) (o : CopyOut) → InCopyOut s o → (a : ℕ) × (s ≡ Tick a)
+  in_copyout_tick : (s : Option ℕ) (o : CopyOut) → InCopyOut s o → (a : ℕ) × (s ≡ Some a)
   in_copyout_tick s NoCopyOut r = absurd r
   in_copyout_tick s (CopyingOut m start until) r = (start, r.1)
   in_copyout_tick s (CopiedOut m) r = absurd r
 
-  a_copyout : (t : ℕ) (s : Due) (o : CopyOut) → InCopyOut s (copyout_at t o) → InCopyOut s o
+  a_copyout : (t : ℕ) (s : Option ℕ) (o : CopyOut) → InCopyOut s (copyout_at t o) → InCopyOut s o
   unfolding copyout_at
   a_copyout t s NoCopyOut r = r
   a_copyout t s (CopyingOut m start until) r = go (eqb until t) r
     where
-      go : (b : Bool) → InCopyOut s (cond b (CopiedOut m) (CopyingOut m start until)) → (eqb n m ≡ true) × (s ≡ Tick start)
+      go : (b : Bool) → InCopyOut s (cond b (CopiedOut m) (CopyingOut m start until)) → (eqb n m ≡ true) × (s ≡ Some start)
       go true r = absurd r
       go false r = r
   a_copyout t s (CopiedOut m) r = r
 
   -- what the processor's step makes of the start
-  a_processor : (table : Table) (t : ℕ) (q : Processor) (x : Tally) (s : Due) → ((s : Due) → InProcessor s q → x.started ≡ s)
-      → InProcessor s (processor_at table t q) → ((s' : Due) × InProcessor s' q) × (started_after n t q x.started ≡ s)
+  a_processor : (table : Table) (t : ℕ) (q : Processor) (x : Tally) (s : Option ℕ) → ((s : Option ℕ) → InProcessor s q → x.started ≡ s)
+      → InProcessor s (processor_at table t q) → ((s' : Option ℕ) × InProcessor s' q) × (started_after n t q x.started ≡ s)
   unfolding processor_at
   a_processor table t Idle x s k r = absurd r
   a_processor table t (CopyingIn m until) x s k r = go (eqb until t) r
     where
       go : (b : Bool) → InProcessor s (cond b (Executing m t (later t (execution_length table.columns m))) (CopyingIn m until))
-          → ((s' : Due) × InProcessor s' (CopyingIn m until)) × (cond b (cond (eqb n m) (or_else x.started (Tick t)) x.started) x.started ≡ s)
-      go true r = ((Never, (r.0, refl)), rw (r.0, k Never (r.0, refl)) (sym r.1))
+          → ((s' : Option ℕ) × InProcessor s' (CopyingIn m until)) × (cond b (cond (eqb n m) (or_else x.started (Some t)) x.started) x.started ≡ s)
+      go true r = ((None, (r.0, refl)), rw (r.0, k None (r.0, refl)) (sym r.1))
       go false r = ((s, r), k s r)
   a_processor table t (Executing m start until) x s k r = go (eqb until t) r
     where
-      go : (b : Bool) → InProcessor s (cond b (Finished m start) (Executing m start until)) → ((s' : Due) × InProcessor s' (Executing m start until)) × (x.started ≡ s)
+      go : (b : Bool) → InProcessor s (cond b (Finished m start) (Executing m start until)) → ((s' : Option ℕ) × InProcessor s' (Executing m start until)) × (x.started ≡ s)
       go true r = ((s, r), k s r)
       go false r = ((s, r), k s r)
   a_processor table t (Finished m start) x s k r = ((s, r), k s r)
@@ -247,19 +247,19 @@ module _ (pr : List ℕ) (n : ℕ) (small : n < 32) where
           unexecuted = a.unexecuted;
           count = omega (arith, a.count, ap low l.place);
           unstarted =
-              no_start t i.processor x.started (λ r. clash x.executed (ran Never (inl r)).executed a.unexecuted) ∙ a.unstarted;
+              no_start t i.processor x.started (λ r. clash x.executed (ran None (inl r)).executed a.unexecuted) ∙ a.unstarted;
         };
     runs = λ s r.
         ⊎_elim
         (λ y.
-        let z : ((s' : Due) × InProcessor s' i.processor) × (started_after n t i.processor x.started ≡ s) =
+        let z : ((s' : Option ℕ) × InProcessor s' i.processor) × (started_after n t i.processor x.started ≡ s) =
         a_processor d.table t i.processor x s (λ s' r'. (ran s' (inl r')).started) y in
         let a : Ran x z.0.0 d = ran z.0.0 (inl z.0.1) in
         record { release = a.release; executed = a.executed; count = a.count; started = z.1 })
         (λ y.
         let y' : InCopyOut s i.copyout = a_copyout t s i.copyout y in
         let a : Ran x s d = ran s (inr y') in
-        let z : (b : ℕ) × (s ≡ Tick b) = in_copyout_tick s i.copyout y' in
+        let z : (b : ℕ) × (s ≡ Some b) = in_copyout_tick s i.copyout y' in
         record {
           release = a.release;
           executed = a.executed;
@@ -269,7 +269,7 @@ module _ (pr : List ℕ) (n : ℕ) (small : n < 32) where
         r;
   }
     where
-      ran : (s : Due) → RunsAt s (Within i) → Ran x s d
+      ran : (s : Option ℕ) → RunsAt s (Within i) → Ran x s d
       ran s r = k.runs s (subst (RunsAt s) (sym e) r)
 
   pub a_knows : (d : State) (t : ℕ) (p : Phase) (x : Tally) → d.phase ≡ p → Knows x d
@@ -299,14 +299,14 @@ module _ (pr : List ℕ) (n : ℕ) (small : n < 32) where
   awaits_in ready (Loaded m) h w = ⊎_elim (λ y. insert_other m ready n small y) (λ e. insert_same m ready n small e) w
   awaits_in ready (Cancelled m fate) h w = ⊎_elim (λ m. m) (λ e. absurd (false≢true e)) w
 
-  pub higher_is : (d : State) (s : ℕ) (r : MaybeTask) → d.table.priority ≡ pr → member n (higher d r s) ≡ (member n s && is_lower pr n r)
+  pub higher_is : (d : State) (s : ℕ) (r : Option ℕ) → d.table.priority ≡ pr → member n (higher d r s) ≡ (member n s && is_lower pr n r)
   unfolding higher_than
-  higher_is d s NoTask e = none n ∙ go (member n s)
+  higher_is d s None e = none n ∙ go (member n s)
     where
       go : (b : Bool) → false ≡ (b && false)
       go true = refl
       go false = refl
-  higher_is d s (Task m) e =
+  higher_is d s (Some m) e =
       collected (λ k. member k s && ltb (get_or d.table.priority k 0) (get_or d.table.priority m 0)) n small
       ∙ ap (λ (p : List ℕ). member n s && ltb (get_or p n 0) (get_or p m 0)) e
 
@@ -329,7 +329,7 @@ module _ (pr : List ℕ) (n : ℕ) (small : n < 32) where
   blocks_is d i e = higher_is d (awaiting_execution i.copyin d.jobs.ready) (processor_task i.processor) e
 
   -- a job that leaves the processor
-  leaves : (s : Due) (q : Processor) → InOutgoing s (awaiting_copyout q) → InProcessor s q × (is_lower pr n (processor_task q) ≡ false)
+  leaves : (s : Option ℕ) (q : Processor) → InOutgoing s (awaiting_copyout q) → InProcessor s q × (is_lower pr n (processor_task q) ≡ false)
   leaves s Idle r = absurd r
   leaves s (CopyingIn m until) r = absurd r
   leaves s (Executing m start until) r = absurd r
@@ -352,7 +352,7 @@ module _ (pr : List ℕ) (n : ℕ) (small : n < 32) where
         omega (arith, close_count d i k.counts b.most, ap {B = ℕ} (λ (y : Bool). cond y 1 0) l, a.count, ap (λ (p : Phase). low (place p)) e) in
         record { release = a.release; unexecuted = a.unexecuted; count = add-zero (get_or (close d i).jobs.blocked n 0) ∙ c; unstarted = a.unstarted }
 
-    close_ran : (s : Due) → RunsAt s (close d i).phase → Ran (tally_by n x (Ends t)) s (close d i)
+    close_ran : (s : Option ℕ) → RunsAt s (close d i).phase → Ran (tally_by n x (Ends t)) s (close d i)
     unfolding close
     close_ran s r =
         let z : InProcessor s i.processor × (is_lower pr n (processor_task i.processor) ≡ false) = leaves s i.processor r in
@@ -390,26 +390,26 @@ module _ (pr : List ℕ) (n : ℕ) (small : n < 32) where
 
   -- ---- c
 
-  processor_staged : (s : Due) (q : Processor) → InProcessor s q → 1 ≤ processor_bit n q
+  processor_staged : (s : Option ℕ) (q : Processor) → InProcessor s q → 1 ≤ processor_bit n q
   processor_staged s Idle r = absurd r
   processor_staged s (CopyingIn m until) r = rw r.0 (omega arith)
   processor_staged s (Executing m start until) r = rw r.0 (omega arith)
   processor_staged s (Finished m start) r = rw r.0 (omega arith)
 
-  copyout_staged : (s : Due) (o : CopyOut) → InCopyOut s o → 1 ≤ copyout_bit n o
+  copyout_staged : (s : Option ℕ) (o : CopyOut) → InCopyOut s o → 1 ≤ copyout_bit n o
   copyout_staged s NoCopyOut r = absurd r
   copyout_staged s (CopyingOut m start until) r = rw r.0 (omega arith)
   copyout_staged s (CopiedOut m) r = absurd r
 
-  outgoing_staged : (s : Due) (o : Outgoing) → InOutgoing s o → 1 ≤ outgoing_bit n o
+  outgoing_staged : (s : Option ℕ) (o : Outgoing) → InOutgoing s o → 1 ≤ outgoing_bit n o
   outgoing_staged s NoneOutgoing r = absurd r
   outgoing_staged s (AwaitsCopyOut m start) r = rw r.0 (omega arith)
 
-  staged : (s : Due) (p : Phase) → RunsAt s p → 1 ≤ stage n p
+  staged : (s : Option ℕ) (p : Phase) → RunsAt s p → 1 ≤ stage n p
   staged s (Between next outgoing) r = omega (arith, outgoing_staged s outgoing r)
   staged s (Within i) r = ⊎_elim (λ y. omega (arith, processor_staged s i.processor y)) (λ y. omega (arith, copyout_staged s i.copyout y)) r
 
-  c_runs : (d : State) (taken : ℕ) (s : Due) (p : Phase) → RunsAt s (with_candidates d taken p) → RunsAt s p
+  c_runs : (d : State) (taken : ℕ) (s : Option ℕ) (p : Phase) → RunsAt s (with_candidates d taken p) → RunsAt s p
   unfolding with_candidates
   c_runs d taken s (Between next outgoing) r = r
   c_runs d taken s (Within i) r = r
@@ -420,15 +420,15 @@ module _ (pr : List ℕ) (n : ℕ) (small : n < 32) where
   first_low (Within i) = omega arith
 
   abbrev fresh : ℕ → Tally → Tally
-  fresh t x = record { at = x.at; held = Never; release = Tick (original x.held t); waits = first_of x.at; executed = false; started = Never }
+  fresh t x = record { at = x.at; held = None; release = Some (original x.held t); waits = first_of x.at; executed = false; started = None }
 
   is_fresh : (t : ℕ) (m : Bool) (x : Tally) → tally_by n x (Takes n t m) ≡ fresh t x
   is_fresh t m x = rw (same_task n)
 
   module _ (d : State) (t taken deferred : ℕ) (x : Tally) (k : Knows x d) where
     -- the tick of the release that waits then
-    abbrev held_c : Due
-    held_c = cond (member n deferred) (Tick t) (cond (member n taken) Never x.held)
+    abbrev held_c : Option ℕ
+    held_c = cond (member n deferred) (Some t) (cond (member n taken) None x.held)
 
     c_holds : HoldsWaiting held_c (step_c d t taken deferred).waiting
     unfolding step_c
@@ -443,7 +443,7 @@ module _ (pr : List ℕ) (n : ℕ) (small : n < 32) where
           (held_is (member n taken) (member n deferred) (member n d.waiting.tasks) (get_or d.waiting.times n 0) t x.held k.holds.is);
     }
 
-    c_taken : member n taken ≡ true → ((s : Due) → RunsAt s d.phase → ⊥) → Knows (with_held n (fresh t x) held_c) (step_c d t taken deferred)
+    c_taken : member n taken ≡ true → ((s : Option ℕ) → RunsAt s d.phase → ⊥) → Knows (with_held n (fresh t x) held_c) (step_c d t taken deferred)
     unfolding step_c
     c_taken m f = record {
       table = k.table;
@@ -453,7 +453,7 @@ module _ (pr : List ℕ) (n : ℕ) (small : n < 32) where
       holds = c_holds;
       awaits = λ w. record {
         release =
-            ap Tick (original_is (member n d.waiting.tasks) (get_or d.waiting.times n 0) t x.held k.holds.is
+            ap Some (original_is (member n d.waiting.tasks) (get_or d.waiting.times n 0) t x.held k.holds.is
             ∙ sym (stamp n taken (stamps d.waiting t) d.jobs.release k.releases ∙ ap (λ (b : Bool). cond b (stamps d.waiting t n) (get_or d.jobs.release n 0)) m));
         unexecuted = refl;
         count =
@@ -498,14 +498,14 @@ module _ (pr : List ℕ) (n : ℕ) (small : n < 32) where
       (λ m.
       subst (λ (y : Tally). Knows y (step_c d t taken deferred))
       (sym (ap (λ (y : Tally). tally n y (defer_events 32 deferred t)) (takes_this n 32 taken marks t x small m ∙ is_fresh t (member n marks) x)
-      ∙ defers_tally n small deferred t (fresh t x) ∙ ap (λ (b : Bool). with_held n (fresh t x) (cond (member n deferred) (Tick t) (cond b Never x.held))) (sym m)))
+      ∙ defers_tally n small deferred t (fresh t x) ∙ ap (λ (b : Bool). with_held n (fresh t x) (cond (member n deferred) (Some t) (cond b None x.held))) (sym m)))
       (c_taken d t taken deferred x k m
       (λ s r. let z : bit (member n d.jobs.pending) ≡ 0 = rw (f n m) in omega (arith, h.parts n small, staged s d.phase r))))
       (λ m.
       subst (λ (y : Tally). Knows y (step_c d t taken deferred))
       (sym (ap (λ (y : Tally). tally n y (defer_events 32 deferred t))
       (takes_others n 32 taken marks t x (λ j l y. ne_eqb n j (λ e. clash (member n taken) (ap (λ (i : ℕ). member i taken) e ∙ y) m)))
-      ∙ defers_tally n small deferred t x ∙ ap (λ (b : Bool). with_held n x (cond (member n deferred) (Tick t) (cond b Never x.held))) (sym m)))
+      ∙ defers_tally n small deferred t x ∙ ap (λ (b : Bool). with_held n x (cond (member n deferred) (Some t) (cond b None x.held))) (sym m)))
       (c_other d t taken deferred x k m))
 
   -- ---- g
@@ -527,35 +527,35 @@ module _ (pr : List ℕ) (n : ℕ) (small : n < 32) where
   most_one true = omega arith
   most_one false = omega arith
 
-  next_stays : (t : ℕ) (next : Next) (a : ℕ) → started_next n t next (Tick a) ≡ Tick a
+  next_stays : (t : ℕ) (next : Next) (a : ℕ) → started_next n t next (Some a) ≡ Some a
   next_stays t NoneNext a = refl
   next_stays t (LoadedNext m) a = go (eqb n m)
     where
-      go : (b : Bool) → cond b (Tick a) (Tick a) ≡ Tick a
+      go : (b : Bool) → cond b (Some a) (Some a) ≡ Some a
       go true = refl
       go false = refl
   next_stays t (PromotedNext m) a = refl
 
-  next_none : (t : ℕ) (next : Next) (s : Due) → is_task n (next_task next) ≡ false → started_next n t next s ≡ s
+  next_none : (t : ℕ) (next : Next) (s : Option ℕ) → is_task n (next_task next) ≡ false → started_next n t next s ≡ s
   next_none t NoneNext s e = refl
   next_none t (LoadedNext m) s e = rw e
   next_none t (PromotedNext m) s e = refl
 
   -- an interval that executes the job begins
-  begin_runs : (table : Table) (t : ℕ) (next : Next) (x : Tally) (s : Due) → InProcessor s (begin_processor table t next)
-      → (is_task n (next_task next) ≡ true) × (x.started ≡ Never → started_next n t next x.started ≡ s)
+  begin_runs : (table : Table) (t : ℕ) (next : Next) (x : Tally) (s : Option ℕ) → InProcessor s (begin_processor table t next)
+      → (is_task n (next_task next) ≡ true) × (x.started ≡ None → started_next n t next x.started ≡ s)
   begin_runs table t NoneNext x s r = absurd r
   begin_runs table t (LoadedNext m) x s r = (r.0, λ z. rw (r.0, z) (sym r.1))
   begin_runs table t (PromotedNext m) x s r = (r.0, λ z. z ∙ sym r.1)
 
-  begin_copies : (table : Table) (t : ℕ) (outgoing : Outgoing) (s : Due) → InCopyOut s (begin_copyout table t outgoing) → InOutgoing s outgoing × ((a : ℕ) × (s ≡ Tick a))
+  begin_copies : (table : Table) (t : ℕ) (outgoing : Outgoing) (s : Option ℕ) → InCopyOut s (begin_copyout table t outgoing) → InOutgoing s outgoing × ((a : ℕ) × (s ≡ Some a))
   begin_copies table t NoneOutgoing s r = absurd r
   begin_copies table t (AwaitsCopyOut m start) s r = (r, (start, r.1))
 
-  grows : (b c : Bool) (w : List MaybeTask) (r : MaybeTask) → b ≡ false → c ≡ false → lower_in pr n (grown b c w r) ≡ lower_in pr n w + cond (is_lower pr n r) 1 0
+  grows : (b c : Bool) (w : List (Option ℕ)) (r : Option ℕ) → b ≡ false → c ≡ false → lower_in pr n (grown b c w r) ≡ lower_in pr n w + cond (is_lower pr n r) 1 0
   grows b c w r e f = rw (e, f) (lower_more pr n w r)
 
-  grows_not : (b c : Bool) (w : List MaybeTask) (r : MaybeTask) → (b ≡ true) ⊎ (c ≡ true) → grown b c w r ≡ w
+  grows_not : (b c : Bool) (w : List (Option ℕ)) (r : Option ℕ) → (b ≡ true) ⊎ (c ≡ true) → grown b c w r ≡ w
   grows_not true c w r h = refl
   grows_not false true w r h = refl
   grows_not false false w r h = ⊎_elim (λ e. absurd (false≢true e)) (λ e. absurd (false≢true e)) h
@@ -581,7 +581,7 @@ module _ (pr : List ℕ) (n : ℕ) (small : n < 32) where
     runs = λ s r. ⊎_elim (λ y. ran s y) (λ y. copied s y) r;
   }
     where
-      r : MaybeTask
+      r : Option ℕ
       r = next_task next
 
       count_between : (c : ℕ) → get_or f.jobs.blocked n 0 + low (place f.phase) ≡ c → get_or f.jobs.blocked n 0 ≡ c
@@ -599,14 +599,14 @@ module _ (pr : List ℕ) (n : ℕ) (small : n < 32) where
                   arith,
                   count_between (lower_in pr n x.waits) a.count,
                   grows x.executed (is_task n (next_task next)) x.waits (next_task next) a.unexecuted c,
-                  ap {B = ℕ} (λ (z : MaybeTask). cond (is_lower pr n z) 1 0) (runs f.table t next),
+                  ap {B = ℕ} (λ (z : Option ℕ). cond (is_lower pr n z) 1 0) (runs f.table t next),
                 );
             unstarted = next_none t next x.started c ∙ a.unstarted;
           }
 
-      ran : (s : Due) → InProcessor s (begin_processor f.table t next) → Ran (begun n t next x) s (begin f t taken next outgoing)
+      ran : (s : Option ℕ) → InProcessor s (begin_processor f.table t next) → Ran (begun n t next x) s (begin f t taken next outgoing)
       ran s y =
-          let z : (is_task n (next_task next) ≡ true) × (x.started ≡ Never → started_next n t next x.started ≡ s) = begin_runs f.table t next x s y in
+          let z : (is_task n (next_task next) ≡ true) × (x.started ≡ None → started_next n t next x.started ≡ s) = begin_runs f.table t next x s y in
           let a : Awaiting x f = k.awaits (inr (ap (λ (p : Phase). is_task n (up_next p)) e ∙ z.0)) in
           unfold begin in record {
             release = a.release;
@@ -615,9 +615,9 @@ module _ (pr : List ℕ) (n : ℕ) (small : n < 32) where
             started = z.1 a.unstarted;
           }
 
-      copied : (s : Due) → InCopyOut s (begin_copyout f.table t outgoing) → Ran (begun n t next x) s (begin f t taken next outgoing)
+      copied : (s : Option ℕ) → InCopyOut s (begin_copyout f.table t outgoing) → Ran (begun n t next x) s (begin f t taken next outgoing)
       copied s y =
-          let z : InOutgoing s outgoing × ((a : ℕ) × (s ≡ Tick a)) = begin_copies f.table t outgoing s y in
+          let z : InOutgoing s outgoing × ((a : ℕ) × (s ≡ Some a)) = begin_copies f.table t outgoing s y in
           let a : Ran x s f = k.runs s (subst (RunsAt s) (sym e) z.0) in
           unfold begin in record {
             release = a.release;

@@ -1,7 +1,7 @@
 -- A task's last release that was taken or set waiting (8/13): what a walk along a history finds is what the state has, step c keeps that, and what
 -- passes at an instant comes at least the task's spacing after it.
 use Rattle.std.proofs.Common.{◌≡◌, ◌&&◌, ◌||◌, ◌⊎◌, ◌∷◌, ◌++◌, ◌+◌, ◌-◌, ◌≤◌, ◌<◌}
-use Rattle.guarantees.specs.Types.{refl, sym, ap, ◌∙◌, subst, Bool, true, false, cond, not, false≢true, inl, inr, ⊎_elim, List, [], ℕ, Table, WaitingReleases, State, Clock, At, Due, Never, Tick, Call}
+use Rattle.guarantees.specs.Types.{refl, sym, ap, ◌∙◌, subst, Bool, true, false, cond, not, false≢true, inl, inr, ⊎_elim, List, [], ℕ, Table, WaitingReleases, State, Clock, At, Option, None, Some, Call}
 use mathlib.Core.Path.{ap₂}
 use native.Mathlib.Omega.{arith}
 use borrow.Author.Tests.{ltb-true, ltb-false, lt-ltb}
@@ -29,19 +29,19 @@ use Rattle.guarantees.proofs.Origins.{stamp}
 -- ---- a release at t, a spacing and the last one
 
 -- one that passes comes at least the spacing after it: where there is a spacing, so that a tick before the last one is too soon
-pub passes_after : (t gap u : ℕ) (l : Due) → 1 ≤ gap → comes_sooner t gap l ≡ false → l ≡ Tick u → u + gap ≤ t
-passes_after t gap u Never some h e = absurd (let z : ◌≡◌ {A = ℕ} 0 1 = cc in omega arith)
-passes_after t gap u (Tick v) some h e = let z : v ≡ u = cc in omega (arith, ltb-false (t - v) gap h)
+pub passes_after : (t gap u : ℕ) (l : Option ℕ) → 1 ≤ gap → comes_sooner t gap l ≡ false → l ≡ Some u → u + gap ≤ t
+passes_after t gap u None some h e = absurd (let z : ◌≡◌ {A = ℕ} 0 1 = cc in omega arith)
+passes_after t gap u (Some v) some h e = let z : v ≡ u = cc in omega (arith, ltb-false (t - v) gap h)
 
 -- one that does not pass comes sooner
-pub sooner_than : (t gap : ℕ) (l : Due) → comes_sooner t gap l ≡ true → (u : ℕ) × (l ≡ Tick u) × (t < u + gap)
-sooner_than t gap Never h = absurd (false≢true h)
-sooner_than t gap (Tick u) h = (u, refl, omega (arith, ltb-true (t - u) gap h))
+pub sooner_than : (t gap : ℕ) (l : Option ℕ) → comes_sooner t gap l ≡ true → (u : ℕ) × (l ≡ Some u) × (t < u + gap)
+sooner_than t gap None h = absurd (false≢true h)
+sooner_than t gap (Some u) h = (u, refl, omega (arith, ltb-true (t - u) gap h))
 
 -- and each that does is too soon
-pub is_sooner : (t gap u : ℕ) (l : Due) → 1 ≤ gap → l ≡ Tick u → t < u + gap → comes_sooner t gap l ≡ true
-is_sooner t gap u Never some e h = absurd (let z : ◌≡◌ {A = ℕ} 0 1 = cc in omega arith)
-is_sooner t gap u (Tick v) some e h = let z : v ≡ u = cc in lt-ltb (t - v) gap (omega arith)
+pub is_sooner : (t gap u : ℕ) (l : Option ℕ) → 1 ≤ gap → l ≡ Some u → t < u + gap → comes_sooner t gap l ≡ true
+is_sooner t gap u None some e h = absurd (let z : ◌≡◌ {A = ℕ} 0 1 = cc in omega arith)
+is_sooner t gap u (Some v) some e h = let z : v ≡ u = cc in lt-ltb (t - v) gap (omega arith)
 
 module _ (n : ℕ) where
   -- ---- along a history
@@ -52,13 +52,13 @@ module _ (n : ℕ) where
 
   -- what step c makes of the last one, where one is taken (b) or not, and one is set waiting (c) or not
   abbrev taken_by : Bool → ℕ → LastRelease → LastRelease
-  taken_by b t x = cond b (record { waits = false; tick = cond x.waits x.tick (Tick t) }) x
+  taken_by b t x = cond b (record { waits = false; tick = cond x.waits x.tick (Some t) }) x
 
   abbrev then_by : Bool → Bool → ℕ → LastRelease → LastRelease
-  then_by b c t x = cond c (record { waits = true; tick = Tick t }) (taken_by b t x)
+  then_by b c t x = cond c (record { waits = true; tick = Some t }) (taken_by b t x)
 
   -- from what is known of the last one to what is known of it at the end, along events by which none comes before it may (`Passes`)
-  module _ (Passes : Due → ℕ → Type 0) (End : LastRelease → Type 0) where
+  module _ (Passes : Option ℕ → ℕ → Type 0) (End : LastRelease → Type 0) where
     unfoldable pub Apart : LastRelease → List Event → Type 0
     Apart x [] = End x
     Apart x (e ∷ es) = (Comes-now x e ≡ true → Passes x.tick (details e).tick) × Apart (last_by n x e) es
@@ -92,7 +92,7 @@ module _ (n : ℕ) where
       unfolding take_events Apart
       takes_apart taken marks t x es f h =
           at_task n taken (λ k. Takes k t (member k marks)) (λ k. take_events k taken marks t) refl (λ k. refl) Apart
-          (λ x k e es h. rw e (λ z. absurd (false≢true z), h)) x (record { waits = false; tick = cond x.waits x.tick (Tick t) })
+          (λ x k e es h. rw e (λ z. absurd (false≢true z), h)) x (record { waits = false; tick = cond x.waits x.tick (Some t) })
           (λ m es h. rw (same_task n) (λ z. f m (not_so x.waits z), h)) 32 small es h
         where
           not_so : (b : Bool) → not b ≡ true → b ≡ false
@@ -100,11 +100,11 @@ module _ (n : ℕ) where
           not_so false z = refl
 
       defers_apart : (deferred t : ℕ) (x : LastRelease) (es : List Event) → (member n deferred ≡ true → Passes x.tick t)
-          → Apart (cond (member n deferred) (record { waits = true; tick = Tick t }) x) es → Apart x (defer_events 32 deferred t ++ es)
+          → Apart (cond (member n deferred) (record { waits = true; tick = Some t }) x) es → Apart x (defer_events 32 deferred t ++ es)
       unfolding defer_events Apart
       defers_apart deferred t x es f h =
           at_task n deferred (λ k. Defers k t) (λ k. defer_events k deferred t) refl (λ k. refl) Apart
-          (λ x k e es h. rw e (λ z. absurd (false≢true z), h)) x (record { waits = true; tick = Tick t })
+          (λ x k e es h. rw e (λ z. absurd (false≢true z), h)) x (record { waits = true; tick = Some t })
           (λ m es h. rw (same_task n) (λ z. f m, h)) 32 small es h
 
       -- what an instant makes of the last one
@@ -125,8 +125,8 @@ module _ (n : ℕ) where
 
   -- ---- what the state has
 
-  abbrev last_in : List ℕ → WaitingReleases → Due
-  last_in release w = cond (member n w.tasks) (Tick (get_or w.times n 0)) (cond (member n w.before) (Tick (get_or release n 0)) Never)
+  abbrev last_in : List ℕ → WaitingReleases → Option ℕ
+  last_in release w = cond (member n w.tasks) (Some (get_or w.times n 0)) (cond (member n w.before) (Some (get_or release n 0)) None)
 
   pub record LastIs (x : LastRelease) (release : List ℕ) (w : WaitingReleases) : Type 0 where
     pub releases : n < length release
@@ -135,7 +135,7 @@ module _ (n : ℕ) where
     pub tick_is : x.tick ≡ last_in release w
 
   -- step c, where one waits (w)
-  then_waits : (b c w : Bool) (t : ℕ) (l : Due) → (then_by b c t (record { waits = w; tick = l })).waits ≡ ((w && not b) || c)
+  then_waits : (b c w : Bool) (t : ℕ) (l : Option ℕ) → (then_by b c t (record { waits = w; tick = l })).waits ≡ ((w && not b) || c)
   then_waits true true true t l = refl
   then_waits true true false t l = refl
   then_waits true false true t l = refl
@@ -146,8 +146,8 @@ module _ (n : ℕ) where
   then_waits false false false t l = refl
 
   -- since a, and one was taken before (f), the last of them released at r
-  then_tick : (b c w f : Bool) (a r t : ℕ) → (then_by b c t (record { waits = w; tick = cond w (Tick a) (cond f (Tick r) Never) })).tick
-      ≡ cond ((w && not b) || c) (Tick (cond c t a)) (cond (f || b) (Tick (cond b (cond w a t) r)) Never)
+  then_tick : (b c w f : Bool) (a r t : ℕ) → (then_by b c t (record { waits = w; tick = cond w (Some a) (cond f (Some r) None) })).tick
+      ≡ cond ((w && not b) || c) (Some (cond c t a)) (cond (f || b) (Some (cond b (cond w a t) r)) None)
   then_tick true true true f a r t = refl
   then_tick true true false f a r t = refl
   then_tick true false true true a r t = refl
@@ -191,11 +191,11 @@ module _ (n : ℕ) where
         W : Bool
         W = member n d.waiting.tasks
 
-        L : Due
+        L : Option ℕ
         L = last_in d.jobs.release d.waiting
 
         same : x ≡ record { waits = W; tick = L }
-        same = ap₂ (λ (w : Bool) (l : Due). record { waits = w; tick = l }) h.waits_is h.tick_is
+        same = ap₂ (λ (w : Bool) (l : Option ℕ). record { waits = w; tick = l }) h.waits_is h.tick_is
 
     then_is : (d : State) (t set : ℕ) (x : LastRelease) → LastIs x d.jobs.release d.waiting
         → let g : State = at_g d t set in LastIs (then_by (member n (taken_at d t set)) (member n (deferred_at d t set)) t x) g.jobs.release g.waiting
@@ -218,14 +218,14 @@ module _ (n : ℕ) where
     abbrev Gap : Table → Type 0
     Gap table = member n table.spaced ≡ true → 1 ≤ spacing table.columns n
 
-    abbrev FarFrom : Table → Due → ℕ → Type 0
-    FarFrom table l t = member n table.spaced ≡ true → (u : ℕ) → l ≡ Tick u → u + spacing table.columns n ≤ t
+    abbrev FarFrom : Table → Option ℕ → ℕ → Type 0
+    FarFrom table l t = member n table.spaced ≡ true → (u : ℕ) → l ≡ Some u → u + spacing table.columns n ≤ t
 
     -- it comes after the last one, with a spacing or without
-    abbrev Behind : Due → ℕ → Type 0
-    Behind l t = (u : ℕ) → l ≡ Tick u → u < t
+    abbrev Behind : Option ℕ → ℕ → Type 0
+    Behind l t = (u : ℕ) → l ≡ Some u → u < t
 
-    abbrev PassesBy : Table → Due → ℕ → Type 0
+    abbrev PassesBy : Table → Option ℕ → ℕ → Type 0
     PassesBy table l t = FarFrom table l t × Behind l t
 
     -- the last one is no later than the clock: what comes after the clock comes after it
@@ -235,11 +235,11 @@ module _ (n : ℕ) where
     then_past : (b c : Bool) (t : ℕ) (x : LastRelease) → Behind x.tick t → Past (At t) (then_by b c t x)
     then_past b c t x f v o u e =
         ⊎_elim
-        (λ i. let z : Tick t ≡ Tick u = sym i ∙ e in let y : t ≡ u = cc in omega (arith, o t refl))
+        (λ i. let z : Some t ≡ Some u = sym i ∙ e in let y : t ≡ u = cc in omega (arith, o t refl))
         (λ i. omega (arith, o t refl, f u (sym i ∙ e)))
         (go b c x.waits refl)
       where
-        go : (b c w : Bool) → x.waits ≡ w → ((then_by b c t x).tick ≡ Tick t) ⊎ ((then_by b c t x).tick ≡ x.tick)
+        go : (b c w : Bool) → x.waits ≡ w → ((then_by b c t x).tick ≡ Some t) ⊎ ((then_by b c t x).tick ≡ x.tick)
         go b true w k = inl refl
         go true false true k = inr (rw k)
         go true false false k = inl (rw k)
@@ -274,7 +274,7 @@ module _ (n : ℕ) where
           go false s e = e
 
       -- where one is taken and another set waiting, the first had waited; F is what is said of the last one
-      deferred_so : (F : Due → Type 0) → (FarFrom d.table x.tick t → F x.tick) → member n (deferred_at d t set) ≡ true → F (taken_by (member n (taken_at d t set)) t x).tick
+      deferred_so : (F : Option ℕ → Type 0) → (FarFrom d.table x.tick t → F x.tick) → member n (deferred_at d t set) ≡ true → F (taken_by (member n (taken_at d t set)) t x).tick
       unfolding taken_at deferred_at
       deferred_so F so m =
           subst F
@@ -359,8 +359,8 @@ module _ (n : ℕ) where
   walked_alike (e ∷ es) x = walked_alike es (last_by n x e) ∙ ap (λ (b : Bool). waits_in n b es) (waits_alike x e)
 
   -- none waits where the claim's walk finds none
-  none_waits : (before : List Event) → waiting n Never before ≡ Never → (after (last_by n) no_last before).waits ≡ false
-  none_waits before w = walked_alike before no_last ∙ sym (held_is n before Never) ∙ ap (stands n) w
+  none_waits : (before : List Event) → waiting n None before ≡ None → (after (last_by n) no_last before).waits ≡ false
+  none_waits before w = walked_alike before no_last ∙ sym (held_is n before None) ∙ ap (stands n) w
 
   -- what is known of a release that is set waiting
   pub deferral_so : (small : n < 32) (table : Table) (End : LastRelease → Type 0) (h : List Event) → Apart (PassesBy small table) End no_last h
@@ -412,5 +412,5 @@ module _ (table : Table) (marks : ℕ) (fair : Fair table marks) (n : ℕ) (smal
   pub spaced : member n table.spaced ≡ true → Spaced n table (history d calls)
   spaced s = spaced_so n small table (λ y. LastIs n y g.jobs.release g.waiting) (history d calls) s all_apart
 
-  pub deferral : (before after : List Event) (t u : ℕ) → history d calls ≡ before ++ (Defers n t ∷ after) → last_released n before ≡ Tick u → u < t
+  pub deferral : (before after : List Event) (t u : ℕ) → history d calls ≡ before ++ (Defers n t ∷ after) → last_released n before ≡ Some u → u < t
   deferral before after t u e l = (deferral_so n small table (λ y. LastIs n y g.jobs.release g.waiting) (history d calls) all_passing before after t e).1 u l

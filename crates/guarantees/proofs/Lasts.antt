@@ -1,7 +1,7 @@
 -- Every history passes the monitor of how long intervals last: the begin of a state's open interval and whether a task's job is pending, step by step
 -- and along the calls.
 use Rattle.std.proofs.Common.{◌≡◌, ◌&&◌, ◌||◌, ◌∷◌, ◌++◌, ◌≤◌, ◌<◌}
-use Rattle.guarantees.specs.Types.{refl, sym, ap, ◌∙◌, subst, Bool, true, false, cond, not, List, ℕ, Table, Jobs, Clock, MaybeTask, NoTask, Task, CopyOut, NoCopyOut, CopyingOut, CopiedOut, Interval, Next, Outgoing, Phase, Between, Within, State, NoJob, Job, Stage, Due, Never, Tick, Call}
+use Rattle.guarantees.specs.Types.{refl, sym, ap, ◌∙◌, subst, Bool, true, false, cond, not, List, ℕ, Table, Jobs, Clock, Option, None, Some, CopyOut, NoCopyOut, CopyingOut, CopiedOut, Interval, Next, Outgoing, Phase, Between, Within, State, Stage, Call}
 use native.Mathlib.Omega.{arith}
 use lib.Dec.{eqb}
 use Rattle.sets.specs.Sets.{member, bit}
@@ -46,10 +46,10 @@ d_begun : (d : State) (taken : ℕ) → begun_of (step_d d taken d.phase).phase 
 unfolding cancel
 d_begun d taken = d_cases (λ x. begun_of x.phase ≡ begun_of d.phase) d taken refl (λ i n u e s b. rw e)
 
-choose_begun : (d : State) (t : ℕ) (i : Interval) (q : MaybeTask) → begun_of (choose d t i q).phase ≡ Tick i.begin
+choose_begun : (d : State) (t : ℕ) (i : Interval) (q : Option ℕ) → begun_of (choose d t i q).phase ≡ Some i.begin
 unfolding choose
-choose_begun d t i NoTask = refl
-choose_begun d t i (Task q) = refl
+choose_begun d t i None = refl
+choose_begun d t i (Some q) = refl
 
 e_begun : (d : State) (t : ℕ) → begun_of (step_e d t d.phase).phase ≡ begun_of d.phase
 e_begun d t = e_cases (λ x. begun_of x.phase ≡ begun_of d.phase) d t refl (λ i e s u. choose_begun d t i (highest_of d d.jobs.ready) ∙ rw e)
@@ -63,13 +63,13 @@ begun_e d t set =
     e_begun (step_d c taken c.phase) t ∙ d_begun c taken ∙ c_begun b taken b.phase
 
 module _ (M n : ℕ) (small : n < 32) (t : ℕ) where
-  abbrev T : Due → Bool → List Event → Type 0
+  abbrev T : Option ℕ → Bool → List Event → Type 0
   T = Lasting M n t
 
   -- ---- the events of each step
 
   -- a
-  completes_lasting : (j : Jobs) (w : Due) (o : CopyOut) (ys : List Event) → T w (member n (after_done j.pending (completed j t o))) ys
+  completes_lasting : (j : Jobs) (w : Option ℕ) (o : CopyOut) (ys : List Event) → T w (member n (after_done j.pending (completed j t o))) ys
       → T w (member n j.pending) (completion_events (completed j t o) ++ ys)
   unfolding completed completion_events Lasting
   completes_lasting j w NoCopyOut ys h = h
@@ -80,8 +80,8 @@ module _ (M n : ℕ) (small : n < 32) (t : ℕ) where
       one true c = refl
       one false c = refl
 
-      go : (b : Bool) → T w (member n (after_done j.pending (cond b (Job (job_entry j m start t)) NoJob))) ys
-          → T w (member n j.pending) (completion_events (cond b (Job (job_entry j m start t)) NoJob) ++ ys)
+      go : (b : Bool) → T w (member n (after_done j.pending (cond b (Some (job_entry j m start t)) None))) ys
+          → T w (member n j.pending) (completion_events (cond b (Some (job_entry j m start t)) None) ++ ys)
       go true h = subst (λ (b : Bool). T w b ys) (removed m j.pending n small ∙ one (eqb n m) (member n j.pending)) h
       go false h = h
 
@@ -96,10 +96,10 @@ module _ (M n : ℕ) (small : n < 32) (t : ℕ) where
       go : (p : Phase) → d.phase ≡ p → T (begun_of (step_a d t p).state.phase) (member n (step_a d t p).state.jobs.pending) ys
           → T (begun_of p) (member n d.jobs.pending) (completion_events (step_a d t p).done ++ ys)
       go (Between next outgoing) e h = unfold step_a completion_events in subst (λ (q : Phase). T (begun_of q) (member n d.jobs.pending) ys) e (unfold step_a in h)
-      go (Within i) e h = unfold step_a without_done ended in completes_lasting d.jobs (Tick i.begin) i.copyout ys (unfold step_a without_done ended in h)
+      go (Within i) e h = unfold step_a without_done ended in completes_lasting d.jobs (Some i.begin) i.copyout ys (unfold step_a without_done ended in h)
 
   -- b, f
-  stays_lasting : (p : Bool) (i : Interval) (q : Phase) (ys : List Event) → q ≡ Within i → T (begun_of q) p ys → T (Tick i.begin) p (end_events t (Within i) q ++ ys)
+  stays_lasting : (p : Bool) (i : Interval) (q : Phase) (ys : List Event) → q ≡ Within i → T (begun_of q) p ys → T (Some i.begin) p (end_events t (Within i) q ++ ys)
   unfolding end_events
   stays_lasting p i q ys e k = rw e (rw e at k)
 
@@ -109,34 +109,34 @@ module _ (M n : ℕ) (small : n < 32) (t : ℕ) where
   b_lasting c s (Between next outgoing) ys e l h = subst (λ (p : Phase). T (begun_of p) c ys) e h
   b_lasting c s (Within i) ys e l h = go (over i) h
     where
-      go : (b : Bool) → T (begun_of (close_stage s t i b).state.phase) c ys → T (Tick i.begin) c (end_events t (Within i) (close_stage s t i b).state.phase ++ ys)
+      go : (b : Bool) → T (begun_of (close_stage s t i b).state.phase) c ys → T (Some i.begin) c (end_events t (Within i) (close_stage s t i b).state.phase ++ ys)
       go true h = unfold Lasting in ((refl, l), h)
       go false h = stays_lasting c i s.state.phase ys e h
 
   -- c
-  takes_lasting : (taken marked : ℕ) (w : Due) (p : Bool) (ys : List Event) → T w (cond (member n taken) true p) ys → T w p (take_events 32 taken marked t ++ ys)
+  takes_lasting : (taken marked : ℕ) (w : Option ℕ) (p : Bool) (ys : List Event) → T w (cond (member n taken) true p) ys → T w p (take_events 32 taken marked t ++ ys)
   unfolding take_events Lasting
   takes_lasting taken marked w p ys h =
       at_task n taken (λ k. Takes k t (member k marked)) (λ k. take_events k taken marked t) refl (λ k. refl) (λ x es. T w x es)
       (λ x k e es y. (refl, rw e y)) p true (λ m es y. (refl, rw (same_task n) y)) 32 small ys h
 
   -- g
-  opens_lasting : (c : Bool) (next : Next) (outgoing : Outgoing) (q : Phase) (ys : List Event) → BegunAt t q → T (begun_of q) c ys → T Never c (begin_events t (Between next outgoing) q ++ ys)
+  opens_lasting : (c : Bool) (next : Next) (outgoing : Outgoing) (q : Phase) (ys : List Event) → BegunAt t q → T (begun_of q) c ys → T None c (begin_events t (Between next outgoing) q ++ ys)
   unfolding begin_events Lasting
   opens_lasting c next outgoing (Between x y) ys b h = absurd b
-  opens_lasting c next outgoing (Within j) ys b h = ((refl, refl), subst (λ (u : ℕ). T (Tick u) c ys) b h)
+  opens_lasting c next outgoing (Within j) ys b h = ((refl, refl), subst (λ (u : ℕ). T (Some u) c ys) b h)
 
   shut_lasting : (c : Bool) (next : Next) (outgoing : Outgoing) (q : Phase) (ys : List Event) → q ≡ Between next outgoing → T (begun_of q) c ys
-      → T Never c (begin_events t (Between next outgoing) q ++ ys)
+      → T None c (begin_events t (Between next outgoing) q ++ ys)
   unfolding begin_events
   shut_lasting c next outgoing q ys e k = rw e (rw e at k)
 
   begun_now : (d : State) → BegunAt t d.phase → BegunAt t (step_e d t d.phase).phase
   begun_now d h = e_cases (λ x. BegunAt t x.phase) d t h (λ i e s u. chosen i (highest_of d d.jobs.ready) (subst (BegunAt t) e h))
     where
-      chosen : (i : Interval) (q : MaybeTask) → i.begin ≡ t → BegunAt t (choose d t i q).phase
-      chosen i NoTask e = unfold choose in e
-      chosen i (Task q) e = unfold choose in e
+      chosen : (i : Interval) (q : Option ℕ) → i.begin ≡ t → BegunAt t (choose d t i q).phase
+      chosen i None e = unfold choose in e
+      chosen i (Some q) e = unfold choose in e
 
   g_lasting : (c : Bool) (f : State) (taken : ℕ) (p : Phase) (ys : List Event) → f.phase ≡ p → T (begun_of (step_g f t taken p).phase) c ys
       → T (begun_of p) c (begin_events t p (step_g f t taken p).phase ++ ys)
@@ -148,7 +148,7 @@ module _ (M n : ℕ) (small : n < 32) (t : ℕ) where
       b = begin f t taken next outgoing
 
       go : (z : Bool) → T (begun_of (cond z (step_e b t b.phase) f).phase) c ys
-          → T Never c (begin_events t (Between next outgoing) (cond z (step_e b t b.phase) f).phase ++ ys)
+          → T None c (begin_events t (Between next outgoing) (cond z (step_e b t b.phase) f).phase ++ ys)
       go true k = opens_lasting c next outgoing (step_e b t b.phase).phase ys (begun_now b (unfold begin in refl)) k
       go false k = shut_lasting c next outgoing f.phase ys e k
 
@@ -188,8 +188,8 @@ module _ (M n : ℕ) (small : n < 32) (t : ℕ) where
       (rw (tail_parts d t set ys)
       (by_defers (T (begun_of b.phase) c) 32 (deferred_at d t set) t (λ k m x es y. unfold Lasting in y) (giving_events_in b.phase e.phase ++ ends)
       (by_gives (T (begun_of b.phase) c) (λ k es y. unfold Lasting in y) b.phase e.phase ends
-      (subst (λ (w : Due). T w c ends) (begun_e d t set)
-      (b_lasting c (fresh_stage e) e.phase begins refl (subst (λ (w : Due). in_time M w t) (sym (begun_e d t set)) l)
+      (subst (λ (w : Option ℕ). T w c ends) (begun_e d t set)
+      (b_lasting c (fresh_stage e) e.phase begins refl (subst (λ (w : Option ℕ). in_time M w t) (sym (begun_e d t set)) l)
       (g_lasting c f (held_at d t set) f.phase starts refl
       (by_starts (T (begun_of g.phase) c) t (λ k es y. unfold Lasting in y) f.phase g.phase ys h))))))))
 
@@ -200,14 +200,14 @@ module _ (M n : ℕ) (small : n < 32) (t : ℕ) where
   front_lasting d later l h =
       let a : Stage = at_a d t in
       a_lasting (at_clock d t) d.phase (end_events t a.state.phase (at_b d t).state.phase ++ later) refl
-      (b_lasting (member n a.state.jobs.pending) a a.state.phase later refl (subst (λ (w : Due). in_time M w t) (sym (a_begun (at_clock d t) t d.phase refl)) l)
+      (b_lasting (member n a.state.jobs.pending) a a.state.phase later refl (subst (λ (w : Option ℕ). in_time M w t) (sym (a_begun (at_clock d t) t d.phase refl)) l)
       (subst (λ (p : ℕ). T (begun_of (at_b d t).state.phase) (member n p) later) (ap (λ (y : Frame). y.pending) (b_frame a t)) h))
 
   b_reached : (d : State) → in_time M (begun_of d.phase) t → in_time M (begun_of (at_b d t).state.phase) t
   unfolding at_b at_a
-  b_reached d l = b_in_time (at_a d t) (subst (λ (w : Due). in_time M w t) (sym (a_begun (at_clock d t) t d.phase refl)) l)
+  b_reached d l = b_in_time (at_a d t) (subst (λ (w : Option ℕ). in_time M w t) (sym (a_begun (at_clock d t) t d.phase refl)) l)
 
-  comes_lasting : (now : ℕ) (w : Due) (p : Bool) (es : List Event) → now ≤ t → at_rest w p → in_time M w t → T w p es → Lasting M n now w p (Comes t ∷ es)
+  comes_lasting : (now : ℕ) (w : Option ℕ) (p : Bool) (es : List Event) → now ≤ t → at_rest w p → in_time M w t → T w p es → Lasting M n now w p (Comes t ∷ es)
   unfolding Lasting
   comes_lasting now w p es o r l h = ((o, r, l), h)
 
@@ -255,7 +255,7 @@ module _ (table : Table) (marks : ℕ) (fair : Fair table marks) (n : ℕ) (smal
       (λ d m e h k g x. k (good_quiet table marks fair d m e g) x)
 
   -- every list of calls from the state that opening returned
-  pub lasts : (cs : List Call) → Lasting longest n 0 Never false (history (opened table marks) cs)
+  pub lasts : (cs : List Call) → Lasting longest n 0 None false (history (opened table marks) cs)
   lasts cs =
-      subst (λ (b : Bool). Lasting longest n 0 Never b (history (opened table marks) cs)) (none n)
+      subst (λ (b : Bool). Lasting longest n 0 None b (history (opened table marks) cs)) (none n)
       (unfold opened in lasting cs (opened table marks) (good_opened table marks fair) (0, tt))

@@ -1,6 +1,6 @@
 -- The order, along a history: the claim on each release, from what the states say of the intervals to come (Waiting).
 use Rattle.std.proofs.Common.{◌≡◌, ◌∷◌, ◌++◌, ◌≤◌, ◌<◌}
-use Rattle.guarantees.specs.Types.{refl, sym, ap, ◌∙◌, subst, Bool, true, false, cond, false≢true, List, [], ℕ, zero, suc, Table, MaybeTask, NoTask, Task, CopyIn, Unchosen, NoneChosen, Copying, Loaded, Cancelled, Processor, Interval, Next, NoneNext, LoadedNext, PromotedNext, Outgoing, NoneOutgoing, AwaitsCopyOut, Phase, Between, Within, State, Stage, Due, Tick, Call}
+use Rattle.guarantees.specs.Types.{refl, sym, ap, ◌∙◌, subst, Bool, true, false, cond, false≢true, List, [], ℕ, zero, suc, Table, Option, None, Some, CopyIn, Unchosen, NoneChosen, Copying, Loaded, Cancelled, Processor, Interval, Next, NoneNext, LoadedNext, PromotedNext, Outgoing, NoneOutgoing, AwaitsCopyOut, Phase, Between, Within, State, Stage, Call}
 use native.Mathlib.Omega.{arith}
 use native.Mathlib.Nat.{not-suc-le-zero, le_of_suc-le-suc}
 use borrow.Author.Tests.{eqb-true, ltb-false}
@@ -38,10 +38,10 @@ pub d_situation : (d : State) (taken : ℕ) → situation_of (step_d d taken d.p
 unfolding cancel
 d_situation d taken = d_cases (λ x. situation_of x.phase ≡ situation_of d.phase) d taken refl (λ i n fate e s b. rw e)
 
-choose_situation : (d : State) (t : ℕ) (i : Interval) (q : MaybeTask) → situation_of (choose d t i q).phase ≡ Open (processor_task i.processor)
+choose_situation : (d : State) (t : ℕ) (i : Interval) (q : Option ℕ) → situation_of (choose d t i q).phase ≡ Open (processor_task i.processor)
 unfolding choose
-choose_situation d t i NoTask = refl
-choose_situation d t i (Task q) = refl
+choose_situation d t i None = refl
+choose_situation d t i (Some q) = refl
 
 pub e_situation : (d : State) (t : ℕ) → situation_of (step_e d t d.phase).phase ≡ situation_of d.phase
 e_situation d t = e_cases (λ x. situation_of x.phase ≡ situation_of d.phase) d t refl (λ i e s u. choose_situation d t i (highest_of d d.jobs.ready) ∙ rw e)
@@ -58,13 +58,13 @@ situation_e d t set =
 
 module _ (pr : List ℕ) where
   -- the claim on a release of task n, marked or not, where rs are the intervals that begin after it
-  pub record Waits (n : ℕ) (marked : Bool) (at : Situation) (rs : List MaybeTask) : Type 0 where
-    pub third : (i : ℕ) → 2 ≤ i → i < length (met n at rs) → NotLower pr n (get_or (met n at rs) i NoTask)
-    pub later : marked ≡ true → (i : ℕ) → 1 ≤ i → i < length (met n at rs) → NotLower pr n (get_or (met n at rs) i NoTask)
+  pub record Waits (n : ℕ) (marked : Bool) (at : Situation) (rs : List (Option ℕ)) : Type 0 where
+    pub third : (i : ℕ) → 2 ≤ i → i < length (met n at rs) → NotLower pr n (get_or (met n at rs) i None)
+    pub later : marked ≡ true → (i : ℕ) → 1 ≤ i → i < length (met n at rs) → NotLower pr n (get_or (met n at rs) i None)
 
   -- an interval begins at t, if none is open
-  abbrev pub AtOnce : ℕ → Situation → Due → Type 0
-  AtOnce t at b = at ≡ NoneOpen → b ≡ Tick t
+  abbrev pub AtOnce : ℕ → Situation → Option ℕ → Type 0
+  AtOnce t at b = at ≡ NoneOpen → b ≡ Some t
 
   -- and on each release, along a history
   unfoldable pub Kept : Situation → List Event → Type 0
@@ -104,57 +104,57 @@ module _ (pr : List ℕ) where
 
   module _ (n : ℕ) where
     -- past the first interval of a list
-    past : (X : MaybeTask → Type 0) (r : MaybeTask) (rs : List MaybeTask) (i : ℕ) → suc i < length (upto n (r ∷ rs))
-        → (is_task n r ≡ false → i < length (upto n rs) → X (get_or (upto n rs) i NoTask)) → X (get_or (upto n (r ∷ rs)) (suc i) NoTask)
+    past : (X : Option ℕ → Type 0) (r : Option ℕ) (rs : List (Option ℕ)) (i : ℕ) → suc i < length (upto n (r ∷ rs))
+        → (is_task n r ≡ false → i < length (upto n rs) → X (get_or (upto n rs) i None)) → X (get_or (upto n (r ∷ rs)) (suc i) None)
     unfolding upto
     past X r rs i l h = go (is_task n r) refl l
       where
-        go : (b : Bool) → is_task n r ≡ b → suc i < length (r ∷ cond b [] (upto n rs)) → X (get_or (cond b [] (upto n rs)) i NoTask)
+        go : (b : Bool) → is_task n r ≡ b → suc i < length (r ∷ cond b [] (upto n rs)) → X (get_or (cond b [] (upto n rs)) i None)
         go true e l = absurd (not-suc-le-zero (le_of_suc-le-suc l))
         go false e l = h e (le_of_suc-le-suc l)
 
-    ahead_at : (rs : List MaybeTask) → Ahead pr n rs → (i : ℕ) → i < length (upto n rs) → NotLower pr n (get_or (upto n rs) i NoTask)
+    ahead_at : (rs : List (Option ℕ)) → Ahead pr n rs → (i : ℕ) → i < length (upto n rs) → NotLower pr n (get_or (upto n rs) i None)
     unfolding Ahead upto
     ahead_at [] a i l = absurd (not-suc-le-zero l)
     ahead_at (r ∷ rs) a zero l = a.0
     ahead_at (r ∷ rs) a (suc i) l = past (NotLower pr n) r rs i l (λ e m. ahead_at rs (a.1 e) i m)
 
-    then_map : (P Q : MaybeTask → Type 0) → ((r : MaybeTask) → P r → Q r) → (rs : List MaybeTask) → Then pr n P rs → Then pr n Q rs
+    then_map : (P Q : Option ℕ → Type 0) → ((r : Option ℕ) → P r → Q r) → (rs : List (Option ℕ)) → Then pr n P rs → Then pr n Q rs
     unfolding Then
     then_map P Q f [] a = tt
     then_map P Q f (r ∷ rs) a = (f r a.0, a.1)
 
-    then_at : (Q : MaybeTask → Type 0) (rs : List MaybeTask) → Then pr n Q rs → (i : ℕ) → suc i < length (upto n rs) → NotLower pr n (get_or (upto n rs) (suc i) NoTask)
+    then_at : (Q : Option ℕ → Type 0) (rs : List (Option ℕ)) → Then pr n Q rs → (i : ℕ) → suc i < length (upto n rs) → NotLower pr n (get_or (upto n rs) (suc i) None)
     unfolding Then upto
     then_at Q [] a i l = absurd (not-suc-le-zero l)
     then_at Q (r ∷ rs) a i l = past (NotLower pr n) r rs i l (λ e m. ahead_at rs (a.1 e) i m)
 
-    then_first : (Q : MaybeTask → Type 0) (rs : List MaybeTask) → Then pr n Q rs → 0 < length (upto n rs) → Q (get_or (upto n rs) 0 NoTask)
+    then_first : (Q : Option ℕ → Type 0) (rs : List (Option ℕ)) → Then pr n Q rs → 0 < length (upto n rs) → Q (get_or (upto n rs) 0 None)
     unfolding Then upto
     then_first Q [] a l = absurd (not-suc-le-zero l)
     then_first Q (r ∷ rs) a l = a.0
 
     -- what the interval after the open one runs, for a job that is marked or not
-    abbrev Second : Bool → MaybeTask → Type 0
+    abbrev Second : Bool → Option ℕ → Type 0
     Second m r = m ≡ true → NotLower pr n r
 
-    waits_open : (m : Bool) (r : MaybeTask) (rs : List MaybeTask) → Then pr n (Second m) rs → Waits n m (Open r) rs
+    waits_open : (m : Bool) (r : Option ℕ) (rs : List (Option ℕ)) → Then pr n (Second m) rs → Waits n m (Open r) rs
     waits_open m r rs a = record { third = third; later = later }
       where
-        third : (i : ℕ) → 2 ≤ i → i < length (r ∷ upto n rs) → NotLower pr n (get_or (r ∷ upto n rs) i NoTask)
+        third : (i : ℕ) → 2 ≤ i → i < length (r ∷ upto n rs) → NotLower pr n (get_or (r ∷ upto n rs) i None)
         third zero h l = absurd (omega arith)
         third (suc zero) h l = absurd (omega arith)
         third (suc (suc i)) h l = then_at (Second m) rs a i (le_of_suc-le-suc l)
 
-        later : m ≡ true → (i : ℕ) → 1 ≤ i → i < length (r ∷ upto n rs) → NotLower pr n (get_or (r ∷ upto n rs) i NoTask)
+        later : m ≡ true → (i : ℕ) → 1 ≤ i → i < length (r ∷ upto n rs) → NotLower pr n (get_or (r ∷ upto n rs) i None)
         later e zero h l = absurd (omega arith)
         later e (suc zero) h l = then_first (Second m) rs a (le_of_suc-le-suc l) e
         later e (suc (suc i)) h l = then_at (Second m) rs a i (le_of_suc-le-suc l)
 
-    waits_none_open : (m : Bool) (rs : List MaybeTask) → Then pr n (λ r. Unit {0}) rs → Waits n m NoneOpen rs
+    waits_none_open : (m : Bool) (rs : List (Option ℕ)) → Then pr n (λ r. Unit {0}) rs → Waits n m NoneOpen rs
     waits_none_open m rs a = record { third = λ i h. from i (omega arith); later = λ e i h. from i h }
       where
-        from : (i : ℕ) → 1 ≤ i → i < length (upto n rs) → NotLower pr n (get_or (upto n rs) i NoTask)
+        from : (i : ℕ) → 1 ≤ i → i < length (upto n rs) → NotLower pr n (get_or (upto n rs) i None)
         from zero h l = absurd (omega arith)
         from (suc i) h l = then_at (λ r. Unit {0}) rs a i l
 
@@ -162,10 +162,10 @@ module _ (pr : List ℕ) where
 
     module _ (small : n < 32) where
       -- a marked release
-      not_outranked : (d : State) (taken c : ℕ) (q : MaybeTask) → member n taken ≡ true → member n d.marked ≡ true
+      not_outranked : (d : State) (taken c : ℕ) (q : Option ℕ) → member n taken ≡ true → member n d.marked ≡ true
           → Best d.table.priority (intersection taken d.marked) q → outranks d c q ≡ false → get_or d.table.priority c 0 ≤ get_or d.table.priority n 0
-      not_outranked d taken c NoTask h m b e = clash (member n (intersection taken d.marked)) (intersection_in taken d.marked n small h m) (b n small)
-      not_outranked d taken c (Task q) h m b e =
+      not_outranked d taken c None h m b e = clash (member n (intersection taken d.marked)) (intersection_in taken d.marked n small h m) (b n small)
+      not_outranked d taken c (Some q) h m b e =
           omega (arith, b.2 n small (intersection_in taken d.marked n small h m), ltb-false (get_or d.table.priority q 0) (get_or d.table.priority c 0) e)
 
       d_marked : (d : State) (taken : ℕ) (i : Interval) (c : CopyIn) → i.copyin ≡ c → d.phase ≡ Within i → d.table.priority ≡ pr → NewIn d taken i
@@ -229,7 +229,7 @@ module _ (pr : List ℕ) where
         within_c i e = ap (with_candidates (at_b d t).state (taken_at d t set)) e
 
         -- what is to come after step e
-        soon_later : (F : ℕ → ℕ → CopyIn → Type 0) (Q : MaybeTask → Type 0) → Rule pr n F Q → Waiting pr n F Q (at_e d t set)
+        soon_later : (F : ℕ → ℕ → CopyIn → Type 0) (Q : Option ℕ → Type 0) → Rule pr n F Q → Waiting pr n F Q (at_e d t set)
             → Then pr n Q (intervals (tail_of d t set ++ history (at_g d t set) cs))
         soon_later F Q rule h =
             rw (tail_intervals d t set (history (at_g d t set) cs))
@@ -289,13 +289,13 @@ module _ (pr : List ℕ) where
     wanted_ready NoneNext (AwaitsCopyOut k s) ready h = refl
     wanted_ready NoneNext NoneOutgoing ready h = by-test (eqb ready 0) (λ e. clash (member n ready) h (ap (member n) (eqb-true ready 0 e) ∙ none n)) (λ e. rw e)
 
-    begins_tick : (t : ℕ) (next : Next) (outgoing : Outgoing) (q : Processor) (p : Phase) (ys : List Event) → Opened q p → begin_tick (begin_events t (Between next outgoing) p ++ ys) ≡ Tick t
+    begins_tick : (t : ℕ) (next : Next) (outgoing : Outgoing) (q : Processor) (p : Phase) (ys : List Event) → Opened q p → begin_tick (begin_events t (Between next outgoing) p ++ ys) ≡ Some t
     unfolding begin_events first
     begins_tick t next outgoing q (Between x y) ys o = absurd o
     begins_tick t next outgoing q (Within j) ys o = refl
 
     begins_so : (f : State) (t taken : ℕ) (next : Next) (outgoing : Outgoing) (ys : List Event) → Ready f
-        → begin_tick (begin_events t (Between next outgoing) (step_g f t taken (Between next outgoing)).phase ++ ys) ≡ Tick t
+        → begin_tick (begin_events t (Between next outgoing) (step_g f t taken (Between next outgoing)).phase ++ ys) ≡ Some t
     unfolding step_g begin
     begins_so f t taken next outgoing ys r =
         let b : State = begin f t taken next outgoing in
@@ -310,7 +310,7 @@ module _ (pr : List ℕ) where
         ∙ none_defers
         ∙ ap (λ (y : List Event). begin_tick (y ++ (end_events t (at_e d t set).phase f.phase ++ (begin_events t f.phase (at_g d t set).phase ++ rest)))) none_gives
         ∙ ap (λ (y : List Event). begin_tick (y ++ (begin_events t f.phase (at_g d t set).phase ++ rest))) none_ends
-        ∙ (unfold at_g in subst (λ (p : Phase). begin_tick (begin_events t p (step_g f t (held_at d t set) p).phase ++ rest) ≡ Tick t) (sym shut_f)
+        ∙ (unfold at_g in subst (λ (p : Phase). begin_tick (begin_events t p (step_g f t (held_at d t set) p).phase ++ rest) ≡ Some t) (sym shut_f)
         (begins_so f t (held_at d t set) next outgoing rest ready_f))
       where
         b : State

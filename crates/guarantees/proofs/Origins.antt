@@ -1,6 +1,6 @@
 -- When the releases of a task were handed in: what a walk along a history finds is what the state has of it, and step c keeps that.
 use Rattle.std.proofs.Common.{◌≡◌, ◌&&◌, ◌||◌, ◌∷◌, ◌++◌, ◌<◌}
-use Rattle.guarantees.specs.Types.{refl, sym, ap, ◌∙◌, Bool, true, false, cond, not, List, [], ℕ, Table, WaitingReleases, State, Due, Never, Tick, Call}
+use Rattle.guarantees.specs.Types.{refl, sym, ap, ◌∙◌, Bool, true, false, cond, not, List, [], ℕ, Table, WaitingReleases, State, Option, None, Some, Call}
 use mathlib.Core.List.{append-nil}
 use native.Mathlib.Omega.{arith}
 use native.Mathlib.Nat.{zero-add}
@@ -18,12 +18,12 @@ use Rattle.guarantees.proofs.Events.{by_front, front_of, tail_of, happens_parts,
 use Rattle.guarantees.proofs.Deferred.{at_task, by_rest}
 
 -- by the task's release that waits: its original tick, where it is taken
-pub original_is : (w : Bool) (a t : ℕ) (h : Due) → h ≡ cond w (Tick a) Never → original h t ≡ cond w a t
-original_is true a t h e = ap (λ (y : Due). original y t) e
-original_is false a t h e = ap (λ (y : Due). original y t) e
+pub original_is : (w : Bool) (a t : ℕ) (h : Option ℕ) → h ≡ cond w (Some a) None → original h t ≡ cond w a t
+original_is true a t h e = ap (λ (y : Option ℕ). original y t) e
+original_is false a t h e = ap (λ (y : Option ℕ). original y t) e
 
 -- and what waits after step c, where it is taken (b) or not, and another waits from now on (c) or not
-pub held_is : (b c w : Bool) (a t : ℕ) (h : Due) → h ≡ cond w (Tick a) Never → cond c (Tick t) (cond b Never h) ≡ cond ((w && not b) || c) (Tick (cond c t a)) Never
+pub held_is : (b c w : Bool) (a t : ℕ) (h : Option ℕ) → h ≡ cond w (Some a) None → cond c (Some t) (cond b None h) ≡ cond ((w && not b) || c) (Some (cond c t a)) None
 held_is true true true a t h e = refl
 held_is true true false a t h e = refl
 held_is true false true a t h e = refl
@@ -42,15 +42,15 @@ module _ (n : ℕ) where
     pub releases : n < length release
     pub times : n < length w.times
     pub since_is : o.since ≡ get_or release n 0
-    pub waits_is : o.waits ≡ cond (member n w.tasks) (Tick (get_or w.times n 0)) Never
+    pub waits_is : o.waits ≡ cond (member n w.tasks) (Some (get_or w.times n 0)) None
 
   module _ (small : n < 32) where
     -- those that are taken
     abbrev pub taken_origin : ℕ → ℕ → Origin → Origin
-    taken_origin taken t o = cond (member n taken) (record { waits = Never; since = original o.waits t }) o
+    taken_origin taken t o = cond (member n taken) (record { waits = None; since = original o.waits t }) o
 
     abbrev pub deferred_origin : ℕ → ℕ → Origin → Origin
-    deferred_origin deferred t o = cond (member n deferred) (record { waits = Tick t; since = o.since }) o
+    deferred_origin deferred t o = cond (member n deferred) (record { waits = Some t; since = o.since }) o
 
     pub takes_origin : (taken marks t : ℕ) (o : Origin) → after (origin_by n) o (take_events 32 taken marks t) ≡ taken_origin taken t o
     unfolding after take_events
@@ -58,7 +58,7 @@ module _ (n : ℕ) where
         ap (after (origin_by n) o) (sym (append-nil (take_events 32 taken marks t)))
         ∙ at_task n taken (λ j. Takes j t (member j marks)) (λ j. take_events j taken marks t) refl (λ j. refl)
         (λ x es. after (origin_by n) x es ≡ taken_origin taken t o)
-        (λ x k e es h. rw e h) o (record { waits = Never; since = original o.waits t })
+        (λ x k e es h. rw e h) o (record { waits = None; since = original o.waits t })
         (λ m es h. rw (same_task n) h) 32 small [] refl
 
     pub defers_origin : (deferred t : ℕ) (o : Origin) → after (origin_by n) o (defer_events 32 deferred t) ≡ deferred_origin deferred t o
@@ -67,7 +67,7 @@ module _ (n : ℕ) where
         ap (after (origin_by n) o) (sym (append-nil (defer_events 32 deferred t)))
         ∙ at_task n deferred (λ j. Defers j t) (λ j. defer_events j deferred t) refl (λ j. refl)
         (λ x es. after (origin_by n) x es ≡ deferred_origin deferred t o)
-        (λ x k e es h. rw e h) o (record { waits = Tick t; since = o.since })
+        (λ x k e es h. rw e h) o (record { waits = Some t; since = o.since })
         (λ m es h. rw (same_task n) h) 32 small [] refl
 
     -- and what waits then
@@ -92,15 +92,15 @@ module _ (n : ℕ) where
           ∙ held_is (member n taken) (member n deferred) (member n d.waiting.tasks) (get_or d.waiting.times n 0) t o.waits h.waits_is);
     }
       where
-        since_then : (c b : Bool) → let x : Origin = cond b (record { waits = Never; since = original o.waits t }) o in
-            (cond c (record { waits = Tick t; since = x.since }) x).since ≡ cond b (original o.waits t) o.since
+        since_then : (c b : Bool) → let x : Origin = cond b (record { waits = None; since = original o.waits t }) o in
+            (cond c (record { waits = Some t; since = x.since }) x).since ≡ cond b (original o.waits t) o.since
         since_then true true = refl
         since_then true false = refl
         since_then false true = refl
         since_then false false = refl
 
-        waits_then : (c b : Bool) → let x : Origin = cond b (record { waits = Never; since = original o.waits t }) o in
-            (cond c (record { waits = Tick t; since = x.since }) x).waits ≡ cond c (Tick t) (cond b Never o.waits)
+        waits_then : (c b : Bool) → let x : Origin = cond b (record { waits = None; since = original o.waits t }) o in
+            (cond c (record { waits = Some t; since = x.since }) x).waits ≡ cond c (Some t) (cond b None o.waits)
         waits_then true b = refl
         waits_then false true = refl
         waits_then false false = refl
@@ -169,5 +169,5 @@ opened_origin table marks k l = record {
   releases = l;
   times = l;
   since_is = sym (get_or-replicate 32 k 0 0 l);
-  waits_is = ap (λ (b : Bool). cond b (Tick (get_or (replicate 32 0) k 0)) Never) (sym (none k));
+  waits_is = ap (λ (b : Bool). cond b (Some (get_or (replicate 32 0) k 0)) None) (sym (none k));
 }

@@ -1,6 +1,6 @@
 -- The pending jobs, by the history: a job is pending from its release until its completion, and the state's set says the same.
 use Rattle.std.proofs.Common.{◌≡◌, ◌&&◌, ◌||◌, ◌∷◌, ◌++◌, ◌≤◌, ◌<◌}
-use Rattle.guarantees.specs.Types.{refl, sym, ap, ◌∙◌, subst, Bool, true, false, cond, not, true≢false, List, [], append_assoc, ℕ, zero, suc, State, Done, NoJob, Job, Tick, Call}
+use Rattle.guarantees.specs.Types.{refl, sym, ap, ◌∙◌, subst, Bool, true, false, cond, not, true≢false, List, [], append_assoc, ℕ, zero, suc, State, Option, JobEntry, None, Some, Call}
 use native.Mathlib.Omega.{arith}
 use native.Mathlib.Nat.{not-suc-le-zero}
 use borrow.Author.Tests.{eqb-true, eqb-false, eq-eqb, ne_eqb}
@@ -34,7 +34,7 @@ pending_in n b [] = b
 pending_in n b (e ∷ es) = pending_in n (pending_by n b e) es
 
 -- a job that is pending and later is not has completed
-has_completed : (n : ℕ) (es : List Event) → pending_in n true es ≡ false → (u : ℕ) × (completion n es ≡ Tick u)
+has_completed : (n : ℕ) (es : List Event) → pending_in n true es ≡ false → (u : ℕ) × (completion n es ≡ Some u)
 unfolding pending_in first
 has_completed n [] h = absurd (true≢false h)
 has_completed n (Comes t ∷ es) h = has_completed n es h
@@ -44,14 +44,14 @@ has_completed n (GivesWay k ∷ es) h = has_completed n es h
 has_completed n (Starts k v ∷ es) h = has_completed n es h
 has_completed n (Stops k v ∷ es) h = has_completed n es h
 has_completed n (Completes k t ∷ es) h =
-    by-test (eqb n k) (λ e. (t, rw e)) (λ e. let x : (u : ℕ) × (completion n es ≡ Tick u) = has_completed n es (rw e at h) in (x.0, rw e x.1))
+    by-test (eqb n k) (λ e. (t, rw e)) (λ e. let x : (u : ℕ) × (completion n es ≡ Some u) = has_completed n es (rw e at h) in (x.0, rw e x.1))
 has_completed n (Ends t ∷ es) h = has_completed n es h
 has_completed n (Takes k t m ∷ es) h =
     has_completed n es (by-test (eqb n k) (λ e. rw e at h) (λ e. rw e at h))
 has_completed n (Begins t r l ∷ es) h = has_completed n es h
 
 pub completes_after : (before after : List Event) (n t : ℕ) (m b : Bool) → pending_in n b (before ++ (Takes n t m ∷ after)) ≡ false
-    → (u : ℕ) × (completion n after ≡ Tick u)
+    → (u : ℕ) × (completion n after ≡ Some u)
 unfolding pending_in
 completes_after [] after n t m b h = has_completed n after (subst (λ (x : Bool). pending_in n (cond x true b) after ≡ false) (eq-eqb n n refl) h)
 completes_after (e ∷ es) after n t m b h = completes_after es after n t m (pending_by n b e) h
@@ -76,10 +76,10 @@ module _ (n : ℕ) where
       (by_starts (As b ys) t (λ k es e. e) (at_f d t set).state.phase (at_g d t set).phase ys refl))))
 
   module _ (small : n < 32) where
-    completes_pending : (s : ℕ) (o : Done) (ys : List Event) → pending_in n (member n s) (completion_events o ++ ys) ≡ pending_in n (member n (after_done s o)) ys
+    completes_pending : (s : ℕ) (o : Option JobEntry) (ys : List Event) → pending_in n (member n s) (completion_events o ++ ys) ≡ pending_in n (member n (after_done s o)) ys
     unfolding completion_events pending_in
-    completes_pending s NoJob ys = refl
-    completes_pending s (Job e) ys =
+    completes_pending s None ys = refl
+    completes_pending s (Some e) ys =
         ap (λ (b : Bool). pending_in n b ys) (go (eqb n e.task) (member n s) ∙ sym (removed e.task s n small))
       where
         go : (x b : Bool) → cond x false b ≡ (not x && b)

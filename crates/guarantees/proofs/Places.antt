@@ -1,7 +1,7 @@
 -- Where the pending jobs are: a job that is pending is ready or in one place of one unit, and in no second one; so that a task's bit of the
 -- pending set is the sum of its bits elsewhere. And every task that a state names is one of the table's.
 use Rattle.std.proofs.Common.{◌≡◌, ◌&&◌, ◌||◌, ◌+◌, ◌^◌, ◌≤◌, ◌<◌}
-use Rattle.guarantees.specs.Types.{refl, sym, ap, ◌∙◌, subst, Bool, true, false, cond, not, true≢false, false≢true, List, ⊎_elim, ℕ, Table, Jobs, MaybeTask, NoTask, Task, Processor, Idle, CopyingIn, Executing, Finished, CopyOut, NoCopyOut, CopyingOut, CopiedOut, CopyIn, Unchosen, NoneChosen, Copying, Loaded, Cancelled, Interval, Next, NoneNext, LoadedNext, PromotedNext, Outgoing, NoneOutgoing, AwaitsCopyOut, Phase, Between, Within, State, Done, Stage}
+use Rattle.guarantees.specs.Types.{refl, sym, ap, ◌∙◌, subst, Bool, true, false, cond, not, true≢false, false≢true, List, ⊎_elim, ℕ, Table, Jobs, Option, JobEntry, None, Some, Processor, Idle, CopyingIn, Executing, Finished, CopyOut, NoCopyOut, CopyingOut, CopiedOut, CopyIn, Unchosen, NoneChosen, Copying, Loaded, Cancelled, Interval, Next, NoneNext, LoadedNext, PromotedNext, Outgoing, NoneOutgoing, AwaitsCopyOut, Phase, Between, Within, State, Stage}
 use native.Mathlib.Omega.{arith}
 use borrow.Author.Tests.{eqb-true, not-true}
 use lib.Dec.{eqb}
@@ -104,7 +104,7 @@ module _ (present : ℕ) (tasks : present < 2 ^ 32) where
   is_in false r h = absurd (omega arith)
 
   -- a copy-out that ends takes its job out of the pending ones
-  pub record Left (j : Jobs) (o : CopyOut) (done : Done) (o' : CopyOut) : Type 0 where
+  pub record Left (j : Jobs) (o : CopyOut) (done : Option JobEntry) (o' : CopyOut) : Type 0 where
     pub few : after_done j.pending done < 2 ^ 32
     pub pending : Sub (after_done j.pending done) j.pending
     pub known : copyout_known present o'
@@ -191,10 +191,10 @@ module _ (present : ℕ) (tasks : present < 2 ^ 32) where
     pub known : next_known present next
     pub parts : (k : ℕ) → k < 32 → bit (member k d.jobs.ready) + copyin_bit k c ≡ bit (member k ready) + next_bit k next
 
-  promote : (d : State) (pr : List ℕ) (s : ℕ) (q : MaybeTask) → Sub d.jobs.ready present → Best pr s q → Sub s d.jobs.ready
+  promote : (d : State) (pr : List ℕ) (s : ℕ) (q : Option ℕ) → Sub d.jobs.ready present → Best pr s q → Sub s d.jobs.ready
       → HandedOn d NoneChosen (without_promoted d.jobs.ready q) (next_of NoneChosen q)
-  promote d pr s NoTask h b f = record { ready_known = h; known = tt; parts = λ k l. refl }
-  promote d pr s (Task q) h b f =
+  promote d pr s None h b f = record { ready_known = h; known = tt; parts = λ k l. refl }
+  promote d pr s (Some q) h b f =
       let m : member q d.jobs.ready ≡ true = f q b.0 b.1 in
       record {
         ready_known = λ k l x. h k l (remove_out q d.jobs.ready k x);
@@ -202,9 +202,9 @@ module _ (present : ℕ) (tasks : present < 2 ^ 32) where
         parts = λ k l. omega (arith, chosen_bit d.jobs.ready q k l m);
       }
 
-  next_same : (c fate : ℕ) (q : MaybeTask) → next_of (Cancelled c fate) q ≡ next_of NoneChosen q
-  next_same c fate NoTask = refl
-  next_same c fate (Task q) = refl
+  next_same : (c fate : ℕ) (q : Option ℕ) → next_of (Cancelled c fate) q ≡ next_of NoneChosen q
+  next_same c fate None = refl
+  next_same c fate (Some q) = refl
 
   b_handed_on : (d : State) (i : Interval) (c : CopyIn) → settled c ≡ true → Sub d.jobs.ready present → copyin_known present c
       → HandedOn d c (without_promoted d.jobs.ready (promoted d i c)) (next_of c (promoted d i c))
@@ -335,10 +335,10 @@ module _ (present : ℕ) (tasks : present < 2 ^ 32) where
       (λ i c fate e s b. subst (λ (p : Phase). Moves d p (cancel d i c fate true) (cancel d i c fate true).phase 0 0) (sym e) (d_cancel d i c fate s (subst (Parted d) e h)))
 
   -- e
-  choose_moves : (d : State) (t : ℕ) (i : Interval) (q : MaybeTask) → i.copyin ≡ Unchosen → Parted d (Within i) → Best d.table.priority d.jobs.ready q
+  choose_moves : (d : State) (t : ℕ) (i : Interval) (q : Option ℕ) → i.copyin ≡ Unchosen → Parted d (Within i) → Best d.table.priority d.jobs.ready q
       → Moves d (Within i) (choose d t i q) (choose d t i q).phase 0 0
   unfolding choose
-  choose_moves d t i NoTask s h b = record {
+  choose_moves d t i None s h b = record {
     parted = record {
       few = h.few;
       marks = h.marks;
@@ -350,7 +350,7 @@ module _ (present : ℕ) (tasks : present < 2 ^ 32) where
     };
     sizes = refl;
   }
-  choose_moves d t i (Task q) s h b = record {
+  choose_moves d t i (Some q) s h b = record {
     parted = record {
       few = h.few;
       marks = h.marks;
@@ -368,7 +368,7 @@ module _ (present : ℕ) (tasks : present < 2 ^ 32) where
 
   e_moves : (d : State) (t : ℕ) → Parted d d.phase → Moves d d.phase (step_e d t d.phase) (step_e d t d.phase).phase 0 0
   e_moves d t h =
-      let q : MaybeTask = highest_of d d.jobs.ready in
+      let q : Option ℕ = highest_of d d.jobs.ready in
       e_cases (λ x. Moves d d.phase x x.phase 0 0) d t (record { parted = h; sizes = refl })
       (λ i e s u. subst (λ (p : Phase). Moves d p (choose d t i q) (choose d t i q).phase 0 0) (sym e) (choose_moves d t i q s (subst (Parted d) e h) (best_of d d.jobs.ready)))
 

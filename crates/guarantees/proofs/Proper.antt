@@ -1,10 +1,14 @@
 -- The tables that opening serves: they have a task, and each length is in its range.
 use Rattle.std.proofs.Common.{◌≡◌, ◌||◌, ◌⊎◌, ◌+◌, ◌^◌, ◌≤◌, ◌<◌}
-use Rattle.guarantees.specs.Types.{refl, sym, ap, ◌∙◌, subst, Bool, true, false, cond, not, List, inl, inr, ⊎_elim, ℕ, zero, suc, Table, State, NoRefusal, AtEntry, Head}
+use Rattle.std.proofs.Common.{Result, Ok, Err}
+use Rattle.std.specs.Result.{IfOk}
+use Rattle.std.proofs.lemmas.Result.{IfOk-at_ok, IfOk-weaker}
+use Rattle.guarantees.specs.Types.{refl, sym, ap, ◌∙◌, subst, Bool, true, false, cond, not, List, inl, inr, ⊎_elim, ℕ, zero, suc, Table, State, Refusal, Head}
 use Rattle.entries.specs.declared.TaskParameters.{TaskParameters}
 use Rattle.entries.specs.declared.Entry.{Entry}
 use Rattle.entries.specs.declared.Spacing.{Spacing}
-use Rattle.entries.specs.declared.Entry.TheVariants.{Malformed, TaskEntry, ReleaseEntry, SpacingEntry}
+use Rattle.entries.specs.declared.Entry.TheVariants.{TaskEntry, ReleaseEntry, SpacingEntry}
+use Rattle.entries.specs.declared.Unreadable.{Unreadable}
 use native.Mathlib.Omega.{arith}
 use borrow.Author.Tests.{eqb-true, eqb-false, eq-eqb, ltb-false}
 use lib.Dec.{eqb, ltb}
@@ -17,9 +21,9 @@ use Rattle.sets.specs.Sets.{member, insert}
 use Rattle.sets.proofs.Laws.{by-test, clash, none, insert_same, insert_other, insert_out, insert_small, member_task}
 use Rattle.entries.specs.Entries.{entry_at, entry_size}
 use Rattle.entries.specs.Limits as limits
-use Rattle.table.specs.Head.{no_table, outside, number_refused, mark_or_length_refusal, after_spacings, task_refusal, with_task, with_marked, with_spacing, entry_refusal, with_entry, marked_with, refused_at, read_to, behind_head, head_from, head_of}
+use Rattle.table.specs.Head.{no_table, outside, number_refused, mark_or_length_refusal, after_spacings, task_refusal, with_task, with_marked, with_spacing, entry_refusal, with_entry, marked_with, refused_at, read_to, behind_head, head_from, head_of, head_alone}
 use Rattle.table.proofs.Alone.{Whole, accepted, whole_head}
-use Rattle.rules.specs.Calls.{opened, opening}
+use Rattle.rules.specs.Calls.{opened, opened_from, opening}
 
 -- ---- tests in a row
 
@@ -202,41 +206,41 @@ module _ (t : Table) (marked : ℕ) (fair : Fair t marked) (roomy : Roomy t) (x 
 -- ---- an entry that meets no refusal
 
 module _ (t : Table) (marked : ℕ) (fair : Fair t marked) (roomy : Roomy t) where
-  fair_with : (x : Entry) → entry_refusal t x ≡ 0 → Fair (with_entry t x) (marked_with marked x)
+  fair_with : (x : Result Entry Unreadable) → entry_refusal t x ≡ 0 → Fair (with_entry t x) (marked_with marked x)
   unfolding entry_refusal with_entry marked_with
-  fair_with (Malformed n) e = fair
-  fair_with (TaskEntry p) e = fair_more t marked fair roomy p e
-  fair_with (ReleaseEntry r) e = fair
-  fair_with (SpacingEntry x) e = spacing_more t marked fair roomy x (spacing_taken t x e)
+  fair_with (Err n) e = fair
+  fair_with (Ok (TaskEntry p)) e = fair_more t marked fair roomy p e
+  fair_with (Ok (ReleaseEntry r)) e = fair
+  fair_with (Ok (SpacingEntry x)) e = spacing_more t marked fair roomy x (spacing_taken t x e)
 
-  roomy_with : (x : Entry) → entry_refusal t x ≡ 0 → Roomy (with_entry t x)
+  roomy_with : (x : Result Entry Unreadable) → entry_refusal t x ≡ 0 → Roomy (with_entry t x)
   unfolding entry_refusal with_entry
-  roomy_with (Malformed n) e = roomy
-  roomy_with (TaskEntry p) e = roomy_more t marked fair roomy p e
-  roomy_with (ReleaseEntry r) e = roomy
-  roomy_with (SpacingEntry x) e = roomy_spaced t marked fair roomy x (spacing_taken t x e)
+  roomy_with (Err n) e = roomy
+  roomy_with (Ok (TaskEntry p)) e = roomy_more t marked fair roomy p e
+  roomy_with (Ok (ReleaseEntry r)) e = roomy
+  roomy_with (Ok (SpacingEntry x)) e = roomy_spaced t marked fair roomy x (spacing_taken t x e)
 
-  members_with : (x : Entry) → entry_refusal t x ≡ 0 → (k : ℕ) → member k t.present ≡ true → member k (with_entry t x).present ≡ true
+  members_with : (x : Result Entry Unreadable) → entry_refusal t x ≡ 0 → (k : ℕ) → member k t.present ≡ true → member k (with_entry t x).present ≡ true
   unfolding entry_refusal with_entry with_spacing
-  members_with (Malformed n) e k m = m
-  members_with (TaskEntry p) e k m = members_more t marked fair roomy p e k m
-  members_with (ReleaseEntry r) e k m = m
-  members_with (SpacingEntry x) e k m = m
+  members_with (Err n) e k m = m
+  members_with (Ok (TaskEntry p)) e k m = members_more t marked fair roomy p e k m
+  members_with (Ok (ReleaseEntry r)) e k m = m
+  members_with (Ok (SpacingEntry x)) e k m = m
 
   -- and there is a task with it: an entry of no length is none
-  some_with : (x : Entry) → 0 < entry_size x → entry_refusal t x ≡ 0 → (n : ℕ) × (member n (with_entry t x).present ≡ true)
+  some_with : (x : Result Entry Unreadable) → 0 < entry_size x → entry_refusal t x ≡ 0 → (n : ℕ) × (member n (with_entry t x).present ≡ true)
   unfolding entry_refusal with_entry with_spacing
-  some_with (Malformed n) l e = absurd (omega arith)
-  some_with (TaskEntry p) l e = (p.number, some_more t marked fair roomy p e)
-  some_with (ReleaseEntry r) l e = absurd (omega arith)
-  some_with (SpacingEntry x) l e = (x.task, (spacing_taken t x e).known)
+  some_with (Err n) l e = absurd (omega arith)
+  some_with (Ok (TaskEntry p)) l e = (p.number, some_more t marked fair roomy p e)
+  some_with (Ok (ReleaseEntry r)) l e = absurd (omega arith)
+  some_with (Ok (SpacingEntry x)) l e = (x.task, (spacing_taken t x e).known)
 
 -- ---- the entries one after another
 
 -- what an entry can lead to
-module _ (P : Head → Type 0) (s : List ℕ) (k at : ℕ) (t : Table) (marked : ℕ) where
+module _ (P : Result Head Refusal → Type 0) (s : List ℕ) (k at : ℕ) (t : Table) (marked : ℕ) where
   entry_cases : P (read_to t marked at) → ((n : ℕ) → P (refused_at n at))
-      → ((x : Entry) → entry_at s at ≡ x → entry_refusal t x ≡ 0 → P (head_from k s (at + entry_size x) (with_entry t x) (marked_with marked x))) → P (head_from (suc k) s at t marked)
+      → ((x : Result Entry Unreadable) → entry_at s at ≡ x → entry_refusal t x ≡ 0 → P (head_from k s (at + entry_size x) (with_entry t x) (marked_with marked x))) → P (head_from (suc k) s at t marked)
   entry_cases h f g =
       by-test (behind_head s at)
       (λ b. subst P (sym (at_end s at t marked (suc k) b)) h)
@@ -247,30 +251,27 @@ module _ (P : Head → Type 0) (s : List ℕ) (k at : ℕ) (t : Table) (marked :
       go b (suc n) r = subst P (sym (refuses s at t marked k b (entry_at s at) refl (suc n) r (omega arith))) (f (suc n))
 
 -- what is read without a refusal is fair, and has a task or nothing was read
-abbrev Read : ℕ → Head → Type 0
-Read at r = r.refusal ≡ NoRefusal → Fair r.table r.marked × ((r.end ≡ at) ⊎ ((n : ℕ) × (member n r.table.present ≡ true)))
+abbrev Read : ℕ → Result Head Refusal → Type 0
+Read at r = IfOk r (λ k. Fair k.table k.marked × ((k.end ≡ at) ⊎ ((n : ℕ) × (member n k.table.present ≡ true))))
 
 -- with a task before, there is one after
-abbrev ReadOn : Head → Type 0
-ReadOn r = r.refusal ≡ NoRefusal → Fair r.table r.marked × ((n : ℕ) × (member n r.table.present ≡ true))
-
-unread {ℓ} : {A : Type ℓ} (n at : ℕ) → AtEntry n at ≡ NoRefusal → A
-unread n at e = absurd (let z : ◌≡◌ {A = ℕ} 0 1 = cc in omega arith)
+abbrev ReadOn : Result Head Refusal → Type 0
+ReadOn r = IfOk r (λ k. Fair k.table k.marked × ((n : ℕ) × (member n k.table.present ≡ true)))
 
 reads_on : (k : ℕ) (s : List ℕ) (at : ℕ) (t : Table) (marked n : ℕ) → Fair t marked → Roomy t → member n t.present ≡ true → ReadOn (head_from k s at t marked)
-reads_on zero s at t marked n f r m = unfold head_from in λ e. (f, (n, m))
+reads_on zero s at t marked n f r m = unfold head_from in (f, (n, m))
 reads_on (suc k) s at t marked n f r m =
-    entry_cases ReadOn s k at t marked (λ e. (f, (n, m))) (λ x e. unread x at e)
+    entry_cases ReadOn s k at t marked (f, (n, m)) (λ x. tt)
     (λ x i e. reads_on k s (at + entry_size x) (with_entry t x) (marked_with marked x) n (fair_with t marked f r x e) (roomy_with t marked f r x e) (members_with t marked f r x e n m))
 
 reads : (k : ℕ) (s : List ℕ) (at : ℕ) (t : Table) (marked : ℕ) → Fair t marked → Roomy t → Read at (head_from k s at t marked)
-reads zero s at t marked f r = unfold head_from in λ e. (f, inl refl)
+reads zero s at t marked f r = unfold head_from in (f, inl refl)
 reads (suc k) s at t marked f r =
-    entry_cases (Read at) s k at t marked (λ e. (f, inl refl)) (λ x e. unread x at e)
-    (λ x i e z.
+    entry_cases (Read at) s k at t marked (f, inl refl) (λ x. tt)
+    (λ x i e.
     let m : (n : ℕ) × (member n (with_entry t x).present ≡ true) = some_with t marked f r x (is_whole s at t x i e).some e in
-    let y = reads_on k s (at + entry_size x) (with_entry t x) (marked_with marked x) m.0 (fair_with t marked f r x e) (roomy_with t marked f r x e) m.1 z in
-    (y.0, inr y.1))
+    IfOk-weaker (head_from k s (at + entry_size x) (with_entry t x) (marked_with marked x)) _ _ (λ h y. (y.0, inr y.1))
+    (reads_on k s (at + entry_size x) (with_entry t x) (marked_with marked x) m.0 (fair_with t marked f r x e) (roomy_with t marked f r x e) m.1))
 
 -- ---- opening
 
@@ -295,11 +296,17 @@ all_read : (bytes : List ℕ) → Read 0 (head_of bytes)
 unfolding head_of
 all_read bytes = reads (length bytes) bytes 0 no_table 0 fair_none roomy_none
 
-pub opens : (bytes : List ℕ) → (opening bytes).refusal ≡ NoRefusal → Opens (opening bytes).state
+pub opens : (bytes : List ℕ) (d : State) → opening bytes ≡ Ok d → Opens d
 unfolding opening
-opens bytes h =
-    let w : Whole bytes = accepted bytes h in
-    let k : Head = head_of bytes in
-    let x = all_read bytes w.none_refused in
-    subst (λ (k : Head). Opens (opened k.table k.marked)) (sym (whole_head bytes w))
-    (⊎_elim (λ z. absurd (w.some (sym w.whole ∙ z))) (λ z. some_proper k.table k.marked x.0 z.0 z.1) x.1)
+opens bytes d h = go (head_alone bytes) refl h
+  where
+    go : (r : Result Head Refusal) → head_alone bytes ≡ r → opened_from r ≡ Ok d → Opens d
+    go (Err r) e h = absurd (cc)
+    go (Ok k) e h =
+        let w : Whole bytes = accepted bytes k e in
+        let j : Head = w.head in
+        let x : Fair j.table j.marked × ((j.end ≡ 0) ⊎ ((n : ℕ) × (member n j.table.present ≡ true))) = IfOk-at_ok _ w.none_refused (all_read bytes) in
+        let o : Opens (opened j.table j.marked) = ⊎_elim (λ z. absurd (w.some (sym w.whole ∙ z))) (λ z. some_proper j.table j.marked x.0 z.0 z.1) x.1 in
+        let same : j ≡ k = let q = sym w.none_refused ∙ sym (whole_head bytes w) ∙ e in cc in
+        let left : opened j.table j.marked ≡ d = let q = ap (λ (y : Head). opened y.table y.marked) same in cc in
+        subst Opens left o

@@ -1,6 +1,6 @@
 -- The entry of a job done tells the truth: along the calls, the state knows of each task's last job what the walk of Tally finds.
 use Rattle.std.proofs.Common.{◌≡◌, ◌∷◌, ◌++◌, ◌<◌}
-use Rattle.guarantees.specs.Types.{refl, sym, ap, ◌∙◌, subst, Bool, true, false, cond, false≢true, List, append_assoc, inr, ⊎_elim, ℕ, Table, Jobs, Clock, At, CopyOut, NoCopyOut, CopyingOut, CopiedOut, Interval, Phase, Between, Within, State, NoJob, Job, Never, Tick, Call, JobEntry, Occurred, Served, Refused}
+use Rattle.guarantees.specs.Types.{refl, sym, ap, ◌∙◌, subst, Bool, true, false, cond, false≢true, List, append_assoc, inr, ⊎_elim, ℕ, Table, Jobs, Clock, At, CopyOut, NoCopyOut, CopyingOut, CopiedOut, Interval, Phase, Between, Within, State, None, Some, Call, JobEntry, Occurred, Ok, Err}
 use native.Mathlib.Omega.{arith}
 use lib.Dec.{eqb}
 use lib.ListN.{get_or, replicate}
@@ -153,7 +153,7 @@ module _ (table : Table) (marks : ℕ) (fair : Fair table marks) (n : ℕ) (smal
     at = refl;
     releases = small;
     counts = small;
-    holds = record { times = small; is = ap (λ (b : Bool). cond b (Tick (get_or (replicate 32 0) n 0)) Never) (sym (none n)) };
+    holds = record { times = small; is = ap (λ (b : Bool). cond b (Some (get_or (replicate 32 0) n 0)) None) (sym (none n)) };
     awaits = λ w. ⊎_elim (λ m. clash (member n 0) m (none n)) (λ e. absurd (false≢true e)) w;
     runs = λ s r. absurd r;
   }
@@ -172,48 +172,48 @@ module _ (table : Table) (marks : ℕ) (fair : Fair table marks) (n : ℕ) (smal
 
 -- ---- the entry of a job done
 
-different {ℓ} : {A : Type ℓ} (e : JobEntry) → NoJob ≡ Job e → A
+different {ℓ} : {A : Type ℓ} (e : JobEntry) → None ≡ Some e → A
 different e h = absurd (let z : ◌≡◌ {A = ℕ} 0 1 = cc in omega arith)
 
-tick_is : (a b : ℕ) → Tick a ≡ Tick b → a ≡ b
+tick_is : (a b : ℕ) → Some a ≡ Some b → a ≡ b
 tick_is a b h = cc
 
 -- the copy-out that ends now
-completed_is : (j : Jobs) (t : ℕ) (o : CopyOut) (e : JobEntry) → completed j t o ≡ Job e
+completed_is : (j : Jobs) (t : ℕ) (o : CopyOut) (e : JobEntry) → completed j t o ≡ Some e
     → (m : ℕ) × (start : ℕ) × (until : ℕ) × (o ≡ CopyingOut m start until) × (job_entry j m start t ≡ e)
 unfolding completed
 completed_is j t NoCopyOut e h = different e h
 completed_is j t (CopyingOut m start until) e h = go (eqb until t) h
   where
-    go : (b : Bool) → cond b (Job (job_entry j m start t)) NoJob ≡ Job e
+    go : (b : Bool) → cond b (Some (job_entry j m start t)) None ≡ Some e
         → (m' : ℕ) × (start' : ℕ) × (until' : ℕ) × (CopyingOut m start until ≡ CopyingOut m' start' until') × (job_entry j m' start' t ≡ e)
     go true h = (m, start, until, refl, cc)
     go false h = different e h
 completed_is j t (CopiedOut m) e h = different e h
 
-a_done : (d : State) (t : ℕ) (p : Phase) (e : JobEntry) → (step_a d t p).done ≡ Job e → (i : Interval) × (p ≡ Within i) × (completed d.jobs t i.copyout ≡ Job e)
+a_done : (d : State) (t : ℕ) (p : Phase) (e : JobEntry) → (step_a d t p).done ≡ Some e → (i : Interval) × (p ≡ Within i) × (completed d.jobs t i.copyout ≡ Some e)
 unfolding step_a
 a_done d t (Between next outgoing) e h = different e h
 a_done d t (Within i) e h = (i, refl, h)
 
 -- what an instant answers that is served
-pub served_so : (d : State) (t set : ℕ) (o : Occurred) → (instant d t set).answer ≡ Served o → occurred d t set ≡ o
+pub served_so : (d : State) (t set : ℕ) (o : Occurred) → (instant d t set).answer ≡ Ok o → occurred d t set ≡ o
 unfolding instant served
 served_so d t set o h =
     by-test (eqb (refusal d t set) 0)
-    (λ b. let z : Served (occurred d t set) ≡ Served o = rw b at h in cc)
-    (λ b. let z : Refused (refusal d t set) ≡ Served o = rw b at h in absurd (let y : ◌≡◌ {A = ℕ} 0 1 = cc in omega arith))
+    (λ b. let z : Ok (occurred d t set) ≡ Ok o = rw b at h in cc)
+    (λ b. let z : Err (refusal d t set) ≡ Ok o = rw b at h in absurd (let y : ◌≡◌ {A = ℕ} 0 1 = cc in omega arith))
 
-done_now : (d : State) (t set : ℕ) (o : Occurred) (e : JobEntry) → (instant d t set).answer ≡ Served o → o.done ≡ Job e → (step_a (at_clock d t) t d.phase).done ≡ Job e
+done_now : (d : State) (t set : ℕ) (o : Occurred) (e : JobEntry) → (instant d t set).answer ≡ Ok o → o.done ≡ Some e → (step_a (at_clock d t) t d.phase).done ≡ Some e
 unfolding at_a
 done_now d t set o e h f = sym (done_so d t set) ∙ ap (λ (o : Occurred). o.done) (served_so d t set o h) ∙ f
 
 module _ (table : Table) (marks : ℕ) (fair : Fair table marks) where
   pub tells : (cs : List Call) (t set : ℕ) (o : Occurred) (e : JobEntry) → let d : State = after_calls (opened table marks) cs in
-      (instant d t set).answer ≡ Served o → o.done ≡ Job e → TellsJob table.priority (history (opened table marks) cs) t e
+      (instant d t set).answer ≡ Ok o → o.done ≡ Some e → TellsJob table.priority (history (opened table marks) cs) t e
   tells cs t set o e h f =
       let d : State = after_calls (opened table marks) cs in
-      let p : (i : Interval) × (d.phase ≡ Within i) × (completed d.jobs t i.copyout ≡ Job e) = a_done (at_clock d t) t d.phase e (done_now d t set o e h f) in
+      let p : (i : Interval) × (d.phase ≡ Within i) × (completed d.jobs t i.copyout ≡ Some e) = a_done (at_clock d t) t d.phase e (done_now d t set o e h f) in
       let c : (m : ℕ) × (start : ℕ) × (until : ℕ) × (p.0.copyout ≡ CopyingOut m start until) × (job_entry d.jobs m start t ≡ e) =
       completed_is d.jobs t p.0.copyout e p.2 in
       let g : Good table marks fair d = good_after table marks fair cs (opened table marks) (good_opened table marks fair) in
@@ -228,12 +228,12 @@ module _ (table : Table) (marks : ℕ) (fair : Fair table marks) where
           let d : State = after_calls (opened table marks) cs in
           let h : List Event = history (opened table marks) cs in
           let x : Tally = tally m nothing h in
-          let a : Ran table.priority m small x (Tick start) d =
-          (knows_after table marks fair m small cs).runs (Tick start)
-          (subst (RunsAt table.priority m small (Tick start)) (sym e) (inr (subst (InCopyOut table.priority m small (Tick start)) (sym f) (same_task m, refl)))) in
+          let a : Ran table.priority m small x (Some start) d =
+          (knows_after table marks fair m small cs).runs (Some start)
+          (subst (RunsAt table.priority m small (Some start)) (sym e) (inr (subst (InCopyOut table.priority m small (Some start)) (sym f) (same_task m, refl)))) in
           let s : Split m nothing h x = last_job m h (get_or d.jobs.release m 0) a.release in
-          let r : ℕ = original (waiting m Never s.before) s.tick in
-          let same : Tick (get_or d.jobs.release m 0) ≡ Tick r = sym a.release ∙ s.release in
+          let r : ℕ = original (waiting m None s.before) s.tick in
+          let same : Some (get_or d.jobs.release m 0) ≡ Some r = sym a.release ∙ s.release in
           record {
             before = s.before;
             after = s.after;

@@ -1,6 +1,6 @@
 -- The events of an instant come in the order of its steps.
 use Rattle.std.proofs.Common.{◌≡◌, ◌∷◌, ◌++◌, ◌≤◌}
-use Rattle.guarantees.specs.Types.{refl, sym, subst, Bool, true, false, cond, true≢false, ⊎_elim, List, [], ℕ, Table, Processor, Idle, CopyingIn, Executing, Finished, Phase, Between, Within, State, Done, NoJob, Job, Call}
+use Rattle.guarantees.specs.Types.{refl, sym, subst, Bool, true, false, cond, true≢false, ⊎_elim, List, [], ℕ, Table, Processor, Idle, CopyingIn, Executing, Finished, Phase, Between, Within, State, Option, JobEntry, None, Some, Call}
 use native.Mathlib.Omega.{arith}
 use borrow.Author.Tests.{leb-true}
 use lib.Dec.{leb}
@@ -72,10 +72,10 @@ module _ (t : ℕ) where
   unfolding Ordered
   finishes_ordered n es h = ((λ e. omega arith), h)
 
-  completes_ordered : (o : Done) (es : List Event) → Upto 2 es → Ordered 0 (completion_events o ++ es)
+  completes_ordered : (o : Option JobEntry) (es : List Event) → Upto 2 es → Ordered 0 (completion_events o ++ es)
   unfolding completion_events Ordered
-  completes_ordered NoJob es h = h 0 (omega arith)
-  completes_ordered (Job e) es h = ((λ e. omega arith), h 2 (omega arith))
+  completes_ordered None es h = h 0 (omega arith)
+  completes_ordered (Some e) es h = ((λ e. omega arith), h 2 (omega arith))
 
   b_ordered : (p q : Phase) (es : List Event) → Upto 2 es → Ordered 0 (end_events t p q ++ es)
   unfolding end_events Ordered

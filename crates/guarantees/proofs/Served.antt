@@ -1,7 +1,7 @@
 -- What an instant that is served tells: its set is of the table's tasks, its releases come early, and no phase ends before it; and how far the
 -- phases that end at it bring the end nearer.
 use Rattle.std.proofs.Common.{◌≡◌, ◌&&◌, ◌⊎◌, ◌+◌, ◌*◌, ◌≤◌, ◌<◌}
-use Rattle.guarantees.specs.Types.{refl, sym, ap, ◌∙◌, subst, true, false, not, inl, inr, ⊎_elim, ℕ, min, Table, Clock, Unset, At, Processor, Idle, CopyingIn, Executing, Finished, CopyOut, NoCopyOut, CopyingOut, CopiedOut, CopyIn, Unchosen, NoneChosen, Copying, Loaded, Cancelled, Phase, Between, Within, State, Due, Never, Tick, Stage}
+use Rattle.guarantees.specs.Types.{refl, sym, ap, ◌∙◌, subst, true, false, not, inl, inr, ⊎_elim, ℕ, min, Table, Clock, Unset, At, Processor, Idle, CopyingIn, Executing, Finished, CopyOut, NoCopyOut, CopyingOut, CopiedOut, CopyIn, Unchosen, NoneChosen, Copying, Loaded, Cancelled, Phase, Between, Within, State, Option, None, Some, Stage}
 use native.Mathlib.Omega.{arith}
 use borrow.Author.Tests.{eqb-true, eq-eqb, ltb-false, le-ltb, leb-false, leb-true, not-false}
 use lib.Dec.{eqb, ltb, leb}
@@ -79,47 +79,47 @@ instant_sinks d t set h =
 
 -- ---- the next due time
 
-pub sooner_is : (x y : Due) (t : ℕ) → sooner x y ≡ Tick t → (x ≡ Tick t) ⊎ (y ≡ Tick t)
+pub sooner_is : (x y : Option ℕ) (t : ℕ) → sooner x y ≡ Some t → (x ≡ Some t) ⊎ (y ≡ Some t)
 unfolding sooner
-sooner_is Never y t h = inr h
-sooner_is (Tick a) Never t h = inl h
-sooner_is (Tick a) (Tick b) t h =
+sooner_is None y t h = inr h
+sooner_is (Some a) None t h = inl h
+sooner_is (Some a) (Some b) t h =
     let e : min a b ≡ t = cc in
     by-test (leb a b)
-    (λ l. inl (ap Tick (omega (arith, leb-true a b l))))
-    (λ l. inr (ap Tick (omega (arith, leb-false a b l))))
+    (λ l. inl (ap Some (omega (arith, leb-true a b l))))
+    (λ l. inr (ap Some (omega (arith, leb-false a b l))))
 
-pub sooner_never : (x y : Due) → sooner x y ≡ Never → (x ≡ Never) × (y ≡ Never)
+pub sooner_never : (x y : Option ℕ) → sooner x y ≡ None → (x ≡ None) × (y ≡ None)
 unfolding sooner
-sooner_never Never y h = (refl, h)
-sooner_never (Tick a) Never h = absurd (let z : ◌≡◌ {A = ℕ} 0 1 = cc in omega arith)
-sooner_never (Tick a) (Tick b) h = absurd (let z : ◌≡◌ {A = ℕ} 0 1 = cc in omega arith)
+sooner_never None y h = (refl, h)
+sooner_never (Some a) None h = absurd (let z : ◌≡◌ {A = ℕ} 0 1 = cc in omega arith)
+sooner_never (Some a) (Some b) h = absurd (let z : ◌≡◌ {A = ℕ} 0 1 = cc in omega arith)
 
-tick_same : (u t : ℕ) → Tick u ≡ Tick t → bit (eqb u t) ≡ 1
+tick_same : (u t : ℕ) → Some u ≡ Some t → bit (eqb u t) ≡ 1
 tick_same u t h = let e : u ≡ t = cc in rw (eq-eqb u t e)
 
-never-tick {ℓ} : {A : Type ℓ} (t : ℕ) → Never ≡ Tick t → A
+never-tick {ℓ} : {A : Type ℓ} (t : ℕ) → None ≡ Some t → A
 never-tick t h = absurd (let z : ◌≡◌ {A = ℕ} 0 1 = cc in omega arith)
 
-processor_falls : (t : ℕ) (q : Processor) → processor_due q ≡ Tick t → processor_drop t q ≡ 1
+processor_falls : (t : ℕ) (q : Processor) → processor_due q ≡ Some t → processor_drop t q ≡ 1
 processor_falls t Idle h = never-tick t h
 processor_falls t (CopyingIn n until) h = tick_same until t h
 processor_falls t (Executing n start until) h = tick_same until t h
 processor_falls t (Finished n start) h = never-tick t h
 
-copyout_falls : (t : ℕ) (o : CopyOut) → copyout_due o ≡ Tick t → copyout_drop t o ≡ 1
+copyout_falls : (t : ℕ) (o : CopyOut) → copyout_due o ≡ Some t → copyout_drop t o ≡ 1
 copyout_falls t NoCopyOut h = never-tick t h
 copyout_falls t (CopyingOut n start until) h = tick_same until t h
 copyout_falls t (CopiedOut n) h = never-tick t h
 
-copyin_falls : (t : ℕ) (c : CopyIn) → copyin_due c ≡ Tick t → copyin_drop t c ≡ 1
+copyin_falls : (t : ℕ) (c : CopyIn) → copyin_due c ≡ Some t → copyin_drop t c ≡ 1
 copyin_falls t Unchosen h = never-tick t h
 copyin_falls t NoneChosen h = never-tick t h
 copyin_falls t (Copying n until) h = tick_same until t h
 copyin_falls t (Loaded n) h = never-tick t h
 copyin_falls t (Cancelled n fate) h = never-tick t h
 
-pub due_drop : (t : ℕ) (p : Phase) → due p ≡ Tick t → 1 ≤ drop t p
+pub due_drop : (t : ℕ) (p : Phase) → due p ≡ Some t → 1 ≤ drop t p
 unfolding due
 due_drop t (Between next outgoing) h = never-tick t h
 due_drop t (Within i) h =
@@ -129,11 +129,11 @@ due_drop t (Within i) h =
     (sooner_is (processor_due i.processor) (sooner (copyout_due i.copyout) (copyin_due i.copyin)) t h)
 
 -- no phase ends before an instant that is served
-pub before_sooner : (x y : Due) (t : ℕ) → before_now (sooner x y) t ≡ false → (before_now x t ≡ false) × (before_now y t ≡ false)
+pub before_sooner : (x y : Option ℕ) (t : ℕ) → before_now (sooner x y) t ≡ false → (before_now x t ≡ false) × (before_now y t ≡ false)
 unfolding sooner
-before_sooner Never y t h = (refl, h)
-before_sooner (Tick a) Never t h = (h, refl)
-before_sooner (Tick a) (Tick b) t h =
+before_sooner None y t h = (refl, h)
+before_sooner (Some a) None t h = (h, refl)
+before_sooner (Some a) (Some b) t h =
     let l : t ≤ min a b = ltb-false (min a b) t h in
     (le-ltb a t (omega arith), le-ltb b t (omega arith))
 

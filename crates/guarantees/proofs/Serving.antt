@@ -1,7 +1,7 @@
 -- Every job that is taken executes and completes, where nothing is pending after the calls: a job completes only where it has started, since
 -- what is copied out was executed; and a task whose release is taken has no job that is executed or copied out.
 use Rattle.std.proofs.Common.{◌≡◌, ◌&&◌, ◌∷◌, ◌++◌, ◌<◌}
-use Rattle.guarantees.specs.Types.{refl, sym, ap, ◌∙◌, subst, Bool, true, false, cond, true≢false, false≢true, List, [], ℕ, Table, Jobs, MaybeTask, NoTask, Task, Processor, Idle, CopyingIn, Executing, Finished, CopyOut, NoCopyOut, CopyingOut, CopiedOut, Interval, Next, NoneNext, LoadedNext, PromotedNext, Outgoing, NoneOutgoing, AwaitsCopyOut, Phase, Between, Within, State, Stage, Call, Tick}
+use Rattle.guarantees.specs.Types.{refl, sym, ap, ◌∙◌, subst, Bool, true, false, cond, true≢false, false≢true, List, [], ℕ, Table, Jobs, Option, None, Some, Processor, Idle, CopyingIn, Executing, Finished, CopyOut, NoCopyOut, CopyingOut, CopiedOut, Interval, Next, NoneNext, LoadedNext, PromotedNext, Outgoing, NoneOutgoing, AwaitsCopyOut, Phase, Between, Within, State, Stage, Call}
 use native.Mathlib.Omega.{arith}
 use lib.Dec.{eqb}
 use Rattle.sets.specs.Sets.{member, bit}
@@ -49,7 +49,7 @@ module _ (n : ℕ) where
   serving_after (e ∷ before) after t m s h = serving_after before after t m (started_by s e) h.1
 
   -- one that has not started and completes starts first
-  starts_first : (es : List Event) → Serving false es → (u : ℕ) → completion n es ≡ Tick u → (v : ℕ) × (start n es ≡ Tick v)
+  starts_first : (es : List Event) → Serving false es → (u : ℕ) → completion n es ≡ Some u → (v : ℕ) × (start n es ≡ Some v)
   unfolding Serving first
   starts_first [] h u c = absurd (let z : ◌≡◌ {A = ℕ} 0 1 = cc in omega arith)
   starts_first (e ∷ es) h u c = go (starts_it e) (completes_it e) refl refl (starts_first es)
@@ -59,11 +59,11 @@ module _ (n : ℕ) where
       unstarted false x = rw x
 
       go : (a b : Bool) → starts_it e ≡ a → completes_it e ≡ b
-          → (Serving false es → (u : ℕ) → completion n es ≡ Tick u → (v : ℕ) × (start n es ≡ Tick v)) → (v : ℕ) × (start n (e ∷ es) ≡ Tick v)
+          → (Serving false es → (u : ℕ) → completion n es ≡ Some u → (v : ℕ) × (start n es ≡ Some v)) → (v : ℕ) × (start n (e ∷ es) ≡ Some v)
       go true b x y k = ((details e).tick, rw x)
       go false true x y k = absurd (false≢true (h.0 y))
       go false false x y k =
-          let i : (v : ℕ) × (start n es ≡ Tick v) = k (subst (λ (s : Bool). Serving s es) (unstarted (takes_it n e) x) h.1) u (rw y at c) in
+          let i : (v : ℕ) × (start n es ≡ Some v) = k (subst (λ (s : Bool). Serving s es) (unstarted (takes_it n e) x) h.1) u (rw y at c) in
           (i.0, rw x i.1)
 
   -- ---- by the state
@@ -158,10 +158,10 @@ module _ (n : ℕ) where
   d_started s d taken h = d_cases (λ x. phase_started s x.phase) d taken h (λ i m fate e c b. subst (phase_started s) e h)
 
   -- e
-  choose_started : (s : Bool) (d : State) (t : ℕ) (i : Interval) (q : MaybeTask) → phase_started s (Within i) → phase_started s (choose d t i q).phase
+  choose_started : (s : Bool) (d : State) (t : ℕ) (i : Interval) (q : Option ℕ) → phase_started s (Within i) → phase_started s (choose d t i q).phase
   unfolding choose
-  choose_started s d t i NoTask h = h
-  choose_started s d t i (Task q) h = h
+  choose_started s d t i None h = h
+  choose_started s d t i (Some q) h = h
 
   e_started : (s : Bool) (d : State) (t : ℕ) → phase_started s d.phase → phase_started s (step_e d t d.phase).phase
   e_started s d t h =
@@ -172,10 +172,10 @@ module _ (n : ℕ) where
   Units q o (Between next outgoing) = ⊥
   Units q o (Within j) = (j.processor ≡ q) × (j.copyout ≡ o)
 
-  choose_units : (q : Processor) (o : CopyOut) (d : State) (t : ℕ) (i : Interval) (c : MaybeTask) → Units q o (Within i) → Units q o (choose d t i c).phase
+  choose_units : (q : Processor) (o : CopyOut) (d : State) (t : ℕ) (i : Interval) (c : Option ℕ) → Units q o (Within i) → Units q o (choose d t i c).phase
   unfolding choose
-  choose_units q o d t i NoTask h = h
-  choose_units q o d t i (Task c) h = h
+  choose_units q o d t i None h = h
+  choose_units q o d t i (Some c) h = h
 
   e_units : (q : Processor) (o : CopyOut) (d : State) (t : ℕ) → Units q o d.phase → Units q o (step_e d t d.phase).phase
   e_units q o d t h = e_cases (λ x. Units q o x.phase) d t h (λ i e c u. choose_units q o d t i (highest_of d d.jobs.ready) (subst (Units q o) e h))
@@ -306,10 +306,10 @@ module _ (table : Table) (marks : ℕ) (fair : Fair table marks) where
   all_served_jobs calls p before after n t m e =
       let d : State = opened table marks in
       let small : n < 32 = taken_small d calls before after n t m e in
-      let c : (u : ℕ) × (completion n after ≡ Tick u) =
+      let c : (u : ℕ) × (completion n after ≡ Some u) =
       completes_after before after n t m false
       (subst (λ (x : List Event). pending_in n false x ≡ false) e
       (subst (λ (b : Bool). pending_in n b (history d calls) ≡ false) (none n) (pending_same n small d calls ∙ ap (member n) p ∙ none n))) in
-      let s : (v : ℕ) × (start n after ≡ Tick v) =
+      let s : (v : ℕ) × (start n after ≡ Some v) =
       starts_first n after (serving_after n before after t m false (subst (Serving n false) e (serving n small d calls (good_opened table marks fair) false tt))) c.0 c.1 in
       record { started = s.0; starts = s.1; done = c.0; completes = c.1 }

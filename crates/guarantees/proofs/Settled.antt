@@ -1,7 +1,7 @@
 -- What holds when an instant is over: the choice is made as soon as the engine is free, an interval that can end is not open, and one is open
 -- if there is anything to do.
 use Rattle.std.proofs.Common.{◌≡◌, ◌^◌, ◌<◌}
-use Rattle.guarantees.specs.Types.{refl, sym, subst, true, false, true≢false, ℕ, MaybeTask, NoTask, Task, Processor, Idle, CopyOut, NoCopyOut, CopyIn, Unchosen, NoneChosen, Copying, Loaded, Cancelled, Interval, Next, NoneNext, LoadedNext, PromotedNext, Outgoing, NoneOutgoing, AwaitsCopyOut, Phase, Between, Within, State, Stage}
+use Rattle.guarantees.specs.Types.{refl, sym, subst, true, false, true≢false, ℕ, Option, None, Some, Processor, Idle, CopyOut, NoCopyOut, CopyIn, Unchosen, NoneChosen, Copying, Loaded, Cancelled, Interval, Next, NoneNext, LoadedNext, PromotedNext, Outgoing, NoneOutgoing, AwaitsCopyOut, Phase, Between, Within, State, Stage}
 use borrow.Author.Tests.{eqb-true, eqb-false, not-true, not-false}
 use lib.Dec.{eqb}
 use Rattle.sets.specs.Sets.{intersection}
@@ -43,10 +43,10 @@ pub record Settled (d : State) (p : Phase) : Type 0 where
   pub rests : RestAt d.jobs.ready p
 
 -- e
-chosen_decided : (d : State) (t : ℕ) (i : Interval) (q : MaybeTask) → DecidedAt (choose d t i q).phase
+chosen_decided : (d : State) (t : ℕ) (i : Interval) (q : Option ℕ) → DecidedAt (choose d t i q).phase
 unfolding choose
-chosen_decided d t i NoTask = tt
-chosen_decided d t i (Task q) = tt
+chosen_decided d t i None = tt
+chosen_decided d t i (Some q) = tt
 
 undecided : (d : State) (t : ℕ) (i : Interval) → d.phase ≡ Within i → (c : CopyIn) → i.copyin ≡ c → DecidedAt (choose_if d t i c).phase
 unfolding choose_if
@@ -80,11 +80,11 @@ busy : (q : Processor) (p : Phase) → Opened q p → resting q ≡ false → Op
 busy q (Between next outgoing) e h = absurd e
 busy q (Within j) e h = rw (e, h)
 
-chosen_open : (d : State) (t : ℕ) (i : Interval) (q : MaybeTask) → i.processor ≡ Idle → i.copyout ≡ NoCopyOut → d.jobs.ready < 2 ^ 32 → eqb d.jobs.ready 0 ≡ false
+chosen_open : (d : State) (t : ℕ) (i : Interval) (q : Option ℕ) → i.processor ≡ Idle → i.copyout ≡ NoCopyOut → d.jobs.ready < 2 ^ 32 → eqb d.jobs.ready 0 ≡ false
     → Best d.table.priority d.jobs.ready q → OpenAt (choose d t i q).phase
 unfolding choose
-chosen_open d t i NoTask x y f h b = absurd (eqb-false d.jobs.ready 0 h (empty d.jobs.ready f b))
-chosen_open d t i (Task q) x y f h b = rw (x, y)
+chosen_open d t i None x y f h b = absurd (eqb-false d.jobs.ready 0 h (empty d.jobs.ready f b))
+chosen_open d t i (Some q) x y f h b = rw (x, y)
 
 begun_opened : (f : State) (t taken : ℕ) (next : Next) (outgoing : Outgoing) →
     let b : State = begin f t taken next outgoing in Opened (begin_processor f.table t next) (step_e b t b.phase).phase

@@ -1,7 +1,7 @@
 -- How long an interval lasts: while one is open, what is under way in it ends at most M after its begin; the processor by its task's own L + C, the
 -- engine by a copy-out and then a copy-in. Each step keeps that; and since an instant is never after a due time, none comes later.
 use Rattle.std.proofs.Common.{◌≡◌, ◌&&◌, ◌+◌, ◌^◌, ◌≤◌, ◌<◌}
-use Rattle.guarantees.specs.Types.{refl, sym, ap, ◌∙◌, subst, true, false, cond, not, true≢false, false≢true, ℕ, zero, suc, Table, MaybeTask, NoTask, Task, Processor, Idle, CopyingIn, Executing, Finished, CopyOut, NoCopyOut, CopyingOut, CopiedOut, CopyIn, Unchosen, NoneChosen, Copying, Loaded, Cancelled, Interval, Next, NoneNext, LoadedNext, PromotedNext, Outgoing, NoneOutgoing, AwaitsCopyOut, Phase, Between, Within, State, Stage, Due, Never, Tick}
+use Rattle.guarantees.specs.Types.{refl, sym, ap, ◌∙◌, subst, true, false, cond, not, true≢false, false≢true, ℕ, zero, suc, Table, Option, None, Some, Processor, Idle, CopyingIn, Executing, Finished, CopyOut, NoCopyOut, CopyingOut, CopiedOut, CopyIn, Unchosen, NoneChosen, Copying, Loaded, Cancelled, Interval, Next, NoneNext, LoadedNext, PromotedNext, Outgoing, NoneOutgoing, AwaitsCopyOut, Phase, Between, Within, State, Stage}
 use Prim.Native.Nat.{max}
 use native.Mathlib.Omega.{arith}
 use native.Mathlib.Nat.{not-suc-le-zero}
@@ -37,14 +37,14 @@ greatest_most (suc k) tasks has n l m =
     (λ e. omega (arith, greatest_most k tasks has n (omega (arith, eqb-false n k e)) m))
 
 -- the begin of the open interval
-abbrev pub begun_of : Phase → Due
-begun_of (Between next outgoing) = Never
-begun_of (Within i) = Tick i.begin
+abbrev pub begun_of : Phase → Option ℕ
+begun_of (Between next outgoing) = None
+begun_of (Within i) = Some i.begin
 
 -- an interval that began at b, if one is open, is open at t at most M later
-abbrev pub in_time : ℕ → Due → ℕ → Type 0
-in_time M Never t = Unit {0}
-in_time M (Tick b) t = t ≤ b + M
+abbrev pub in_time : ℕ → Option ℕ → ℕ → Type 0
+in_time M None t = Unit {0}
+in_time M (Some b) t = t ≤ b + M
 
 module _ (table : Table) (tasks : table.present < 2 ^ 32) where
   abbrev L : ℕ
@@ -175,11 +175,11 @@ module _ (table : Table) (tasks : table.present < 2 ^ 32) where
     known_copyin : (n : ℕ) → member n table.present ≡ true → copyin_length table.columns n ≤ L
     known_copyin n m = greatest_most 32 table.present (λ k. copyin_length table.columns k) n (member_task n table.present tasks m) m
 
-    choose_spans : (d : State) (i : Interval) (q : MaybeTask) → d.table ≡ table → Sub d.jobs.ready table.present → Best d.table.priority d.jobs.ready q
+    choose_spans : (d : State) (i : Interval) (q : Option ℕ) → d.table ≡ table → Sub d.jobs.ready table.present → Best d.table.priority d.jobs.ready q
         → i.copyin ≡ Unchosen → Spans t (Within i) → Spans t (choose d t i q).phase
     unfolding choose
-    choose_spans d i NoTask x k b u h = (h.0, h.1, tt)
-    choose_spans d i (Task q) x k b u h =
+    choose_spans d i None x k b u h = (h.0, h.1, tt)
+    choose_spans d i (Some q) x k b u h =
         (h.0, h.1, copies (subst (copyin_span t i.begin) u h.2))
       where
         copies : t ≤ i.begin + U → later t (copyin_length d.table.columns q) ≤ i.begin + U + L

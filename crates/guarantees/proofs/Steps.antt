@@ -1,6 +1,6 @@
 -- Small facts on single steps, which several of the proofs use.
 use Rattle.std.proofs.Common.{◌≡◌, ◌&&◌, ◌<◌}
-use Rattle.guarantees.specs.Types.{refl, sym, ap, subst, true, not, ℕ, Table, MaybeTask, NoTask, Task, Processor, Interval, Phase, Between, Within, State}
+use Rattle.guarantees.specs.Types.{refl, sym, ap, subst, true, not, ℕ, Table, Option, None, Some, Processor, Interval, Phase, Between, Within, State}
 use Rattle.sets.specs.Sets.{member, intersection}
 use Rattle.sets.proofs.Laws.{right, union_right, intersection_in}
 use lib.ListN.{get_or}
@@ -17,10 +17,10 @@ abbrev pub Opened : Processor → Phase → Type 0
 Opened q (Between next outgoing) = ⊥
 Opened q (Within j) = j.processor ≡ q
 
-pub choose_opens : (d : State) (t : ℕ) (i : Interval) (q : MaybeTask) → Opened i.processor (choose d t i q).phase
+pub choose_opens : (d : State) (t : ℕ) (i : Interval) (q : Option ℕ) → Opened i.processor (choose d t i q).phase
 unfolding choose
-choose_opens d t i NoTask = refl
-choose_opens d t i (Task q) = refl
+choose_opens d t i None = refl
+choose_opens d t i (Some q) = refl
 
 pub e_opens : (d : State) (t : ℕ) (q : Processor) → Opened q d.phase → Opened q (step_e d t d.phase).phase
 e_opens d t q h =

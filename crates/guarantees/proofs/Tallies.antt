@@ -1,6 +1,6 @@
 -- The walk of Tally over the events of each step, and the arrays by task number.
 use Rattle.std.proofs.Common.{◌≡◌, ◌&&◌, ◌||◌, ◌∷◌, ◌++◌, ◌+◌, ◌<◌}
-use Rattle.guarantees.specs.Types.{refl, sym, ap, ◌∙◌, subst, Bool, true, false, cond, List, [], ℕ, zero, suc, min, Table, MaybeTask, NoTask, Task, Processor, Idle, CopyingIn, Executing, Finished, CopyIn, Unchosen, NoneChosen, Copying, Loaded, Cancelled, Next, NoneNext, LoadedNext, PromotedNext, Outgoing, Phase, Between, Within, Done, NoJob, Job, Due, Tick}
+use Rattle.guarantees.specs.Types.{refl, sym, ap, ◌∙◌, subst, Bool, true, false, cond, List, [], ℕ, zero, suc, min, Table, Option, JobEntry, None, Some, Processor, Idle, CopyingIn, Executing, Finished, CopyIn, Unchosen, NoneChosen, Copying, Loaded, Cancelled, Next, NoneNext, LoadedNext, PromotedNext, Outgoing, Phase, Between, Within}
 use native.Mathlib.Omega.{arith}
 use native.Mathlib.Nat.{add-zero, not-suc-le-zero, le_of_suc-le-suc}
 use borrow.Author.Tests.{eqb-true, eqb-false, ne_eqb, lt-ltb, le-ltb, ltb-true, ltb-false}
@@ -44,16 +44,16 @@ stamped_exact s f k (x ∷ xs) (suc n) l = stamped_exact s f (suc k) xs n (le_of
 -- ---- the walk of Tally over the events of each step
 
 module _ (n : ℕ) where
-  abbrev pub with_started : Tally → Due → Tally
+  abbrev pub with_started : Tally → Option ℕ → Tally
   with_started x s = record { at = x.at; held = x.held; release = x.release; waits = x.waits; executed = x.executed; started = s }
 
-  abbrev pub with_held : Tally → Due → Tally
+  abbrev pub with_held : Tally → Option ℕ → Tally
   with_held x h = record { at = x.at; held = h; release = x.release; waits = x.waits; executed = x.executed; started = x.started }
 
   -- a
-  abbrev pub started_after : ℕ → Processor → Due → Due
+  abbrev pub started_after : ℕ → Processor → Option ℕ → Option ℕ
   started_after t Idle s = s
-  started_after t (CopyingIn m until) s = cond (eqb until t) (cond (eqb n m) (or_else s (Tick t)) s) s
+  started_after t (CopyingIn m until) s = cond (eqb until t) (cond (eqb n m) (or_else s (Some t)) s) s
   started_after t (Executing m start until) s = s
   started_after t (Finished m start) s = s
 
@@ -62,7 +62,7 @@ module _ (n : ℕ) where
   processor_tally t Idle x = refl
   processor_tally t (CopyingIn m until) x = go (eqb until t)
     where
-      go : (b : Bool) → tally n x (cond b (Starts m t ∷ []) []) ≡ with_started x (cond b (cond (eqb n m) (or_else x.started (Tick t)) x.started) x.started)
+      go : (b : Bool) → tally n x (cond b (Starts m t ∷ []) []) ≡ with_started x (cond b (cond (eqb n m) (or_else x.started (Some t)) x.started) x.started)
       go true = refl
       go false = refl
   processor_tally t (Executing m start until) x = go (eqb until t)
@@ -84,10 +84,10 @@ module _ (n : ℕ) where
   finish_tally t (Loaded m) x = refl
   finish_tally t (Cancelled m fate) x = refl
 
-  pub completion_tally : (o : Done) (x : Tally) → tally n x (completion_events o) ≡ x
+  pub completion_tally : (o : Option JobEntry) (x : Tally) → tally n x (completion_events o) ≡ x
   unfolding tally completion_events
-  completion_tally NoJob x = refl
-  completion_tally (Job e) x = refl
+  completion_tally None x = refl
+  completion_tally (Some e) x = refl
 
   -- c
   take_other : (k t : ℕ) (m b : Bool) (x : Tally) → eqb n k ≡ false → tally n x (cond b (Takes k t m ∷ []) []) ≡ x
@@ -122,24 +122,24 @@ module _ (n : ℕ) where
       ap (λ (y : Tally). tally n y (cond (member k taken) (Takes k t (member k marks) ∷ []) [])) (takes_this k taken marks t x (omega (arith, eqb-false n k e)) m)
       ∙ take_other k t (member k marks) (member k taken) (tally_by n x (Takes n t (member n marks))) e)
 
-  one_defers : (k t : ℕ) (b : Bool) (x : Tally) → tally n x (cond b (Defers k t ∷ []) []) ≡ with_held x (cond b (cond (eqb n k) (Tick t) x.held) x.held)
+  one_defers : (k t : ℕ) (b : Bool) (x : Tally) → tally n x (cond b (Defers k t ∷ []) []) ≡ with_held x (cond b (cond (eqb n k) (Some t) x.held) x.held)
   unfolding tally
   one_defers k t true x = refl
   one_defers k t false x = refl
 
   -- the release of the task waits from now on, if it is among them
-  abbrev held_below : ℕ → ℕ → ℕ → Due → Due
-  held_below k deferred t h = cond (ltb n k && member n deferred) (Tick t) h
+  abbrev held_below : ℕ → ℕ → ℕ → Option ℕ → Option ℕ
+  held_below k deferred t h = cond (ltb n k && member n deferred) (Some t) h
 
-  held_step : (k deferred t : ℕ) (h : Due) → cond (member k deferred) (cond (eqb n k) (Tick t) (held_below k deferred t h)) (held_below k deferred t h) ≡ held_below (suc k) deferred t h
+  held_step : (k deferred t : ℕ) (h : Option ℕ) → cond (member k deferred) (cond (eqb n k) (Some t) (held_below k deferred t h)) (held_below k deferred t h) ≡ held_below (suc k) deferred t h
   held_step k deferred t h =
       by-test (eqb n k)
       (λ e.
       let z : n ≡ k = eqb-true n k e in
-      rw (e, le-ltb n k (omega arith), lt-ltb n (suc k) (omega arith)) (subst (λ (j : ℕ). cond (member j deferred) (Tick t) h ≡ cond (member n deferred) (Tick t) h) z refl))
+      rw (e, le-ltb n k (omega arith), lt-ltb n (suc k) (omega arith)) (subst (λ (j : ℕ). cond (member j deferred) (Some t) h ≡ cond (member n deferred) (Some t) h) z refl))
       (λ e. rw (e, same_below (eqb-false n k e)) (go (member k deferred) (held_below (suc k) deferred t h)))
     where
-      go : (b : Bool) (w : Due) → cond b w w ≡ w
+      go : (b : Bool) (w : Option ℕ) → cond b w w ≡ w
       go true w = refl
       go false w = refl
 
@@ -151,15 +151,15 @@ module _ (n : ℕ) where
 
   defers_below : (k deferred t : ℕ) (x : Tally) → tally n x (defer_events k deferred t) ≡ with_held x (held_below k deferred t x.held)
   unfolding defer_events
-  defers_below zero deferred t x = unfold tally in ap (λ (b : Bool). with_held x (cond (b && member n deferred) (Tick t) x.held)) (sym (le-ltb n 0 (omega arith)))
+  defers_below zero deferred t x = unfold tally in ap (λ (b : Bool). with_held x (cond (b && member n deferred) (Some t) x.held)) (sym (le-ltb n 0 (omega arith)))
   defers_below (suc k) deferred t x =
       tally_append n (defer_events k deferred t) (cond (member k deferred) (Defers k t ∷ []) []) x
       ∙ ap (λ (y : Tally). tally n y (cond (member k deferred) (Defers k t ∷ []) [])) (defers_below k deferred t x)
       ∙ one_defers k t (member k deferred) (with_held x (held_below k deferred t x.held))
       ∙ ap (with_held x) (held_step k deferred t x.held)
 
-  pub defers_tally : n < 32 → (deferred t : ℕ) (x : Tally) → tally n x (defer_events 32 deferred t) ≡ with_held x (cond (member n deferred) (Tick t) x.held)
-  defers_tally small deferred t x = defers_below 32 deferred t x ∙ ap (λ (b : Bool). with_held x (cond (b && member n deferred) (Tick t) x.held)) (lt-ltb n 32 small)
+  pub defers_tally : n < 32 → (deferred t : ℕ) (x : Tally) → tally n x (defer_events 32 deferred t) ≡ with_held x (cond (member n deferred) (Some t) x.held)
+  defers_tally small deferred t x = defers_below 32 deferred t x ∙ ap (λ (b : Bool). with_held x (cond (b && member n deferred) (Some t) x.held)) (lt-ltb n 32 small)
 
   -- d
   pub gives_tally : (p q : Phase) (x : Tally) → tally n x (giving_events_in p q) ≡ x
@@ -168,15 +168,15 @@ module _ (n : ℕ) where
   gives_tally (Within i) (Between next outgoing) x = refl
   gives_tally (Within i) (Within j) x = go (given_way i.copyin) (given_way j.copyin)
     where
-      go : (a b : MaybeTask) → tally n x (giving_events a b) ≡ x
-      go NoTask NoTask = refl
-      go NoTask (Task m) = refl
-      go (Task m) b = refl
+      go : (a b : Option ℕ) → tally n x (giving_events a b) ≡ x
+      go None None = refl
+      go None (Some m) = refl
+      go (Some m) b = refl
 
   -- g
-  abbrev pub started_next : ℕ → Next → Due → Due
+  abbrev pub started_next : ℕ → Next → Option ℕ → Option ℕ
   started_next t NoneNext s = s
-  started_next t (LoadedNext m) s = cond (eqb n m) (or_else s (Tick t)) s
+  started_next t (LoadedNext m) s = cond (eqb n m) (or_else s (Some t)) s
   started_next t (PromotedNext m) s = s
 
   abbrev pub begun : ℕ → Next → Tally → Tally
@@ -189,7 +189,7 @@ module _ (n : ℕ) where
     started = started_next t next x.started;
   }
 
-  begin_tally : (table : Table) (t : ℕ) (next : Next) (o : MaybeTask) (x : Tally)
+  begin_tally : (table : Table) (t : ℕ) (next : Next) (o : Option ℕ) (x : Tally)
       → tally n x (Begins t (processor_task (begin_processor table t next)) o ∷ execution_events t (begin_processor table t next)) ≡ begun t next x
   unfolding tally execution_events
   begin_tally table t NoneNext o x = refl

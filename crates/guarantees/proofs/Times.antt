@@ -1,7 +1,7 @@
 -- When the phases under way end: a property of their end times, for any property, that each step keeps if what starts has it. And an instant
 -- at which nothing ends and nothing is taken leaves them.
 use Rattle.std.proofs.Common.{◌≡◌, ◌+◌, ◌^◌, ◌<◌}
-use Rattle.guarantees.specs.Types.{refl, sym, ap, ◌∙◌, subst, Bool, true, false, ℕ, Table, Jobs, MaybeTask, NoTask, Task, Processor, Idle, CopyingIn, Executing, Finished, CopyOut, NoCopyOut, CopyingOut, CopiedOut, CopyIn, Unchosen, NoneChosen, Copying, Loaded, Cancelled, Interval, Next, NoneNext, LoadedNext, PromotedNext, Outgoing, NoneOutgoing, AwaitsCopyOut, Phase, Between, Within, State, NoJob, Stage}
+use Rattle.guarantees.specs.Types.{refl, sym, ap, ◌∙◌, subst, Bool, true, false, ℕ, Table, Jobs, Option, None, Some, Processor, Idle, CopyingIn, Executing, Finished, CopyOut, NoCopyOut, CopyingOut, CopiedOut, CopyIn, Unchosen, NoneChosen, Copying, Loaded, Cancelled, Interval, Next, NoneNext, LoadedNext, PromotedNext, Outgoing, NoneOutgoing, AwaitsCopyOut, Phase, Between, Within, State, Stage}
 use native.Mathlib.Omega.{arith}
 use borrow.Author.Tests.{eqb-false}
 use lib.Dec.{eqb}
@@ -144,11 +144,11 @@ module _ (table : Table) (tasks : table.present < 2 ^ 32) (t : ℕ) (P : ℕ →
         d_cases (λ x. Times P x.phase) d taken h (λ i n u e s b. ((subst (Times P) e h).0, (subst (Times P) e h).1, tt))
 
     -- e
-    choose_times : (d : State) (i : Interval) (q : MaybeTask) → d.table ≡ table → Sub d.jobs.ready table.present → Best d.table.priority d.jobs.ready q
+    choose_times : (d : State) (i : Interval) (q : Option ℕ) → d.table ≡ table → Sub d.jobs.ready table.present → Best d.table.priority d.jobs.ready q
         → Times P (Within i) → Times P (choose d t i q).phase
     unfolding choose
-    choose_times d i NoTask x k b h = (h.0, h.1, tt)
-    choose_times d i (Task q) x k b h =
+    choose_times d i None x k b h = (h.0, h.1, tt)
+    choose_times d i (Some q) x k b h =
         (h.0, h.1, subst (λ (y : Table). P (later t (copyin_length y.columns q))) (sym x) (s.copyin q (k q b.0 b.1)))
 
     e_times : (d : State) → d.table ≡ table → Sub d.jobs.ready table.present → Times P d.phase → Times P (step_e d t d.phase).phase
@@ -254,7 +254,7 @@ still_copyin t (Loaded n) h = refl
 still_copyin t (Cancelled n fate) h = refl
 
 -- no copy-out ends, so that no job completes
-still_done : (j : Jobs) (t : ℕ) (o : CopyOut) → copyout_drop t o ≡ 0 → completed j t o ≡ NoJob
+still_done : (j : Jobs) (t : ℕ) (o : CopyOut) → copyout_drop t o ≡ 0 → completed j t o ≡ None
 unfolding completed
 still_done j t NoCopyOut h = refl
 still_done j t (CopyingOut n start until) h = rw (no_drop (eqb until t) h)
@@ -265,7 +265,7 @@ pub still_pending : (d : State) (t : ℕ) → drop t d.phase ≡ 0 → (at_b d t
 unfolding at_a
 still_pending d t z = pending_b d t ∙ ap (after_done d.jobs.pending) (go d.phase z)
   where
-    go : (p : Phase) → drop t p ≡ 0 → (step_a (at_clock d t) t p).done ≡ NoJob
+    go : (p : Phase) → drop t p ≡ 0 → (step_a (at_clock d t) t p).done ≡ None
     go (Between next outgoing) z = unfold step_a in refl
     go (Within i) z = unfold step_a in still_done d.jobs t i.copyout (omega arith)
 
@@ -312,13 +312,13 @@ module _ (P : ℕ → Type 0) (t : ℕ) where
   }
   c_still d taken deferred (Within i) n h = record { times = h.times; decided = h.decided; open_yet = h.open_yet; rests = tt }
 
-  not_outranked : (d : State) (taken c : ℕ) (q : MaybeTask) → ((k : ℕ) → k < 32 → member k taken ≡ false) → Best d.table.priority (intersection taken d.marked) q → outranks d c q ≡ false
-  not_outranked d taken c NoTask n b = refl
-  not_outranked d taken c (Task q) n b = clash (member q taken) (intersection_left taken d.marked q b.1) (n q b.0)
+  not_outranked : (d : State) (taken c : ℕ) (q : Option ℕ) → ((k : ℕ) → k < 32 → member k taken ≡ false) → Best d.table.priority (intersection taken d.marked) q → outranks d c q ≡ false
+  not_outranked d taken c None n b = refl
+  not_outranked d taken c (Some q) n b = clash (member q taken) (intersection_left taken d.marked q b.1) (n q b.0)
 
   d_still : (d : State) (taken : ℕ) → ((k : ℕ) → k < 32 → member k taken ≡ false) → Stays-still d → Stays-still (step_d d taken d.phase)
   d_still d taken n h =
-      let q : MaybeTask = highest_of d (intersection taken d.marked) in
+      let q : Option ℕ = highest_of d (intersection taken d.marked) in
       d_cases Stays-still d taken h (λ i c u e s b. clash (outranks d c q) b (not_outranked d taken c q n (best_of d (intersection taken d.marked))))
 
   e_still : (d : State) → Stays-still d → Stays-still (step_e d t d.phase)

@@ -1,6 +1,6 @@
 -- How many events of a kind an instant has.
 use Rattle.std.proofs.Common.{◌≡◌, ◌∷◌, ◌++◌, ◌+◌, ◌*◌}
-use Rattle.guarantees.specs.Types.{refl, ap, ◌∙◌, Bool, true, false, cond, List, [], ℕ, zero, suc, MaybeTask, State}
+use Rattle.guarantees.specs.Types.{refl, ap, ◌∙◌, Bool, true, false, cond, List, [], ℕ, zero, suc, Option, State}
 use native.Mathlib.Omega.{arith}
 use Rattle.sets.specs.Sets.{member, count, size}
 use Rattle.rules.specs.Instant.{at_a, at_b, at_e, at_f, at_g, taken_at, deferred_at}
@@ -57,7 +57,7 @@ module _ (d : State) (t set : ℕ) (h : List Event) where
       (λ n u. skip f ys (Completes n u) (c n u)) (λ u. skip f ys (Ends u) (e u)) d t ys refl
 
   -- and after those that are taken some wait, a copy-in gives way and an interval ends or begins, and nothing else occurs
-  after_releases : (f : Event → ℕ) → ((n u : ℕ) → f (Defers n u) ≡ 0) → ((n : ℕ) → f (GivesWay n) ≡ 0) → ((u : ℕ) → f (Ends u) ≡ 0) → ((u : ℕ) (r l : MaybeTask) → f (Begins u r l) ≡ 0) → ((n u : ℕ) → f (Starts n u) ≡ 0)
+  after_releases : (f : Event → ℕ) → ((n u : ℕ) → f (Defers n u) ≡ 0) → ((n : ℕ) → f (GivesWay n) ≡ 0) → ((u : ℕ) → f (Ends u) ≡ 0) → ((u : ℕ) (r l : Option ℕ) → f (Begins u r l) ≡ 0) → ((n u : ℕ) → f (Starts n u) ≡ 0)
       → total f (tail_of d t set ++ h) ≡ total f h
   after_releases f v w a b c =
       ap (total f) (tail_parts d t set h)

@@ -1,6 +1,6 @@
 -- Every history passes the monitor of a task's jobs: where the job of a task is, by the state, step by step and along the calls.
 use Rattle.std.proofs.Common.{◌≡◌, ◌&&◌, ◌||◌, ◌∷◌, ◌++◌, ◌+◌, ◌*◌, ◌≤◌, ◌<◌}
-use Rattle.guarantees.specs.Types.{refl, sym, ap, ◌∙◌, subst, Bool, true, false, cond, not, true≢false, false≢true, List, ℕ, Table, Jobs, WaitingReleases, Clock, Unset, At, MaybeTask, NoTask, Task, Processor, CopyOut, NoCopyOut, CopyingOut, CopiedOut, Interval, Next, NoneNext, LoadedNext, PromotedNext, Outgoing, NoneOutgoing, AwaitsCopyOut, Phase, Between, Within, State, NoJob, Job, Stage, Due, Never, Tick, Call}
+use Rattle.guarantees.specs.Types.{refl, sym, ap, ◌∙◌, subst, Bool, true, false, cond, not, true≢false, false≢true, List, ℕ, Table, Jobs, WaitingReleases, Clock, Unset, At, Option, None, Some, Processor, CopyOut, NoCopyOut, CopyingOut, CopiedOut, Interval, Next, NoneNext, LoadedNext, PromotedNext, Outgoing, NoneOutgoing, AwaitsCopyOut, Phase, Between, Within, State, Stage, Call}
 use native.Mathlib.Omega.{arith}
 use lib.Dec.{eqb}
 use Rattle.sets.specs.Sets.{member, bit}
@@ -26,9 +26,9 @@ use Rattle.guarantees.proofs.CopyOuts.{Both, begun_both}
 use Rattle.guarantees.proofs.Turns.{View, Behind, Turning, nothing}
 
 -- the instant that came last
-abbrev instant_of : Clock → Due
-instant_of Unset = Never
-instant_of (At t) = Tick t
+abbrev instant_of : Clock → Option ℕ
+instant_of Unset = None
+instant_of (At t) = Some t
 
 bit_most : (b : Bool) → bit b ≤ 1
 bit_most true = omega arith
@@ -46,7 +46,7 @@ module _ (present : ℕ) (tasks : present < 4294967296) (n : ℕ) (small : n < 3
   leaving (Within i) = copyout_bit n i.copyout
 
   -- with whether one is pending, and whether a release waits
-  abbrev pub view_in : Due → Bool → Bool → Phase → View
+  abbrev pub view_in : Option ℕ → Bool → Bool → Phase → View
   view_in now c w p = record { now = now; place = bit c + executing p + 2 * leaving p; held = w }
 
   abbrev T : View → List Event → Type 0
@@ -54,12 +54,12 @@ module _ (present : ℕ) (tasks : present < 4294967296) (n : ℕ) (small : n < 3
 
   module _ (t : ℕ) where
     abbrev Seen : Bool → Bool → Phase → View
-    Seen = view_in (Tick t)
+    Seen = view_in (Some t)
 
     -- a
     completes_turning : (j : Jobs) (o : CopyOut) (w : Bool) (x r : ℕ) (ys : List Event) → bit (member n j.pending) ≡ r + x + copyout_bit n o
-        → T (record { now = Tick t; place = bit (member n (after_done j.pending (completed j t o))) + x + 2 * copyout_bit n (copyout_at t o); held = w }) ys
-        → T (record { now = Tick t; place = bit (member n j.pending) + x + 2 * copyout_bit n o; held = w }) (completion_events (completed j t o) ++ ys)
+        → T (record { now = Some t; place = bit (member n (after_done j.pending (completed j t o))) + x + 2 * copyout_bit n (copyout_at t o); held = w }) ys
+        → T (record { now = Some t; place = bit (member n j.pending) + x + 2 * copyout_bit n o; held = w }) (completion_events (completed j t o) ++ ys)
     unfolding completed copyout_at completion_events
     completes_turning j NoCopyOut w x r ys e h = h
     completes_turning j (CopiedOut m) w x r ys e h = h
@@ -68,17 +68,17 @@ module _ (present : ℕ) (tasks : present < 4294967296) (n : ℕ) (small : n < 3
         P : ℕ
         P = j.pending
 
-        now : (b : Bool) → eqb n m ≡ b → bit (member n P) ≡ r + x + bit b → T (record { now = Tick t; place = bit (not b && member n P) + x + 2 * 0; held = w }) ys
-            → T (record { now = Tick t; place = cond b 0 (bit (member n P) + x + 2 * bit b); held = w }) ys
-        now true f e h = subst (λ (p : ℕ). T (record { now = Tick t; place = p; held = w }) ys) (omega (arith, bit_most (member n P))) h
+        now : (b : Bool) → eqb n m ≡ b → bit (member n P) ≡ r + x + bit b → T (record { now = Some t; place = bit (not b && member n P) + x + 2 * 0; held = w }) ys
+            → T (record { now = Some t; place = cond b 0 (bit (member n P) + x + 2 * bit b); held = w }) ys
+        now true f e h = subst (λ (p : ℕ). T (record { now = Some t; place = p; held = w }) ys) (omega (arith, bit_most (member n P))) h
         now false f e h = h
 
-        go : (b : Bool) → T (record { now = Tick t; place = bit (member n (after_done P (cond b (Job (job_entry j m start t)) NoJob))) + x + 2 * copyout_bit n (cond b (CopiedOut m) (CopyingOut m start until)); held = w }) ys
-            → T (record { now = Tick t; place = bit (member n P) + x + 2 * bit (eqb n m); held = w }) (completion_events (cond b (Job (job_entry j m start t)) NoJob) ++ ys)
+        go : (b : Bool) → T (record { now = Some t; place = bit (member n (after_done P (cond b (Some (job_entry j m start t)) None))) + x + 2 * copyout_bit n (cond b (CopiedOut m) (CopyingOut m start until)); held = w }) ys
+            → T (record { now = Some t; place = bit (member n P) + x + 2 * bit (eqb n m); held = w }) (completion_events (cond b (Some (job_entry j m start t)) None) ++ ys)
         go true h =
             unfold Turning in (
               (refl, λ f. omega (arith, e, bit_most (member n P), ap bit f)),
-              now (eqb n m) refl e (subst (λ (b : Bool). T (record { now = Tick t; place = bit b + x + 2 * 0; held = w }) ys) (removed m P n small) h),
+              now (eqb n m) refl e (subst (λ (b : Bool). T (record { now = Some t; place = bit b + x + 2 * 0; held = w }) ys) (removed m P n small) h),
             )
         go false h = h
 
@@ -89,7 +89,7 @@ module _ (present : ℕ) (tasks : present < 4294967296) (n : ℕ) (small : n < 3
     a_done_turning d w (Between next outgoing) ys e h k = subst (λ (q : Phase). T (Seen (member n d.jobs.pending) w q) ys) e k
     a_done_turning d w (Within i) ys e h k =
         completes_turning d.jobs i.copyout w (processor_bit n i.processor) (bit (member n d.jobs.ready) + copyin_bit n i.copyin) ys (omega (arith, h.parts n small))
-        (subst (λ (x : ℕ). T (record { now = Tick t; place = bit (member n (after_done d.jobs.pending (completed d.jobs t i.copyout))) + x + 2 * copyout_bit n (copyout_at t i.copyout); held = w }) ys)
+        (subst (λ (x : ℕ). T (record { now = Some t; place = bit (member n (after_done d.jobs.pending (completed d.jobs t i.copyout))) + x + 2 * copyout_bit n (copyout_at t i.copyout); held = w }) ys)
         (a_processor_bit present tasks n d.table t i.processor) k)
 
     a_turning : (d : State) (w : Bool) (p : Phase) (ys : List Event) → d.phase ≡ p → Parted present tasks d p
@@ -116,40 +116,40 @@ module _ (present : ℕ) (tasks : present < 4294967296) (n : ℕ) (small : n < 3
         go true o h =
             unfold Turning in (
               refl,
-              subst (λ (x : ℕ). T (record { now = Tick t; place = x; held = w }) ys)
+              subst (λ (x : ℕ). T (record { now = Some t; place = x; held = w }) ys)
                   (omega (arith, b_outgoing_bit present tasks n i.processor (rests i o), b_copyout_bit present tasks n i.copyout (no_copyout i o))) h,
             )
         go false o h = stays_turning c w i s.state.phase ys e h
 
     -- c
     abbrev P : View → List Event → Type 0
-    P x es = T (record { now = Tick t; place = x.place; held = x.held }) es
+    P x es = T (record { now = Some t; place = x.place; held = x.held }) es
 
     takes_turning : (taken marked p : ℕ) (w : Bool) (ys : List Event) → (member n taken ≡ true → p ≡ 0)
-        → T (record { now = Tick t; place = cond (member n taken) 1 p; held = cond (member n taken) false w }) ys
-        → T (record { now = Tick t; place = p; held = w }) (take_events 32 taken marked t ++ ys)
+        → T (record { now = Some t; place = cond (member n taken) 1 p; held = cond (member n taken) false w }) ys
+        → T (record { now = Some t; place = p; held = w }) (take_events 32 taken marked t ++ ys)
     unfolding take_events Turning
     takes_turning taken marked p w ys f h =
         at_task n taken (λ k. Takes k t (member k marked)) (λ k. take_events k taken marked t) refl (λ k. refl) P
-        (λ x k e es y. ((refl, λ z. absurd (true≢false (sym z ∙ e))), rw e y)) (record { now = Never; place = p; held = w }) (record { now = Never; place = 1; held = false })
+        (λ x k e es y. ((refl, λ z. absurd (true≢false (sym z ∙ e))), rw e y)) (record { now = None; place = p; held = w }) (record { now = None; place = 1; held = false })
         (λ m es y. ((refl, λ z. f m), rw (same_task n) y)) 32 small ys (go (member n taken) h)
       where
-        go : (b : Bool) → T (record { now = Tick t; place = cond b 1 p; held = cond b false w }) ys
-            → P (cond b (record { now = Never; place = 1; held = false }) (record { now = Never; place = p; held = w })) ys
+        go : (b : Bool) → T (record { now = Some t; place = cond b 1 p; held = cond b false w }) ys
+            → P (cond b (record { now = None; place = 1; held = false }) (record { now = None; place = p; held = w })) ys
         go true h = h
         go false h = h
 
     defers_turning : (deferred p : ℕ) (w : Bool) (ys : List Event) → (member n deferred ≡ true → (p ≡ 0 → ⊥) × (w ≡ false))
-        → T (record { now = Tick t; place = p; held = cond (member n deferred) true w }) ys
-        → T (record { now = Tick t; place = p; held = w }) (defer_events 32 deferred t ++ ys)
+        → T (record { now = Some t; place = p; held = cond (member n deferred) true w }) ys
+        → T (record { now = Some t; place = p; held = w }) (defer_events 32 deferred t ++ ys)
     unfolding defer_events Turning
     defers_turning deferred p w ys f h =
         at_task n deferred (λ k. Defers k t) (λ k. defer_events k deferred t) refl (λ k. refl) P
-        (λ x k e es y. ((refl, λ z. absurd (true≢false (sym z ∙ e))), rw e y)) (record { now = Never; place = p; held = w }) (record { now = Never; place = p; held = true })
+        (λ x k e es y. ((refl, λ z. absurd (true≢false (sym z ∙ e))), rw e y)) (record { now = None; place = p; held = w }) (record { now = None; place = p; held = true })
         (λ m es y. ((refl, λ z. f m), rw (same_task n) y)) 32 small ys (go (member n deferred) h)
       where
-        go : (b : Bool) → T (record { now = Tick t; place = p; held = cond b true w }) ys
-            → P (cond b (record { now = Never; place = p; held = true }) (record { now = Never; place = p; held = w })) ys
+        go : (b : Bool) → T (record { now = Some t; place = p; held = cond b true w }) ys
+            → P (cond b (record { now = None; place = p; held = true }) (record { now = None; place = p; held = w })) ys
         go true h = h
         go false h = h
 
@@ -166,10 +166,10 @@ module _ (present : ℕ) (tasks : present < 4294967296) (n : ℕ) (small : n < 3
     unfolding cancel
     d_spots d taken = d_cases (λ x. spots x.phase ≡ spots d.phase) d taken refl (λ i k u e s b. rw e)
 
-    choose_spots : (d : State) (i : Interval) (q : MaybeTask) → spots (choose d t i q).phase ≡ spots (Within i)
+    choose_spots : (d : State) (i : Interval) (q : Option ℕ) → spots (choose d t i q).phase ≡ spots (Within i)
     unfolding choose
-    choose_spots d i NoTask = refl
-    choose_spots d i (Task q) = refl
+    choose_spots d i None = refl
+    choose_spots d i (Some q) = refl
 
     e_spots : (d : State) → spots (step_e d t d.phase).phase ≡ spots d.phase
     e_spots d = e_cases (λ x. spots x.phase ≡ spots d.phase) d t refl (λ i e s u. choose_spots d i (highest_of d d.jobs.ready) ∙ ap spots (sym e))
@@ -199,13 +199,13 @@ module _ (present : ℕ) (tasks : present < 4294967296) (n : ℕ) (small : n < 3
     outgoing_is table (AwaitsCopyOut m start) = refl
 
     -- an interval begins with r on the processor and l on the engine
-    begins_turning : (a b c w : Bool) (r l : MaybeTask) (x y : ℕ) (ys : List Event) → is_task n r ≡ a → is_task n l ≡ b → y ≡ bit b → bit c ≡ x + (bit a + bit b)
-        → T (record { now = Tick t; place = bit c + bit a + 2 * bit b; held = w }) ys
-        → T (record { now = Tick t; place = bit c + y + 2 * 0; held = w }) (Begins t r l ∷ ys)
+    begins_turning : (a b c w : Bool) (r l : Option ℕ) (x y : ℕ) (ys : List Event) → is_task n r ≡ a → is_task n l ≡ b → y ≡ bit b → bit c ≡ x + (bit a + bit b)
+        → T (record { now = Some t; place = bit c + bit a + 2 * bit b; held = w }) ys
+        → T (record { now = Some t; place = bit c + y + 2 * 0; held = w }) (Begins t r l ∷ ys)
     unfolding Turning
     begins_turning a b c w r l x y ys e f z h k = (
       (refl, (λ p. let q : a ≡ true = sym e ∙ p in omega (arith, z, bit_most c, ap bit q)), λ p. let q : b ≡ true = sym f ∙ p in omega (arith, z, bit_most c, ap bit q)),
-      subst (λ (p : ℕ). T (record { now = Tick t; place = p; held = w }) ys)
+      subst (λ (p : ℕ). T (record { now = Some t; place = p; held = w }) ys)
           (sym (begun_place a b c x h) ∙ ap (λ (p : ℕ). cond a 2 (cond b 3 p)) (omega (arith, z)) ∙ ap (λ (i : Bool). cond i 2 (cond b 3 (bit c + y + 2 * 0))) (sym e)
           ∙ ap (λ (i : Bool). cond (is_task n r) 2 (cond i 3 (bit c + y + 2 * 0))) (sym f)) k,
     )
@@ -222,7 +222,7 @@ module _ (present : ℕ) (tasks : present < 4294967296) (n : ℕ) (small : n < 3
         (subst (λ (q : Processor). T (Seen c w (Between next outgoing)) (Begins t (processor_task q) (copyout_task o) ∷ ys)) (sym b.0)
         (begins_turning (is_task n (processor_task q)) (is_task n (copyout_task o)) c w (processor_task q) (copyout_task o) x (outgoing_bit n outgoing) ys refl refl (outgoing_is table outgoing)
         (omega (arith, h, next_is table next, outgoing_is table outgoing))
-        (subst (λ (p : ℕ). T (record { now = Tick t; place = p; held = w }) ys)
+        (subst (λ (p : ℕ). T (record { now = Some t; place = p; held = w }) ys)
         (omega (arith, ap (processor_bit n) b.0, ap (copyout_bit n) b.1, g_processor present tasks n table t next, g_copyout present tasks n table t outgoing, next_is table next, outgoing_is table outgoing)) k)))
 
     shut_turning : (c w : Bool) (next : Next) (outgoing : Outgoing) (q : Phase) (ys : List Event) → q ≡ Between next outgoing → T (Seen c w q) ys
@@ -339,13 +339,13 @@ module _ (present : ℕ) (tasks : present < 4294967296) (n : ℕ) (small : n < 3
 
   -- ---- an instant
 
-  comes_turning : (t : ℕ) (v : View) (es : List Event) → ((u : ℕ) → v.now ≡ Tick u → u < t) → Behind n v
-      → T (record { now = Tick t; place = v.place; held = v.held }) es → T v (Comes t ∷ es)
+  comes_turning : (t : ℕ) (v : View) (es : List Event) → ((u : ℕ) → v.now ≡ Some u → u < t) → Behind n v
+      → T (record { now = Some t; place = v.place; held = v.held }) es → T v (Comes t ∷ es)
   unfolding Turning
   comes_turning t v es f b h = ((f, b), h)
 
   turning_instant : (d : State) (t set : ℕ) (ys : List Event) → Sub set present → ((u : ℕ) → d.clock ≡ At u → u < t) → Sub d.waiting.tasks d.jobs.pending → Parted present tasks d d.phase
-      → let g : State = at_g d t set in T (view_in (Tick t) (member n g.jobs.pending) (member n g.waiting.tasks) g.phase) ys
+      → let g : State = at_g d t set in T (view_in (Some t) (member n g.jobs.pending) (member n g.waiting.tasks) g.phase) ys
       → T (view_in (instant_of d.clock) (member n d.jobs.pending) (member n d.waiting.tasks) d.phase) (happens d t set ++ ys)
   turning_instant d t set ys known onward behind h k =
       let later : List Event = take_events 32 (taken_at d t set) d.marked t ++ (tail_of d t set ++ ys) in
@@ -353,7 +353,7 @@ module _ (present : ℕ) (tasks : present < 4294967296) (n : ℕ) (small : n < 3
       (comes_turning t (view_in (instant_of d.clock) (member n d.jobs.pending) (member n d.waiting.tasks) d.phase) _ (rises d.clock onward)
       (λ w z. omega (arith, ap bit (behind n small w))) (front later (tail_turning t d set known (to_b present tasks d t h).parted ys k)))
     where
-      rises : (c : Clock) → ((u : ℕ) → c ≡ At u → u < t) → (u : ℕ) → instant_of c ≡ Tick u → u < t
+      rises : (c : Clock) → ((u : ℕ) → c ≡ At u → u < t) → (u : ℕ) → instant_of c ≡ Some u → u < t
       rises Unset f u e = absurd (let z : ◌≡◌ {A = ℕ} 0 1 = cc in omega arith)
       rises (At v) f u e = f u (let z : v ≡ u = cc in ap At z)
 
@@ -391,4 +391,4 @@ module _ (table : Table) (marks : ℕ) (fair : Fair table marks) (n : ℕ) (smal
 
   -- every list of calls from the state that opening returned
   pub turns : (cs : List Call) → Turning n nothing (history (opened table marks) cs)
-  turns cs = subst (λ (b : Bool). Turning n (record { now = Never; place = bit b + 0 + 2 * 0; held = b }) (history (opened table marks) cs)) (none n) (unfold opened in turning cs (opened table marks) (good_opened table marks fair))
+  turns cs = subst (λ (b : Bool). Turning n (record { now = None; place = bit b + 0 + 2 * 0; held = b }) (history (opened table marks) cs)) (none n) (unfold opened in turning cs (opened table marks) (good_opened table marks fair))

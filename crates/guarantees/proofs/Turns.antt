@@ -1,7 +1,7 @@
 -- One job at a time: a monitor of a task that goes from event to event, from which the claim on its jobs and on its release that waits follows; and that
 -- every history passes it, since a state says where the job of a task is.
 use Rattle.std.proofs.Common.{◌≡◌, ◌&&◌, ◌∷◌, ◌++◌, ◌<◌}
-use Rattle.guarantees.specs.Types.{refl, sym, ap, ◌∙◌, subst, Bool, true, false, cond, true≢false, false≢true, List, [], ℕ, Task, Due, Never, Tick}
+use Rattle.guarantees.specs.Types.{refl, sym, ap, ◌∙◌, subst, Bool, true, false, cond, true≢false, false≢true, List, [], ℕ, Some, Option, None}
 use native.Mathlib.Omega.{arith}
 use lib.Dec.{eqb}
 use Rattle.sets.proofs.Laws.{by-test, same_task}
@@ -14,12 +14,12 @@ use Rattle.guarantees.proofs.Deferred.{waits_by, waits_in}
 
 -- the instant that came last, where the job of a task is, and whether a release of it waits
 pub record View : Type 0 where
-  pub now : Due
+  pub now : Option ℕ
   pub place : ℕ
   pub held : Bool
 
 abbrev pub nothing : View
-nothing = record { now = Never; place = 0; held = false }
+nothing = record { now = None; place = 0; held = false }
 
 module _ (n : ℕ) where
   abbrev pub view_by : View → Event → View
@@ -30,16 +30,16 @@ module _ (n : ℕ) where
   Behind v = v.held ≡ true → v.place ≡ 0 → ⊥
 
   abbrev pub May : View → Event → Type 0
-  May v (Comes t) = ((u : ℕ) → v.now ≡ Tick u → u < t) × Behind v
-  May v (Starts k t) = v.now ≡ Tick t
-  May v (Stops k t) = v.now ≡ Tick t
+  May v (Comes t) = ((u : ℕ) → v.now ≡ Some u → u < t) × Behind v
+  May v (Starts k t) = v.now ≡ Some t
+  May v (Stops k t) = v.now ≡ Some t
   May v (Finishes k) = Unit {0}
-  May v (Completes k t) = (v.now ≡ Tick t) × (eqb n k ≡ true → v.place ≡ 3)
-  May v (Ends t) = v.now ≡ Tick t
-  May v (Takes k t m) = (v.now ≡ Tick t) × (eqb n k ≡ true → v.place ≡ 0)
-  May v (Defers k t) = (v.now ≡ Tick t) × (eqb n k ≡ true → (v.place ≡ 0 → ⊥) × (v.held ≡ false))
+  May v (Completes k t) = (v.now ≡ Some t) × (eqb n k ≡ true → v.place ≡ 3)
+  May v (Ends t) = v.now ≡ Some t
+  May v (Takes k t m) = (v.now ≡ Some t) × (eqb n k ≡ true → v.place ≡ 0)
+  May v (Defers k t) = (v.now ≡ Some t) × (eqb n k ≡ true → (v.place ≡ 0 → ⊥) × (v.held ≡ false))
   May v (GivesWay k) = Unit {0}
-  May v (Begins t r l) = (v.now ≡ Tick t) × (is_task n r ≡ true → v.place ≡ 1) × (is_task n l ≡ true → v.place ≡ 2)
+  May v (Begins t r l) = (v.now ≡ Some t) × (is_task n r ≡ true → v.place ≡ 1) × (is_task n l ≡ true → v.place ≡ 2)
 
   unfoldable pub Turning : View → List Event → Type 0
   Turning v [] = Behind v
@@ -71,11 +71,11 @@ module _ (n : ℕ) where
   seen_held [] v = refl
   seen_held (e ∷ es) v = seen_held es (view_by v e)
 
-  abbrev pub stands : Due → Bool
-  stands Never = false
-  stands (Tick u) = true
+  abbrev pub stands : Option ℕ → Bool
+  stands None = false
+  stands (Some u) = true
 
-  stands_by : (a b c : Bool) (t : ℕ) (w : Due) → stands (cond a (cond b (Tick t) (cond c Never w)) w) ≡ cond (b && a) true (cond (c && a) false (stands w))
+  stands_by : (a b c : Bool) (t : ℕ) (w : Option ℕ) → stands (cond a (cond b (Some t) (cond c None w)) w) ≡ cond (b && a) true (cond (c && a) false (stands w))
   stands_by true true c t w = refl
   stands_by true false true t w = refl
   stands_by true false false t w = refl
@@ -84,24 +84,24 @@ module _ (n : ℕ) where
   stands_by false false true t w = refl
   stands_by false false false t w = refl
 
-  pub held_is : (es : List Event) (w : Due) → stands (waiting n w es) ≡ waits_in n (stands w) es
+  pub held_is : (es : List Event) (w : Option ℕ) → stands (waiting n w es) ≡ waits_in n (stands w) es
   unfolding after
   held_is [] w = refl
   held_is (e ∷ es) w =
-      held_is es (cond (is_task n (details e).task) (cond (defers e) (Tick (details e).tick) (cond (takes e) Never w)) w)
+      held_is es (cond (is_task n (details e).task) (cond (defers e) (Some (details e).tick) (cond (takes e) None w)) w)
       ∙ ap (λ (b : Bool). waits_in n b es) (stands_by (is_task n (details e).task) (defers e) (takes e) (details e).tick w)
 
-  pub none_held : (w : Due) → stands w ≡ false → w ≡ Never
-  none_held Never h = refl
-  none_held (Tick u) h = absurd (true≢false h)
+  pub none_held : (w : Option ℕ) → stands w ≡ false → w ≡ None
+  none_held None h = refl
+  none_held (Some u) h = absurd (true≢false h)
 
-  pub some_held : (w : Due) → stands w ≡ true → (u : ℕ) × (w ≡ Tick u)
-  some_held Never h = absurd (false≢true h)
-  some_held (Tick u) h = (u, refl)
+  pub some_held : (w : Option ℕ) → stands w ≡ true → (u : ℕ) × (w ≡ Some u)
+  some_held None h = absurd (false≢true h)
+  some_held (Some u) h = (u, refl)
 
   -- ---- a release that waits where its task has no pending job is taken before the instant is over
 
-  resumes : (es : List Event) (t : ℕ) → Turning (record { now = Tick t; place = 0; held = true }) es → taking n es ≡ Tick t
+  resumes : (es : List Event) (t : ℕ) → Turning (record { now = Some t; place = 0; held = true }) es → taking n es ≡ Some t
   unfolding Turning first
   resumes [] t h = absurd (h refl refl)
   resumes (Comes u ∷ es) t h = absurd (h.0.1 refl refl)
@@ -119,17 +119,17 @@ module _ (n : ℕ) where
 
   -- ---- one that waits behind a pending job is taken when that job completes
 
-  tick-of {ℓ} : {A : Type ℓ} (t : ℕ) → Tick t ≡ Never → A
+  tick-of {ℓ} : {A : Type ℓ} (t : ℕ) → Some t ≡ None → A
   tick-of t h = absurd (let z : ◌≡◌ {A = ℕ} 0 1 = cc in omega arith)
 
-  next_is : (between later : List Event) (tick : ℕ) (m : Bool) → taking n between ≡ Never → taking n (between ++ (Takes n tick m ∷ later)) ≡ Tick tick
+  next_is : (between later : List Event) (tick : ℕ) (m : Bool) → taking n between ≡ None → taking n (between ++ (Takes n tick m ∷ later)) ≡ Some tick
   unfolding first
-  next_is [] later tick m h = ap (λ (b : Bool). cond b (Tick tick) (taking n later)) (same_task n)
+  next_is [] later tick m h = ap (λ (b : Bool). cond b (Some tick) (taking n later)) (same_task n)
   next_is (e ∷ between) later tick m h =
       by-test (takes e && is_task n (details e).task) (λ x. tick-of (details e).tick (rw x at h)) (λ x. rw x (next_is between later tick m (rw x at h)))
 
-  resumed : (between later : List Event) (tick : ℕ) (m : Bool) (v : View) → v.held ≡ true → (v.place ≡ 0 → ⊥) → taking n between ≡ Never
-      → Turning v (between ++ (Takes n tick m ∷ later)) → completion n between ≡ Tick tick
+  resumed : (between later : List Event) (tick : ℕ) (m : Bool) (v : View) → v.held ≡ true → (v.place ≡ 0 → ⊥) → taking n between ≡ None
+      → Turning v (between ++ (Takes n tick m ∷ later)) → completion n between ≡ Some tick
   unfolding Turning first
   resumed [] later tick m v w p x h = absurd (p (h.0.1 (same_task n)))
   resumed (Comes u ∷ es) later tick m v w p x h = resumed es later tick m (view_by v (Comes u)) w p x h.1
@@ -141,8 +141,8 @@ module _ (n : ℕ) where
   resumed (Completes k u ∷ es) later tick m v w p x h =
       by-test (eqb n k)
       (λ e. rw e (sym (resumes (es ++ (Takes n tick m ∷ later)) u
-      (subst (λ (b : Bool). Turning (record { now = Tick u; place = 0; held = b }) (es ++ (Takes n tick m ∷ later))) w
-      (subst (λ (d : Due). Turning (record { now = d; place = 0; held = v.held }) (es ++ (Takes n tick m ∷ later))) h.0.0 (rw e at h.1))))
+      (subst (λ (b : Bool). Turning (record { now = Some u; place = 0; held = b }) (es ++ (Takes n tick m ∷ later))) w
+      (subst (λ (d : Option ℕ). Turning (record { now = d; place = 0; held = v.held }) (es ++ (Takes n tick m ∷ later))) h.0.0 (rw e at h.1))))
       ∙ next_is es later tick m x))
       (λ e. rw e (resumed es later tick m v w p x (rw e at h.1)))
   resumed (Takes k u b ∷ es) later tick m v w p x h =
@@ -163,23 +163,23 @@ module _ (n : ℕ) where
     at_event : (before : List Event) (e : Event) (after : List Event) → h ≡ before ++ (e ∷ after)
         → Turning (record { now = now before; place = place n before; held = waits_in n false before }) (e ∷ after)
     at_event before e after x =
-        subst (λ (w : Due). Turning (record { now = w; place = place n before; held = waits_in n false before }) (e ∷ after)) (seen_now before nothing)
+        subst (λ (w : Option ℕ). Turning (record { now = w; place = place n before; held = waits_in n false before }) (e ∷ after)) (seen_now before nothing)
         (subst (λ (p : ℕ). Turning (record { now = (seen nothing before).now; place = p; held = waits_in n false before }) (e ∷ after)) (seen_place before nothing)
         (subst (λ (b : Bool). Turning (record { now = (seen nothing before).now; place = (seen nothing before).place; held = b }) (e ∷ after)) (seen_held before nothing)
         (turning_at before e after nothing (subst (Turning nothing) x turning))))
 
-    free : (before : List Event) → waits_in n false before ≡ false → waiting n Never before ≡ Never
-    free before e = none_held (waiting n Never before) (held_is before Never ∙ e)
+    free : (before : List Event) → waits_in n false before ≡ false → waiting n None before ≡ None
+    free before e = none_held (waiting n None before) (held_is before None ∙ e)
 
-    held : (before : List Event) (u : ℕ) → waiting n Never before ≡ Tick u → waits_in n false before ≡ true
-    held before u e = sym (held_is before Never) ∙ ap stands e
+    held : (before : List Event) (u : ℕ) → waiting n None before ≡ Some u → waits_in n false before ≡ true
+    held before u e = sym (held_is before None) ∙ ap stands e
 
     pub one_at_a_time : OneAtATime n h
     unfolding Turning
     one_at_a_time = record {
       at_taking = λ before after t m x. (at_event before (Takes n t m) after x).0.1 (same_task n);
-      at_execution = λ before after t l x. (at_event before (Begins t (Task n) l) after x).0.1 (same_task n);
-      at_copyout = λ before after t r x. (at_event before (Begins t r (Task n)) after x).0.2 (same_task n);
+      at_execution = λ before after t l x. (at_event before (Begins t (Some n) l) after x).0.1 (same_task n);
+      at_copyout = λ before after t r x. (at_event before (Begins t r (Some n)) after x).0.2 (same_task n);
       at_completion = λ before after c x. (at_event before (Completes n c) after x).0.1 (same_task n);
       at_waiting = λ before after t x.
           let y : (place n before ≡ 0 → ⊥) × (waits_in n false before ≡ false) = (at_event before (Defers n t) after x).0.1 (same_task n) in
@@ -187,18 +187,18 @@ module _ (n : ℕ) where
       at_resuming = λ before after c u x w. completes_then before after c u x w;
     }
       where
-        completes_then : (before after : List Event) (c u : ℕ) → h ≡ before ++ (Completes n c ∷ after) → waiting n Never before ≡ Tick u → taking n after ≡ Tick c
+        completes_then : (before after : List Event) (c u : ℕ) → h ≡ before ++ (Completes n c ∷ after) → waiting n None before ≡ Some u → taking n after ≡ Some c
         completes_then before after c u x w =
             let y : May (record { now = now before; place = place n before; held = waits_in n false before }) (Completes n c)
             × Turning (view_by (record { now = now before; place = place n before; held = waits_in n false before }) (Completes n c)) after =
             unfold Turning in at_event before (Completes n c) after x in
             resumes after c
-            (subst (λ (w : Due). Turning (record { now = w; place = 0; held = true }) after) y.0.0
+            (subst (λ (w : Option ℕ). Turning (record { now = w; place = 0; held = true }) after) y.0.0
             (subst (λ (b : Bool). Turning (record { now = now before; place = 0; held = b }) after) (held before u w)
             (subst (λ (b : Bool). Turning (record { now = now before; place = cond b 0 (place n before); held = waits_in n false before }) after) (same_task n) y.1)))
 
     pub resumed_in : (before after between later : List Event) (t tick : ℕ) (m : Bool) → h ≡ before ++ (Defers n t ∷ after)
-        → after ≡ between ++ (Takes n tick m ∷ later) → taking n between ≡ Never → completion n between ≡ Tick tick
+        → after ≡ between ++ (Takes n tick m ∷ later) → taking n between ≡ None → completion n between ≡ Some tick
     unfolding Turning
     resumed_in before after between later t tick m x y z =
         let w : View = record { now = now before; place = place n before; held = true } in
@@ -210,7 +210,7 @@ module _ (n : ℕ) where
 
     -- from the taking of a job on: it has been taken, and none waits
     pub taken_at : (before after : List Event) (t : ℕ) (m : Bool) → h ≡ before ++ (Takes n t m ∷ after)
-        → (v : Due) × Turning (record { now = v; place = 1; held = false }) after
+        → (v : Option ℕ) × Turning (record { now = v; place = 1; held = false }) after
     unfolding Turning
     taken_at before after t m x = (
       now before,
@@ -218,7 +218,7 @@ module _ (n : ℕ) where
           (at_event before (Takes n t m) after x).1,
     )
 
-    timed : (v : View) (e : Event) → May v e → says_tick e ≡ true → v.now ≡ Tick (details e).tick
+    timed : (v : View) (e : Event) → May v e → says_tick e ≡ true → v.now ≡ Some (details e).tick
     timed v (Comes t) m s = absurd (false≢true s)
     timed v (Starts k t) m s = m
     timed v (Stops k t) m s = m

@@ -3,7 +3,7 @@
 -- not lower than n, or, where none was chosen or it was cancelled, some task released and marked in this interval and ready is not lower
 -- than n. An unmarked job of this interval: nothing is shown of the next one.
 use Rattle.std.proofs.Common.{◌≡◌, ◌∷◌, ◌++◌, ◌≤◌, ◌<◌}
-use Rattle.guarantees.specs.Types.{Table, refl, sym, ap, ◌∙◌, subst, ⊎_elim, true, false, false≢true, List, [], ℕ, MaybeTask, NoTask, Task, Processor, CopyIn, Unchosen, NoneChosen, Copying, Loaded, Cancelled, Interval, Next, NoneNext, LoadedNext, PromotedNext, Outgoing, Phase, Between, Within, State, Stage, Call}
+use Rattle.guarantees.specs.Types.{Table, refl, sym, ap, ◌∙◌, subst, ⊎_elim, true, false, false≢true, List, [], ℕ, Option, None, Some, Processor, CopyIn, Unchosen, NoneChosen, Copying, Loaded, Cancelled, Interval, Next, NoneNext, LoadedNext, PromotedNext, Outgoing, Phase, Between, Within, State, Stage, Call}
 use native.Mathlib.Omega.{arith}
 use borrow.Author.Tests.{ltb-true}
 use lib.Dec.{eqb}
@@ -24,22 +24,22 @@ use Rattle.guarantees.proofs.Events.{happens_intervals}
 use Rattle.guarantees.proofs.Cases.{held_at, Held, copyin_cases, a_cases, b_cases, d_cases, e_cases, g_cases}
 
 -- ---- the job that the next interval executes, as far as it is chosen
-abbrev pub held_task : CopyIn → MaybeTask
-held_task Unchosen = NoTask
-held_task NoneChosen = NoTask
-held_task (Copying c until) = Task c
-held_task (Loaded c) = Task c
-held_task (Cancelled c fate) = NoTask
+abbrev pub held_task : CopyIn → Option ℕ
+held_task Unchosen = None
+held_task NoneChosen = None
+held_task (Copying c until) = Some c
+held_task (Loaded c) = Some c
+held_task (Cancelled c fate) = None
 
-pub held_is : (k : CopyIn) (c : ℕ) → Held k c → held_task k ≡ Task c
+pub held_is : (k : CopyIn) (c : ℕ) → Held k c → held_task k ≡ Some c
 held_is k c s = ⊎_elim (λ x. ap held_task x.1) (λ x. ap held_task x) s
 
-abbrev pub next_task : Next → MaybeTask
-next_task NoneNext = NoTask
-next_task (LoadedNext c) = Task c
-next_task (PromotedNext c) = Task c
+abbrev pub next_task : Next → Option ℕ
+next_task NoneNext = None
+next_task (LoadedNext c) = Some c
+next_task (PromotedNext c) = Some c
 
-abbrev pub up_next : Phase → MaybeTask
+abbrev pub up_next : Phase → Option ℕ
 up_next (Between next outgoing) = next_task next
 up_next (Within i) = held_task i.copyin
 
@@ -51,18 +51,18 @@ runs table t (PromotedNext c) = refl
 
 module _ (pr : List ℕ) (n : ℕ) where
   -- What holds of the copy-in of the open interval, F, so that what the next interval runs has Q.
-  pub record Rule (F : ℕ → ℕ → CopyIn → Type 0) (Q : MaybeTask → Type 0) : Type 0 where
+  pub record Rule (F : ℕ → ℕ → CopyIn → Type 0) (Q : Option ℕ → Type 0) : Type 0 where
     pub load : (ready candidates c until : ℕ) → F ready candidates (Copying c until) → F ready candidates (Loaded c)
-    pub run : (ready candidates c : ℕ) → F ready candidates (Loaded c) → Q (Task c)
-    pub none : (ready candidates : ℕ) (q : MaybeTask) → Best pr (intersection candidates ready) q → F ready candidates NoneChosen → Q q
-    pub lost : (ready candidates c fate : ℕ) (q : MaybeTask) → Best pr (intersection candidates ready) q → F ready candidates (Cancelled c fate) → Q q
+    pub run : (ready candidates c : ℕ) → F ready candidates (Loaded c) → Q (Some c)
+    pub none : (ready candidates : ℕ) (q : Option ℕ) → Best pr (intersection candidates ready) q → F ready candidates NoneChosen → Q q
+    pub lost : (ready candidates c fate : ℕ) (q : Option ℕ) → Best pr (intersection candidates ready) q → F ready candidates (Cancelled c fate) → Q q
     pub more : (ready candidates ready' candidates' : ℕ) (c : CopyIn) → Sub ready ready' → Sub candidates candidates' → F ready candidates c → F ready' candidates' c
     pub cancel : (ready candidates c fate q : ℕ) → q < 32 → member q ready ≡ true → member q candidates ≡ true → get_or pr q 0 < get_or pr c 0
         → F ready candidates (Loaded c) → F (insert c ready) candidates (Cancelled c fate)
-    pub pass : (ready candidates : ℕ) → member n ready ≡ true → Best pr ready NoTask → F ready candidates Unchosen → F ready candidates NoneChosen
-    pub choose : (ready candidates q until : ℕ) → member n ready ≡ true → Best pr ready (Task q) → F ready candidates Unchosen → F (remove q ready) candidates (Copying q until)
+    pub pass : (ready candidates : ℕ) → member n ready ≡ true → Best pr ready None → F ready candidates Unchosen → F ready candidates NoneChosen
+    pub choose : (ready candidates q until : ℕ) → member n ready ≡ true → Best pr ready (Some q) → F ready candidates Unchosen → F (remove q ready) candidates (Copying q until)
 
-  module _ (F : ℕ → ℕ → CopyIn → Type 0) (Q : MaybeTask → Type 0) where
+  module _ (F : ℕ → ℕ → CopyIn → Type 0) (Q : Option ℕ → Type 0) where
     abbrev pub Fate : ℕ → Phase → Type 0
     Fate ready (Between next outgoing) = Q (next_task next)
     Fate ready (Within i) = F ready i.candidates i.copyin
@@ -95,7 +95,7 @@ module _ (pr : List ℕ) (n : ℕ) where
           })
 
       -- what an interval that is over leaves
-      unfoldable pub Left : State → CopyIn → MaybeTask → Type 0
+      unfoldable pub Left : State → CopyIn → Option ℕ → Type 0
       Left d c q = (is_task n (next_task (next_of c q)) ≡ false → member n (without_promoted d.jobs.ready q) ≡ true) × Q (next_task (next_of c q))
 
       pub closed : (d : State) (i : Interval) (c : CopyIn) → settled c ≡ true → Waiting d
@@ -106,14 +106,14 @@ module _ (pr : List ℕ) (n : ℕ) where
       closed d i (Loaded c) s h w f = (w, rule.run d.jobs.ready i.candidates c f)
       closed d i NoneChosen s h w f = go (highest_of d (intersection i.candidates d.jobs.ready)) (rule.none d.jobs.ready i.candidates (highest_of d (intersection i.candidates d.jobs.ready)) (best_at d (intersection i.candidates d.jobs.ready) h) f)
         where
-          go : (q : MaybeTask) → Q q → Left d NoneChosen q
-          go NoTask x = (w, x)
-          go (Task q) x = (λ e. remove_in q d.jobs.ready n small e (w refl), x)
+          go : (q : Option ℕ) → Q q → Left d NoneChosen q
+          go None x = (w, x)
+          go (Some q) x = (λ e. remove_in q d.jobs.ready n small e (w refl), x)
       closed d i (Cancelled c fate) s h w f = go (highest_of d (intersection i.candidates d.jobs.ready)) (rule.lost d.jobs.ready i.candidates c fate (highest_of d (intersection i.candidates d.jobs.ready)) (best_at d (intersection i.candidates d.jobs.ready) h) f)
         where
-          go : (q : MaybeTask) → Q q → Left d (Cancelled c fate) q
-          go NoTask x = (w, x)
-          go (Task q) x = (λ e. remove_in q d.jobs.ready n small e (w refl), x)
+          go : (q : Option ℕ) → Q q → Left d (Cancelled c fate) q
+          go None x = (w, x)
+          go (Some q) x = (λ e. remove_in q d.jobs.ready n small e (w refl), x)
 
       pub b_waiting : (t : ℕ) (s : Stage) → Waiting s.state → Waiting (step_b s t s.state.phase).state
       unfolding close Left
@@ -157,14 +157,14 @@ module _ (pr : List ℕ) (n : ℕ) where
               ⊎_elim (λ x. rule.load ready candidates c x.0 (subst (F ready candidates) x.1 f)) (λ x. subst (F ready candidates) x f) s
 
           go : (i : Interval) (c fate : ℕ) → NewIn d taken i → F d.jobs.ready i.candidates (Loaded c)
-              → (q : MaybeTask) → Best pr (intersection taken d.marked) q → outranks d c q ≡ true → F (insert c d.jobs.ready) i.candidates (Cancelled c fate)
-          go i c fate k f NoTask x b = absurd (false≢true b)
-          go i c fate k f (Task q) x b =
+              → (q : Option ℕ) → Best pr (intersection taken d.marked) q → outranks d c q ≡ true → F (insert c d.jobs.ready) i.candidates (Cancelled c fate)
+          go i c fate k f None x b = absurd (false≢true b)
+          go i c fate k f (Some q) x b =
               let m : member q taken ≡ true = intersection_left taken d.marked q x.1 in
               rule.cancel d.jobs.ready i.candidates c fate q x.0 (k.ready q x.0 m) (k.candidates q x.0 m (intersection_right taken d.marked q x.1))
               (less h.table b) f
             where
-              less : d.table.priority ≡ pr → outranks d c (Task q) ≡ true → get_or pr q 0 < get_or pr c 0
+              less : d.table.priority ≡ pr → outranks d c (Some q) ≡ true → get_or pr q 0 < get_or pr c 0
               less e b = rw e at (ltb-true (get_or d.table.priority q 0) (get_or d.table.priority c 0) b)
 
       pub e_waiting : (t : ℕ) (d : State) → Waiting d → Waiting (step_e d t d.phase)
@@ -173,9 +173,9 @@ module _ (pr : List ℕ) (n : ℕ) where
           e_cases Waiting d t h
           (λ i e s u. go i (rw s at (ready_at d e h)) (subst (F d.jobs.ready i.candidates) s (fate_at d e h)) (highest_of d d.jobs.ready) (best_at d d.jobs.ready h))
         where
-          go : (i : Interval) → (false ≡ false → member n d.jobs.ready ≡ true) → F d.jobs.ready i.candidates Unchosen → (q : MaybeTask) → Best pr d.jobs.ready q → Waiting (choose d t i q)
-          go i w f NoTask b = record { table = h.table; ready = w; fate = rule.pass d.jobs.ready i.candidates (w refl) b f }
-          go i w f (Task q) b = record {
+          go : (i : Interval) → (false ≡ false → member n d.jobs.ready ≡ true) → F d.jobs.ready i.candidates Unchosen → (q : Option ℕ) → Best pr d.jobs.ready q → Waiting (choose d t i q)
+          go i w f None b = record { table = h.table; ready = w; fate = rule.pass d.jobs.ready i.candidates (w refl) b f }
+          go i w f (Some q) b = record {
             table = h.table;
             ready = λ x. remove_in q d.jobs.ready n small x (w refl);
             fate = rule.choose d.jobs.ready i.candidates q (later t (copyin_length d.table.columns q)) (w refl) b f;
@@ -200,10 +200,10 @@ module _ (pr : List ℕ) (n : ℕ) where
   Bound ready candidates (Loaded c) = get_or pr c 0 ≤ get_or pr n 0
   Bound ready candidates (Cancelled c fate) = Rival ready candidates
 
-  rival_heads : (ready candidates : ℕ) (q : MaybeTask) → Best pr (intersection candidates ready) q → Rival ready candidates → NotLower pr n q
-  rival_heads ready candidates NoTask b r =
+  rival_heads : (ready candidates : ℕ) (q : Option ℕ) → Best pr (intersection candidates ready) q → Rival ready candidates → NotLower pr n q
+  rival_heads ready candidates None b r =
       clash (member r.who (intersection candidates ready)) (intersection_in candidates ready r.who r.task r.is_candidate r.is_ready) (b r.who r.task)
-  rival_heads ready candidates (Task q) b r =
+  rival_heads ready candidates (Some q) b r =
       omega (arith, r.high, b.2 r.who r.task (intersection_in candidates ready r.who r.task r.is_candidate r.is_ready))
 
   bound_more : (ready candidates ready' candidates' : ℕ) (c : CopyIn) → Sub ready ready' → Sub candidates candidates' → Bound ready candidates c → Bound ready' candidates' c
@@ -248,22 +248,22 @@ module _ (pr : List ℕ) (n : ℕ) where
   Old d = Waiting pr n Bound (NotLower pr n) d
 
   -- the intervals to come run none that is lower, up to the one that executes n's job
-  unfoldable pub Ahead : List MaybeTask → Type 0
+  unfoldable pub Ahead : List (Option ℕ) → Type 0
   Ahead [] = Unit {0}
   Ahead (r ∷ rs) = NotLower pr n r × (is_task n r ≡ false → Ahead rs)
 
   -- the next interval has Q, and those after it run none that is lower
-  unfoldable pub Then : (MaybeTask → Type 0) → List MaybeTask → Type 0
+  unfoldable pub Then : (Option ℕ → Type 0) → List (Option ℕ) → Type 0
   Then Q [] = Unit {0}
   Then Q (r ∷ rs) = Q r × (is_task n r ≡ false → Ahead rs)
 
   -- ---- an interval begins, and the calls to come
 
-  module _ (F : ℕ → ℕ → CopyIn → Type 0) (Q : MaybeTask → Type 0) (rule : Rule pr n F Q) (small : n < 32) where
+  module _ (F : ℕ → ℕ → CopyIn → Type 0) (Q : Option ℕ → Type 0) (rule : Rule pr n F Q) (small : n < 32) where
     abbrev W : State → Type 0
     W d = Waiting pr n F Q d
 
-    unfoldable pub Forth : List MaybeTask → State → Type 0
+    unfoldable pub Forth : List (Option ℕ) → State → Type 0
     Forth [] d = W d
     Forth (r ∷ rs) d = (rs ≡ []) × Q r × (is_task n r ≡ false → Old d)
 
@@ -314,10 +314,10 @@ module _ (pr : List ℕ) (n : ℕ) where
         from_e d t set (from_c d t set (c_waiting pr n F Q rule small t (taken_at d t set) (deferred_at d t set) (at_b d t).state
         (b_waiting pr n F Q rule small t (at_a d t) (a_waiting pr n F Q rule small t (at_clock d t) (record { table = h.table; ready = h.ready; fate = h.fate })))))
 
-    join : (rs later : List MaybeTask) (g : State) → Forth rs g → (W g → Then Q later) → (Old g → Ahead later) → Then Q (rs ++ later)
+    join : (rs later : List (Option ℕ)) (g : State) → Forth rs g → (W g → Then Q later) → (Old g → Ahead later) → Then Q (rs ++ later)
     unfolding Forth Then
     join [] later g h k a = k h
-    join (r ∷ rs) later g h k a = (h.1, λ e. subst (λ (x : List MaybeTask). Ahead (x ++ later)) (sym h.0) (a (h.2 e)))
+    join (r ∷ rs) later g h k a = (h.1, λ e. subst (λ (x : List (Option ℕ)). Ahead (x ++ later)) (sym h.0) (a (h.2 e)))
 
     pub to_come : (d : State) (t set : ℕ) (rest : List Event) → W (at_e d t set) → (W (at_g d t set) → Then Q (intervals rest)) → (Old (at_g d t set) → Ahead (intervals rest))
         → Then Q (intervals (begin_events t (at_f d t set).state.phase (at_g d t set).phase) ++ intervals rest)
@@ -330,12 +330,12 @@ module _ (pr : List ℕ) (n : ℕ) where
         (join (intervals (begin_events t (at_f d t set).state.phase (at_g d t set).phase)) (intervals rest) (at_g d t set) (instant d t set h) k a)
 
   module _ (small : n < 32) where
-    then_ahead : (rs : List MaybeTask) → Then (NotLower pr n) rs → Ahead rs
+    then_ahead : (rs : List (Option ℕ)) → Then (NotLower pr n) rs → Ahead rs
     unfolding Then Ahead
     then_ahead [] h = tt
     then_ahead (r ∷ rs) h = h
 
-    ahead_then : (rs : List MaybeTask) → Ahead rs → Then (NotLower pr n) rs
+    ahead_then : (rs : List (Option ℕ)) → Ahead rs → Then (NotLower pr n) rs
     unfolding Then Ahead
     ahead_then [] h = tt
     ahead_then (r ∷ rs) h = h
@@ -354,7 +354,7 @@ module _ (pr : List ℕ) (n : ℕ) where
         cs d
 
     -- and one of the open interval
-    pub soon : (F : ℕ → ℕ → CopyIn → Type 0) (Q : MaybeTask → Type 0) (rule : Rule pr n F Q) (d : State) (cs : List Call) → Waiting pr n F Q d → Then Q (intervals (history d cs))
+    pub soon : (F : ℕ → ℕ → CopyIn → Type 0) (Q : Option ℕ → Type 0) (rule : Rule pr n F Q) (d : State) (cs : List Call) → Waiting pr n F Q d → Then Q (intervals (history d cs))
     soon F Q rule d cs =
         walk (λ d h. Waiting pr n F Q d → Then Q (intervals h)) (λ d o. unfold Then each in tt)
         (λ d t set cs e k o. step F Q rule small d t set (history (at_g d t set) cs) o k (ahead (at_g d t set) cs))

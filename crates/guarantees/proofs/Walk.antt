@@ -1,7 +1,7 @@
 -- Walks along the calls: each call is an instant that is served, or leaves all but the marks as it is; and what holds through both holds
 -- through a list of them. A new call that leaves table, clock, jobs, waiting releases and phase as they are needs a line in `each_call` alone.
 use Rattle.std.proofs.Common.{◌≡◌, ◌⊎◌, ◌∷◌, ◌++◌}
-use Rattle.guarantees.specs.Types.{refl, sym, ap, ◌∙◌, subst, append_assoc, Bool, true, false, cond, not, false≢true, inl, inr, ⊎_elim, List, [], ℕ, State, Call, Instant, Mark, Marks, Refused, Occurred}
+use Rattle.guarantees.specs.Types.{refl, sym, ap, ◌∙◌, subst, append_assoc, Bool, true, false, cond, not, false≢true, inl, inr, ⊎_elim, List, [], ℕ, State, Call, Instant, Mark, Marks, Err, Occurred}
 use borrow.Author.Tests.{eqb-true}
 use lib.Dec.{eqb, ltb}
 use Rattle.sets.specs.Sets.{member, union, intersection, difference, insert}
@@ -32,7 +32,7 @@ module _ (d : State) (t set : ℕ) where
   pub refused : eqb (refusal d t set) 0 ≡ false → after_call d (Instant t set) ≡ d
   refused = call_refused d (Instant t set)
 
-  pub refused_answer : eqb (refusal d t set) 0 ≡ false → (instant_step d t set).answer ≡ Refused (refusal d t set)
+  pub refused_answer : eqb (refusal d t set) 0 ≡ false → (instant_step d t set).answer ≡ Err (refusal d t set)
   unfolding instant_step
   refused_answer e = rw (instant_step, e)
 

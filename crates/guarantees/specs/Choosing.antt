@@ -1,7 +1,7 @@
 -- 6/13: first come, first served. "The highest of several is then the earliest released by original time, and among those the lowest task
 -- number": of what the engine chooses for copy-in, said of every job that is ready then.
 use Rattle.std.specs.Prelude.{◌≡◌, ◌⊎◌, ◌≤◌, ◌<◌}
-use Rattle.guarantees.specs.Types.{true, ℕ, NoTask, Task, State}
+use Rattle.guarantees.specs.Types.{true, ℕ, None, Some, State}
 use Rattle.sets.specs.Sets.{member}
 use Rattle.rules.specs.Order.{priority}
 use Rattle.rules.specs.View.{values}
@@ -17,7 +17,7 @@ NoLater d since n m =
 -- was ready goes no earlier
 abbrev pub Chooses : State → State → (ℕ → ℕ) → Type 0
 Chooses before after since =
-    (n m : ℕ) → (values before).copyin ≡ NoTask → (values after).copyin ≡ Task n → m < 32 → member m before.jobs.ready ≡ true
+    (n m : ℕ) → (values before).copyin ≡ None → (values after).copyin ≡ Some n → m < 32 → member m before.jobs.ready ≡ true
     → NoLater before since n m
 
 -- the choice is made in step e, after the releases, or in step g, of an interval that begins; `since` has the original times

@@ -1,7 +1,7 @@
 -- That the entries tell the truth: of each job done (kind 16) and of each interval closed (kind 17) that the calls answer with, what it
 -- says is what the history has of it. What stands between quotation marks is document 01; below each quotation stands what it says of a
 -- history.
-use Rattle.guarantees.specs.Types.{Bool, true, false, cond, List, [], ℕ, MaybeTask, NoTask, Task, State, Never, Tick, Call, Instant, Served, Occurred, Done, NoJob, Job, Closing, Unclosed, BeforeReleases, AfterReleases, JobEntry, IntervalEntry}
+use Rattle.guarantees.specs.Types.{Bool, true, false, cond, List, [], ℕ, Option, None, Some, State, Call, Instant, Ok, Occurred, Closing, Unclosed, BeforeReleases, AfterReleases, JobEntry, IntervalEntry}
 use Rattle.std.specs.Prelude.{eqb, ltb, get_or, ◌≡◌, ◌&&◌, ◌∷◌, ◌++◌, ◌+◌, ◌<◌}
 use Rattle.sets.specs.Sets.{member, bit}
 use Rattle.rules.specs.Instant.{occurred}
@@ -44,12 +44,12 @@ marked_by n b d (c ∷ cs) =
 
 module _ (priority : List ℕ) (n : ℕ) where
   -- a job of lower priority than task n's
-  abbrev pub is_lower : MaybeTask → Bool
-  is_lower NoTask = false
-  is_lower (Task k) = ltb (get_or priority n 0) (get_or priority k 0)
+  abbrev pub is_lower : Option ℕ → Bool
+  is_lower None = false
+  is_lower (Some k) = ltb (get_or priority n 0) (get_or priority k 0)
 
   -- of some intervals, in how many the processor executes one
-  unfoldable pub lower_in : List MaybeTask → ℕ
+  unfoldable pub lower_in : List (Option ℕ) → ℕ
   lower_in [] = 0
   lower_in (r ∷ rs) = cond (is_lower r) 1 0 + lower_in rs
 
@@ -62,11 +62,11 @@ pub record TellsJob (priority : List ℕ) (history : List Event) (t : ℕ) (e : 
   pub taken : ℕ
   pub marked : Bool
   pub taking_is : history ≡ before ++ (Takes e.task taken marked ∷ after)
-  pub last_taken : taking e.task after ≡ Never
+  pub last_taken : taking e.task after ≡ None
   -- 4/13: "The job entry shows the original time": the tick of the release that waited, else that of the taking;
-  pub release : e.release ≡ original (waiting e.task Never before) taken
+  pub release : e.release ≡ original (waiting e.task None before) taken
   -- its execution start is the tick on which it started to execute;
-  pub execution_start : start e.task after ≡ Tick e.start
+  pub execution_start : start e.task after ≡ Some e.start
   -- its completion is this instant, since "a copy-out's end completes its job";
   pub completion : e.completion ≡ t
   -- "A job is blocked in an interval if that interval holds its release or comes later, comes before the one that executes it, and the
@@ -75,13 +75,13 @@ pub record TellsJob (priority : List ℕ) (history : List Event) (t : ℕ) (e : 
 
 -- a job that completes: its task and the tick
 pub record Completion : Type 0 where
-  pub task : MaybeTask
+  pub task : Option ℕ
   pub tick : ℕ
 
 -- what the answers say of the jobs done
-abbrev pub completed_in : Done → List Completion
-completed_in NoJob = []
-completed_in (Job e) = record { task = Task e.task; tick = e.completion } ∷ []
+abbrev pub completed_in : Option JobEntry → List Completion
+completed_in None = []
+completed_in (Some e) = record { task = Some e.task; tick = e.completion } ∷ []
 
 unfoldable pub done : List Occurred → List Completion
 done [] = []
@@ -108,7 +108,7 @@ closed (o ∷ os) = closed_in o.closed ++ closed os
 -- of a list of calls that starts from a state that opening returned
 pub record EntriesTell (d : State) (calls : List Call) : Type 0 where
   pub each_job : (before after : List Call) (t set : ℕ) (o : Occurred) (e : JobEntry) → calls ≡ before ++ (Instant t set ∷ after)
-      → (instant (after_calls d before) t set).answer ≡ Served o → o.done ≡ Job e → TellsJob d.table.priority (history d before) t e
+      → (instant (after_calls d before) t set).answer ≡ Ok o → o.done ≡ Some e → TellsJob d.table.priority (history d before) t e
   -- "The record has kind 16 at step a": one entry for each job that completes, in their order
   pub each_done : done (all_occurred d calls) ≡ completions (history d calls)
   -- 4/13: at each point of the list, each release that was handed in was taken at once, set waiting or skipped, task by task
@@ -116,7 +116,7 @@ pub record EntriesTell (d : State) (calls : List Call) : Type 0 where
       → Balance n (handed_in n d before) (skips n (all_occurred d before)) (history d before)
   -- and at each instant by its set, what waited and, 8/13, the last one
   pub each_instant : (before after : List Call) (n t set : ℕ) (o : Occurred) → calls ≡ before ++ (Instant t set ∷ after) → n < 32
-      → (instant (after_calls d before) t set).answer ≡ Served o
+      → (instant (after_calls d before) t set).answer ≡ Ok o
       → Placed n d.table t set o.skipped (history d before) (by_call (after_calls d before) (Instant t set))
   -- "A job is marked if its task was at the release": as opening read its mark, or as mark calls have changed it; a release that waited
   -- has the same mark as at its taking, since "a mark cannot change while a release waits"
@@ -124,6 +124,6 @@ pub record EntriesTell (d : State) (calls : List Call) : Type 0 where
       → by_call (after_calls d before) (Instant t set) ≡ xs ++ (Takes n u m ∷ ys) → m ≡ marked_by n (member n d.marked) d before
   -- 4/13: "A mark cannot change while a release waits", 10/13: of any task that the call names
   pub each_mark_call : (before after : List Call) (c : Call) (n : ℕ) → calls ≡ before ++ (c ∷ after) → n < 32
-      → (row c).number (after_calls d before) ≡ 0 → member n (row c).names ≡ true → waiting n Never (history d before) ≡ Never
+      → (row c).number (after_calls d before) ≡ 0 → member n (row c).names ≡ true → waiting n None (history d before) ≡ None
   -- "kind 17 at the interval's end": one for each interval that ended, in their order, with all that it says
   pub each_interval : closed (all_occurred d calls) ≡ ended d.table.priority no_course (history d calls)

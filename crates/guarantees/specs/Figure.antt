@@ -1,6 +1,6 @@
 -- 7/13: a figure members can plan on. What stands between quotation marks is the request; below each quotation stands what it says of a
 -- history. "A release that waited is measured from its taking": so is every one here.
-use Rattle.guarantees.specs.Types.{Bool, true, false, cond, List, [], ℕ, zero, suc, min, Table, MaybeTask, NoTask, Task, Tick}
+use Rattle.guarantees.specs.Types.{Bool, true, false, cond, List, [], ℕ, zero, suc, min, Table, Option, None, Some}
 use Rattle.std.specs.Prelude.{max, leb, get_or, length, ◌≡◌, ◌&&◌, ◌∷◌, ◌++◌, ◌+◌, ◌-◌, ◌*◌, ◌^◌, ◌≤◌, ◌<◌}
 use Rattle.sets.specs.Sets.{member, bit}
 use Rattle.table.specs.Table.{copyin_length, execution_length, copyout_length}
@@ -33,7 +33,7 @@ module _ (present : ℕ) (columns : List ℕ) where
 -- ---- h
 
 -- some intervals without the first of them
-abbrev pub past_first : List MaybeTask → List MaybeTask
+abbrev pub past_first : List (Option ℕ) → List (Option ℕ)
 past_first [] = []
 past_first (r ∷ rs) = rs
 
@@ -44,19 +44,19 @@ before_start n (e ∷ es) = cond (starts e && is_task n (details e).task) [] (e 
 
 module _ (priority : List ℕ) (n : ℕ) where
   -- whether a job that is executed is not lower in priority than task n's; none is where the processor idles
-  abbrev pub is_not_lower : MaybeTask → Bool
-  is_not_lower NoTask = false
-  is_not_lower (Task k) = leb (get_or priority k 0) (get_or priority n 0)
+  abbrev pub is_not_lower : Option ℕ → Bool
+  is_not_lower None = false
+  is_not_lower (Some k) = leb (get_or priority k 0) (get_or priority n 0)
 
   -- in how many of some intervals one is executed
-  unfoldable pub not_lower_in : List MaybeTask → ℕ
+  unfoldable pub not_lower_in : List (Option ℕ) → ℕ
   not_lower_in [] = 0
   not_lower_in (r ∷ rs) = bit (is_not_lower r) + not_lower_in rs
 
   -- "Let h be the number of jobs not lower in priority that execute between a job's release and its execution": of the job's intervals,
   -- those strictly between the first, which holds the taking, and the one that executes it. Each executes one job, and none of them this
   -- one. This is the smallest reading of "between": the others are held against it below.
-  abbrev pub overtaking : Situation → List MaybeTask → ℕ
+  abbrev pub overtaking : Situation → List (Option ℕ) → ℕ
   overtaking at rs = not_lower_in (past_first (waited n at rs))
 
   -- the executions of jobs not lower that start, and those that end, after the taking and before the job's own start
@@ -81,14 +81,14 @@ module _ (priority : List ℕ) (n : ℕ) where
 
 -- of task n, marked or not, that is taken at t: its intervals, h, and what occurs from the taking on; M is as above, and U its copy-out's
 -- length. Where its interval has not begun, "that is as far as it goes".
-pub record Planned (M U n t : ℕ) (marked : Bool) (met : List MaybeTask) (h : ℕ) (after : List Event) : Type 0 where
+pub record Planned (M U n t : ℕ) (marked : Bool) (met : List (Option ℕ)) (h : ℕ) (after : List Event) : Type 0 where
   -- "The intervals from the one holding the release to the executing one, both counted, are at most h + 3, and h + 2 for a marked task."
   pub intervals_at_most : length met ≤ h + 3
   pub marked_at_most : marked ≡ true → length met ≤ h + 2
   -- "Completion comes at most that many times M, plus the job's own U, after the release."
-  pub completes_within : (c : ℕ) → completion n after ≡ Tick c → c ≤ t + length met * M + U
-  pub completes_by : (c : ℕ) → completion n after ≡ Tick c → c ≤ t + (h + 3) * M + U
-  pub marked_completes_by : marked ≡ true → (c : ℕ) → completion n after ≡ Tick c → c ≤ t + (h + 2) * M + U
+  pub completes_within : (c : ℕ) → completion n after ≡ Some c → c ≤ t + length met * M + U
+  pub completes_by : (c : ℕ) → completion n after ≡ Some c → c ≤ t + (h + 3) * M + U
+  pub marked_completes_by : marked ≡ true → (c : ℕ) → completion n after ≡ Some c → c ≤ t + (h + 2) * M + U
 
 -- ---- The bounds by h, as they are computed
 
@@ -121,11 +121,11 @@ pub record Figure (table : Table) (history : List Event) : Type 0 where
   pub marked_second_on : (before after : List Event) (n t : ℕ) → history ≡ before ++ (Takes n t true ∷ after) →
       let at : Situation = situation NoneOpen before in
       (i : ℕ) → 1 ≤ i → i < length (met n at (intervals after)) →
-      is_not_lower table.priority n (get_or (met n at (intervals after)) i NoTask) ≡ true
+      is_not_lower table.priority n (get_or (met n at (intervals after)) i None) ≡ true
   -- every interval lasts at most M, from its begin to its end,
-  pub each_end : (before after : List Event) (b e : ℕ) → history ≡ before ++ (Ends e ∷ after) → (latest none_yet before).begun ≡ Tick b →
+  pub each_end : (before after : List Event) (b e : ℕ) → history ≡ before ++ (Ends e ∷ after) → (latest none_yet before).begun ≡ Some b →
       e ≤ b + longest_interval table.present table.columns
   -- and of the open one: no instant that finds it open comes later
-  pub each_instant : (before after : List Event) (b t : ℕ) (r : MaybeTask) → history ≡ before ++ (Comes t ∷ after) →
-      situation NoneOpen before ≡ Open r → (latest none_yet before).begun ≡ Tick b →
+  pub each_instant : (before after : List Event) (b t : ℕ) (r : Option ℕ) → history ≡ before ++ (Comes t ∷ after) →
+      situation NoneOpen before ≡ Open r → (latest none_yet before).begun ≡ Some b →
       t ≤ b + longest_interval table.present table.columns

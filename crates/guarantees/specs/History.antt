@@ -1,6 +1,6 @@
 -- What the instant list makes of the task entries and of the calls that meet no refusal: the history of a run, event by event,
 -- in the order in which the events occur. Each event is read off the steps a to g of an instant. A refused call leaves none.
-use Rattle.guarantees.specs.Types.{Bool, cond, List, [], ℕ, zero, suc, MaybeTask, NoTask, Task, Processor, Idle, CopyingIn, Executing, Finished, CopyIn, Unchosen, NoneChosen, Copying, Loaded, Cancelled, Phase, Between, Within, State, Done, NoJob, Job, Call, Instant, Never, Tick}
+use Rattle.guarantees.specs.Types.{Bool, cond, List, [], ℕ, zero, suc, Option, JobEntry, None, Some, Processor, Idle, CopyingIn, Executing, Finished, CopyIn, Unchosen, NoneChosen, Copying, Loaded, Cancelled, Phase, Between, Within, State, Call, Instant}
 use Rattle.std.specs.Prelude.{eqb, ◌≡◌, ◌∷◌, ◌++◌}
 use Rattle.sets.specs.Sets.{member}
 use Rattle.rules.specs.Instant.{at_a, at_b, at_e, at_f, at_g, taken_at, deferred_at, due, processor_task, copyout_task}
@@ -16,7 +16,7 @@ pub data Event : Type 0 where
   Takes : ℕ → ℕ → Bool → Event  -- c: a task's release is taken, at a time, the task then marked or not
   Defers : ℕ → ℕ → Event  -- c: a task's release waits from now on, at a time
   GivesWay : ℕ → Event  -- d: the engine's copy-in of a task's job, under way or finished, gives way to a marked release
-  Begins : ℕ → MaybeTask → MaybeTask → Event  -- g: an interval begins, at a time: the task that it executes, and the one that it copies out
+  Begins : ℕ → Option ℕ → Option ℕ → Event  -- g: an interval begins, at a time: the task that it executes, and the one that it copies out
 
 -- ---- One instant
 
@@ -44,9 +44,9 @@ finish_events_in t (Between next outgoing) = []
 finish_events_in t (Within i) = finish_events t i.copyin
 
 -- and the job that step a completes
-unfoldable pub completion_events : Done → List Event
-completion_events NoJob = []
-completion_events (Job e) = Completes e.task e.completion ∷ []
+unfoldable pub completion_events : Option JobEntry → List Event
+completion_events None = []
+completion_events (Some e) = Completes e.task e.completion ∷ []
 
 -- b, f. an interval is open before the step and none is after it
 unfoldable pub end_events : ℕ → Phase → Phase → List Event
@@ -65,17 +65,17 @@ defer_events zero deferred t = []
 defer_events (suc k) deferred t = defer_events k deferred t ++ cond (member k deferred) (Defers k t ∷ []) []
 
 -- d. a copy-in that had not given way before the step and has after it
-abbrev pub given_way : CopyIn → MaybeTask
-given_way Unchosen = NoTask
-given_way NoneChosen = NoTask
-given_way (Copying n until) = NoTask
-given_way (Loaded n) = NoTask
-given_way (Cancelled n fate) = Task n
+abbrev pub given_way : CopyIn → Option ℕ
+given_way Unchosen = None
+given_way NoneChosen = None
+given_way (Copying n until) = None
+given_way (Loaded n) = None
+given_way (Cancelled n fate) = Some n
 
-unfoldable pub giving_events : MaybeTask → MaybeTask → List Event
-giving_events NoTask NoTask = []
-giving_events NoTask (Task n) = GivesWay n ∷ []
-giving_events (Task n) after = []
+unfoldable pub giving_events : Option ℕ → Option ℕ → List Event
+giving_events None None = []
+giving_events None (Some n) = GivesWay n ∷ []
+giving_events (Some n) after = []
 
 unfoldable pub giving_events_in : Phase → Phase → List Event
 giving_events_in (Between next outgoing) after = []
@@ -132,5 +132,5 @@ history d (c ∷ cs) = by_call d c ++ history (after_call d c) cs
 
 -- the calls hand in an empty set at each due time until none is left
 unfoldable pub EmptySets : State → List Call → Type 0
-EmptySets d [] = due d.phase ≡ Never
-EmptySets d (c ∷ cs) = ((t : ℕ) × (due d.phase ≡ Tick t) × (c ≡ Instant t 0)) × EmptySets (after_call d c) cs
+EmptySets d [] = due d.phase ≡ None
+EmptySets d (c ∷ cs) = ((t : ℕ) × (due d.phase ≡ Some t) × (c ≡ Instant t 0)) × EmptySets (after_call d c) cs

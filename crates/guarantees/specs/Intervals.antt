@@ -1,6 +1,6 @@
 -- What a history has of an interval, for its entry (kind 17) and for what the next interval executes. What stands between quotation
 -- marks is document 01.
-use Rattle.guarantees.specs.Types.{Bool, true, false, cond, not, List, [], ℕ, MaybeTask, NoTask, Task, IntervalEntry}
+use Rattle.guarantees.specs.Types.{Bool, true, false, cond, not, List, [], ℕ, Option, None, Some, IntervalEntry}
 use Rattle.std.specs.Prelude.{eqb, get_or, ◌≡◌, ◌⊎◌, ◌&&◌, ◌||◌, ◌∷◌, ◌++◌, ◌-◌, ◌<◌}
 use Rattle.sets.specs.Sets.{member, insert}
 use Rattle.rules.specs.Order.{highest}
@@ -13,15 +13,15 @@ pub record Course : Type 0 where
   pub is_open : Bool
   pub begin : ℕ
   pub half : ℕ
-  pub task : MaybeTask
+  pub task : Option ℕ
   pub work : ℕ
-  pub copiedout : MaybeTask
-  pub chosen : MaybeTask
+  pub copiedout : Option ℕ
+  pub chosen : Option ℕ
   pub fate : ℕ
   pub own : ℕ
   pub next : ℕ
   pub origins : ℕ → Origin
-  pub decided : MaybeTask
+  pub decided : Option ℕ
 
 -- "the first interval gives the processor half 0"
 abbrev pub no_course : Course
@@ -30,25 +30,25 @@ no_course =
       is_open = false;
       begin = 0;
       half = 2;
-      task = NoTask;
+      task = None;
       work = 0;
-      copiedout = NoTask;
-      chosen = NoTask;
+      copiedout = None;
+      chosen = None;
       fate = 0;
       own = 0;
       next = 0;
       origins = λ n. no_origin;
-      decided = NoTask;
+      decided = None;
     }
 
-abbrev pub with_task : MaybeTask → ℕ → ℕ
-with_task NoTask s = s
-with_task (Task n) s = insert n s
+abbrev pub with_task : Option ℕ → ℕ → ℕ
+with_task None s = s
+with_task (Some n) s = insert n s
 
 -- "work (0 idle, 1 execute, 2 copy in and execute)": a job that the engine has copied in, and that has not given way, executes at once
-abbrev pub work_by : ℕ → MaybeTask → ℕ
-work_by fate NoTask = 0
-work_by fate (Task n) = cond (eqb fate 1) 1 2
+abbrev pub work_by : ℕ → Option ℕ → ℕ
+work_by fate None = 0
+work_by fate (Some n) = cond (eqb fate 1) 1 2
 
 -- "its fate (0 none, 1 done, 2 cancelled)", and 2/13: 3 where it had finished
 abbrev pub fate_by : ℕ → Event → ℕ
@@ -57,15 +57,15 @@ fate_by fate e = cond (finishes e) 1 (cond (gives_way e) (cond (eqb fate 1) 3 2)
 module _ (priority : List ℕ) where
   -- "the highest-priority marked job released in it and ready"; 6/13: "promotion follows the same order", by priority, then the original
   -- time, then the task number. All of them are ready then, since only one whose copy-in is done would not be
-  abbrev pub highest_own : Course → MaybeTask
+  abbrev pub highest_own : Course → Option ℕ
   highest_own x = highest priority (λ n. (x.origins n).since) x.own
 
   -- "When an interval ends and its copy-in was cancelled or none was chosen, the highest-priority marked job .. is promoted (R4)"
-  abbrev pub promoted_by : Course → MaybeTask
-  promoted_by x = cond (eqb x.fate 1) NoTask (highest_own x)
+  abbrev pub promoted_by : Course → Option ℕ
+  promoted_by x = cond (eqb x.fate 1) None (highest_own x)
 
   -- "The processor copies in and then executes the promoted job; else it executes the loaded one; else it idles (R5)."
-  abbrev pub executes_next : Course → MaybeTask
+  abbrev pub executes_next : Course → Option ℕ
   executes_next x = cond (eqb x.fate 1) x.chosen (highest_own x)
 
   -- "The halves swap (R1)"; the releases of an instant "belong to the open interval, else to the one that step g begins"
@@ -77,7 +77,7 @@ module _ (priority : List ℕ) where
     task = cond (begins e) (details e).task x.task;
     work = cond (begins e) (work_by x.fate (details e).task) x.work;
     copiedout = cond (begins e) (details e).out x.copiedout;
-    chosen = cond (begins e) NoTask (cond (finishes e || gives_way e) (details e).task x.chosen);
+    chosen = cond (begins e) None (cond (finishes e || gives_way e) (details e).task x.chosen);
     fate = cond (begins e) 0 (fate_by x.fate e);
     own = cond (begins e) x.next (cond (takes e && ((details e).mark && x.is_open)) (with_task (details e).task x.own) x.own);
     next = cond (begins e) 0 (cond (takes e && ((details e).mark && not x.is_open)) (with_task (details e).task x.next) x.next);
@@ -90,7 +90,7 @@ module _ (priority : List ℕ) where
 
   pub record Proceeds (h : List Event) : Type 0 where
     -- "If no interval is open .. an interval begins"
-    pub each_begin : (before after : List Event) (t : ℕ) (r l : MaybeTask) → h ≡ before ++ (Begins t r l ∷ after)
+    pub each_begin : (before after : List Event) (t : ℕ) (r l : Option ℕ) → h ≡ before ++ (Begins t r l ∷ after)
         → ((course before).is_open ≡ false) × (r ≡ (course before).decided)
     -- "If an interval is open .. it ends"
     pub each_end : (before after : List Event) (t : ℕ) → h ≡ before ++ (Ends t ∷ after) → (course before).is_open ≡ true
@@ -99,7 +99,7 @@ module _ (priority : List ℕ) where
         → ((course before).is_open ≡ true) × ((course before).fate ≡ 0)
     -- and that one gives way, or the one under way
     pub each_giving : (before after : List Event) (n : ℕ) → h ≡ before ++ (GivesWay n ∷ after)
-        → ((course before).is_open ≡ true) × (((course before).fate ≡ 0) ⊎ (((course before).fate ≡ 1) × ((course before).chosen ≡ Task n)))
+        → ((course before).is_open ≡ true) × (((course before).fate ≡ 0) ⊎ (((course before).fate ≡ 1) × ((course before).chosen ≡ Some n)))
 
   -- the entry of an interval that ends at t
   abbrev pub entry_by : Course → ℕ → IntervalEntry

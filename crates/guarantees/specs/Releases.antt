@@ -1,7 +1,7 @@
 -- What becomes of the releases of a task: each that is handed in is taken at once, set waiting or skipped, and each that was set
 -- waiting is taken later. What stands between quotation marks is 4/13 or 8/13.
 use Rattle.std.specs.Prelude.{◌≡◌, ◌&&◌, ◌⊎◌, ◌∷◌, ◌++◌, ◌+◌, ◌≤◌, ◌<◌}
-use Rattle.guarantees.specs.Types.{Bool, true, false, cond, not, List, ℕ, Table, Never, Tick}
+use Rattle.guarantees.specs.Types.{Bool, true, false, cond, not, List, ℕ, Table, None, Some}
 use Rattle.sets.specs.Sets.{member, bit}
 use Rattle.table.specs.Table.{spacing}
 use Rattle.guarantees.specs.History.{Event, Takes, Defers}
@@ -38,17 +38,17 @@ module _ (n : ℕ) where
   -- before it; "a task without one is not tested"
   abbrev pub Sooner : Table → ℕ → List Event → Type 0
   Sooner table t h =
-      (member n table.spaced ≡ true) × ((u : ℕ) × (last_released n h ≡ Tick u) × (t < u + spacing table.columns n))
+      (member n table.spaced ≡ true) × ((u : ℕ) × (last_released n h ≡ Some u) × (t < u + spacing table.columns n))
 
   -- 4/13: one that "finds one waiting", where es occurs at its instant; "a release at the instant of taking waits in its turn", so that it
   -- finds one that stays
   abbrev pub FindsWaiting : List Event → List Event → Type 0
-  FindsWaiting h es = ((u : ℕ) × (waiting n Never h ≡ Tick u)) × (taking n es ≡ Never)
+  FindsWaiting h es = ((u : ℕ) × (waiting n None h ≡ Some u)) × (taking n es ≡ None)
 
   -- at an instant at t that hands in a set and skips some of it, where h has occurred before it and es occurs at it
   pub record Placed (table : Table) (t set skipped : ℕ) (h es : List Event) : Type 0 where
     -- what is taken is in the set, or waited
-    pub taken_from : (u : ℕ) → taking n es ≡ Tick u → (member n set ≡ true) ⊎ ((w : ℕ) × (waiting n Never h ≡ Tick w))
+    pub taken_from : (u : ℕ) → taking n es ≡ Some u → (member n set ≡ true) ⊎ ((w : ℕ) × (waiting n None h ≡ Some w))
     -- what is skipped is in the set, and came too soon or found one waiting; no other is skipped
     pub skipped_by : member n skipped ≡ true → (member n set ≡ true) × (Sooner table t h ⊎ FindsWaiting h es)
     -- and each of the set that did is
@@ -58,7 +58,7 @@ module _ (n : ℕ) where
   -- 8/13: between two releases of a task taken or set waiting lies at least its spacing, by original time: one that is taken at once, or
   -- set waiting, comes that long after the last
   pub record Spaced (table : Table) (h : List Event) : Type 0 where
-    pub at_taking : (before after : List Event) (t u : ℕ) (m : Bool) → h ≡ before ++ (Takes n t m ∷ after) → waiting n Never before ≡ Never
-        → last_released n before ≡ Tick u → u + spacing table.columns n ≤ t
+    pub at_taking : (before after : List Event) (t u : ℕ) (m : Bool) → h ≡ before ++ (Takes n t m ∷ after) → waiting n None before ≡ None
+        → last_released n before ≡ Some u → u + spacing table.columns n ≤ t
     pub at_waiting : (before after : List Event) (t u : ℕ) → h ≡ before ++ (Defers n t ∷ after)
-        → last_released n before ≡ Tick u → u + spacing table.columns n ≤ t
+        → last_released n before ≡ Some u → u + spacing table.columns n ≤ t

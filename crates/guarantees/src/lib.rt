@@ -6,11 +6,12 @@ mod planning;
 
 ghost use Rattle.guarantees.specs.Opened.{OpenedWithClaim};
 
-use dispatcher::Opening;
+use dispatcher::Dispatcher;
 pub use planning::{completes_after, longest_interval};
+use table::Refusal;
 
 // A dispatcher from the task entries, or the first refusal. Of every list of calls from a state that is handed out here the claim holds.
-pub fn open(s: &[u8]) -> Opening
+pub fn open(s: &[u8]) -> Result<Dispatcher, Refusal>
     ensures { OpenedWithClaim s.now result }
 {
     dispatcher::open(s)

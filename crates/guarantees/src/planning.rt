@@ -1,25 +1,15 @@
 // 7/13: the figure that members plan on, by the columns of a table and the set of its tasks. Any memory has one: the lengths need not be in
 // their range.
-ghost use Rattle.std.specs.Prelude.{◌≡◌, cond, ◌+◌, ◌-◌, ◌*◌, ◌^◌, ◌<◌, max, min};
+ghost use Rattle.std.specs.Prelude.{◌≡◌, cond, ◌+◌, ◌-◌, ◌*◌, ◌^◌, ◌<◌, min};
 ghost use Rattle.guarantees.specs.Figure as figure;
 
 use table::Columns;
-
-// The larger of two.
-fn larger(a: u64, b: u64) -> u64
-    ensures { result ≡ max a b }
-{
-    if a < b {
-        return b;
-    }
-    a
-}
 
 // A length of a task that is there, else 0.
 fn counted(there: bool, length: u32) -> u64
     ensures { (result ≡ cond there length 0) × (result < 2 ^ 32) }
 {
-    if there { length as u64 } else { 0 }
+    if there { u64::from(length) } else { 0 }
 }
 
 // M: the larger of the greatest L + C and the sum of the greatest L and the greatest U, over the tasks that there are.
@@ -29,18 +19,16 @@ pub fn longest_interval(columns: &Columns, present: u32) -> u64
     let mut copyin: u64 = 0;
     let mut copyout: u64 = 0;
     let mut work: u64 = 0;
-    let mut k: u8 = 0;
-    while k < 32 {
+    for k in 0..32 {
         let there = sets::contains(present, k);
         let l = counted(there, table::copyin_length(columns, k));
         let c = counted(there, table::execution_length(columns, k));
         let u = counted(there, table::copyout_length(columns, k));
-        copyin = larger(copyin, l);
-        copyout = larger(copyout, u);
-        work = larger(work, l + c);
-        k += 1;
+        copyin = copyin.max(l);
+        copyout = copyout.max(u);
+        work = work.max(l + c);
     }
-    larger(work, copyin + copyout)
+    work.max(copyin + copyout)
 }
 
 // How many intervals a job has at most, where h others that are not lower go before it.
@@ -48,22 +36,16 @@ fn intervals_by(marked: bool, h: u32) -> u64
     ensures { result ≡ figure.intervals_by marked h }
 {
     if marked {
-        return h as u64 + 2;
+        return u64::from(h) + 2;
     }
-    h as u64 + 3
+    u64::from(h) + 3
 }
 
 // So many intervals and a copy-out, held at the last number of 64 bits.
 fn held(count: u64, longest: u64, length: u64) -> u64
     ensures { result ≡ min (count * longest + length) (2 ^ 64 - 1) }
 {
-    if longest == 0 {
-        return length;
-    }
-    if (u64::MAX - length) / longest < count {
-        return u64::MAX;
-    }
-    count * longest + length
+    count.saturating_mul(longest).saturating_add(length)
 }
 
 // How many ticks after its taking a job of task n completes at the latest, where h others that are not lower go before it.
@@ -72,5 +54,5 @@ pub fn completes_after(columns: &Columns, present: u32, n: u8, marked: bool, h: 
 {
     let longest = longest_interval(columns, present);
     let length = table::copyout_length(columns, n);
-    held(intervals_by(marked, h), longest, length as u64)
+    held(intervals_by(marked, h), longest, u64::from(length))
 }

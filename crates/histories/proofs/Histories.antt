@@ -5,9 +5,8 @@ use mathlib.Core.Bool.{Bool, true, false, cond, ◌&&◌, true≢false, false≢
 use mathlib.Core.List.{List, [], ◌∷◌, ◌++◌}
 use Rattle.table.specs.declared.Table.{Table}
 use Rattle.entries.specs.declared.JobEntry.{JobEntry}
-use Rattle.entries.specs.declared.MaybeTask.TheVariants.{NoTask, Task}
-use Rattle.rules.specs.declared.Due.TheVariants.{Never, Tick}
-use Rattle.table.specs.declared.Refusal.TheVariants.{NoRefusal}
+use Rattle.std.specs.Prelude.{Option, None, Some}
+use Rattle.std.proofs.Common.{Ok}
 use mathlib.Core.List.{append-nil}
 use mathlib.Core.Logic.{◌⊎◌, inl, ⊎_elim}
 use native.Mathlib.Omega.{arith}
@@ -21,7 +20,7 @@ use Rattle.rules.specs.Instant
 use Rattle.rules.specs.Calls
 use Rattle.guarantees.specs.Types.{Copying}
 use Rattle.rules.specs.Instant.{due, copyin_task}
-use Rattle.rules.specs.Calls.{opening}
+use Rattle.rules.specs.Calls.{opening, state_opened}
 use Rattle.guarantees.specs.History
 use Rattle.rules.specs.declared.Call.{Call}
 use Rattle.guarantees.specs.History.{Event, Takes, Completes, history, after_calls, EmptySets}
@@ -54,8 +53,8 @@ computed = tt
 
 -- the bytes are those of a table
 record Opens (bytes : List ℕ) (table : Table) : Type 0 where
-  served : (opening bytes).refusal ≡ NoRefusal
-  read : (opening bytes).state.table ≡ table
+  served : opening bytes ≡ Ok (state_opened (opening bytes))
+  read : (state_opened (opening bytes)).table ≡ table
 
 opens : Opens tasks plans_table
 unfolding computed
@@ -67,8 +66,8 @@ opens_spaced = (record { served = refl; read = refl }, record { served = refl; r
 
 -- the history that some calls make, where they leave nothing due
 record MakesOf (bytes : List ℕ) (calls : List Call) (h : List Event) : Type 0 where
-  made : history (opening bytes).state calls ≡ h
-  at_rest : due (after_calls (opening bytes).state calls).phase ≡ Never
+  made : history (state_opened (opening bytes)) calls ≡ h
+  at_rest : due (after_calls (state_opened (opening bytes)) calls).phase ≡ None
 
 abbrev Makes : List Call → List Event → Type 0
 Makes = MakesOf tasks
@@ -100,13 +99,13 @@ plans_made = (
 accepts_of : (bytes : List ℕ) (table : Table) → Opens bytes table → (calls : List Call) (h : List Event) → MakesOf bytes calls h → AcceptsOf bytes table calls h
 unfolding Demand3 EmptySets
 accepts_of bytes table o calls h m =
-    let claim : Claim (opening bytes).state calls = demand_3 bytes o.served calls in
+    let claim : Claim (state_opened (opening bytes)) calls = demand_3 bytes (state_opened (opening bytes)) o.served calls in
     record {
       made = m.made;
-      holds = subst (λ (t : Table). Holds t h) o.read (subst (λ (x : List Event). Holds (opening bytes).state.table x) m.made claim.of_the_list);
+      holds = subst (λ (t : Table). Holds t h) o.read (subst (λ (x : List Event). Holds (state_opened (opening bytes)).table x) m.made claim.of_the_list);
       completed =
           subst AllCompleted m.made
-          (subst (λ (x : List Call). AllCompleted (history (opening bytes).state x)) (append-nil calls) (claim.complete_every_job [] m.at_rest));
+          (subst (λ (x : List Call). AllCompleted (history (state_opened (opening bytes)) x)) (append-nil calls) (claim.complete_every_job [] m.at_rest));
     }
 
 accepts : (calls : List Call) (h : List Event) → Makes calls h → Accepts calls h
@@ -127,16 +126,16 @@ plans_accepted = (
 
 -- ---- the wrong histories, each with the line that it goes against
 
-no_task : (n : ℕ) → NoTask ≡ Task n → ⊥
+no_task : (n : ℕ) → None ≡ Some n → ⊥
 no_task n e = let z : ◌≡◌ {A = ℕ} 0 1 = cc in omega arith
 
-not_never : (t : ℕ) → Never ≡ Tick t → ⊥
+not_never : (t : ℕ) → None ≡ Some t → ⊥
 not_never t e = let z : ◌≡◌ {A = ℕ} 0 1 = cc in omega arith
 
-never_is : (t : ℕ) → Tick t ≡ Never → ⊥
+never_is : (t : ℕ) → Some t ≡ None → ⊥
 never_is t e = let z : ◌≡◌ {A = ℕ} 0 1 = cc in omega arith
 
-other_tick : (t u : ℕ) → (t ≡ u → ⊥) → Tick t ≡ Tick u → ⊥
+other_tick : (t u : ℕ) → (t ≡ u → ⊥) → Some t ≡ Some u → ⊥
 other_tick t u h e = h cc
 
 refuses_second_lower : Refuses second_lower
@@ -148,15 +147,15 @@ unfolding second_finished after each upto plans_table three
 refuses_second_finished h =
     (h.each_job (take 11 second_finished) (drop 12 second_finished) 1 4 true refl).marked_in_one refl 1 (omega arith) (omega arith) (omega arith)
 
-other_task : (t u : ℕ) → (t ≡ u → ⊥) → Task t ≡ Task u → ⊥
+other_task : (t u : ℕ) → (t ≡ u → ⊥) → Some t ≡ Some u → ⊥
 other_task t u h e = h cc
 
-task_none : (n : ℕ) → Task n ≡ NoTask → ⊥
+task_none : (n : ℕ) → Some n ≡ None → ⊥
 task_none n e = let z : ◌≡◌ {A = ℕ} 0 1 = cc in omega arith
 
 refuses_thrown_out_runs : Refuses thrown_out_runs
 unfolding thrown_out_runs after plans_table three Sets.member Sets.below Sets.collect Sets.insert Order.better Order.highest_below Order.highest
-refuses_thrown_out_runs h = task_none 2 (h.each_interval.each_begin (take 23 thrown_out_runs) (drop 24 thrown_out_runs) 12 (Task 2) (Task 1) refl).1
+refuses_thrown_out_runs h = task_none 2 (h.each_interval.each_begin (take 23 thrown_out_runs) (drop 24 thrown_out_runs) 12 (Some 2) (Some 1) refl).1
 
 refuses_third_idle : Refuses third_idle
 unfolding third_idle after each upto plans_table three
@@ -168,7 +167,7 @@ refuses_third_lower h = (h.each_job (take 1 third_lower) (drop 2 third_lower) 2 
 
 refuses_copyout_late : Refuses copyout_late
 unfolding copyout_late first plans_table three
-refuses_copyout_late h = no_task 1 ((h.each_executed (take 7 copyout_late) (drop 8 copyout_late) 1 1 NoTask refl).copyout_begins 6 refl).1
+refuses_copyout_late h = no_task 1 ((h.each_executed (take 7 copyout_late) (drop 8 copyout_late) 1 1 None refl).copyout_begins 6 refl).1
 
 refuses_four_intervals : Refuses four_intervals
 unfolding four_intervals total
@@ -177,21 +176,21 @@ refuses_four_intervals h = let l : 4 ≤ 3 = h.at_most_three in omega arith
 refuses_copyout_not_at_once : Refuses copyout_not_at_once
 unfolding copyout_not_at_once first plans_table three
 refuses_copyout_not_at_once h =
-    other_tick 6 5 (λ e. omega arith) ((h.each_executed (take 6 copyout_not_at_once) (drop 7 copyout_not_at_once) 1 2 NoTask refl).copyout_begins 5 refl).0
+    other_tick 6 5 (λ e. omega arith) ((h.each_executed (take 6 copyout_not_at_once) (drop 7 copyout_not_at_once) 1 2 None refl).copyout_begins 5 refl).0
 
 refuses_completion_late : Refuses completion_late
 unfolding completion_late first after plans_table three
 refuses_completion_late h =
-    other_tick 7 6 (λ e. omega arith) ((h.each_executed (take 6 completion_late) (drop 7 completion_late) 1 2 NoTask refl).copyout_ends 5 refl)
+    other_tick 7 6 (λ e. omega arith) ((h.each_executed (take 6 completion_late) (drop 7 completion_late) 1 2 None refl).copyout_ends 5 refl)
 
 refuses_completion_missing : Refuses completion_missing
 unfolding completion_missing first after plans_table three
-refuses_completion_missing h = not_never 6 ((h.each_executed (take 6 completion_missing) (drop 7 completion_missing) 1 2 NoTask refl).copyout_ends 5 refl)
+refuses_completion_missing h = not_never 6 ((h.each_executed (take 6 completion_missing) (drop 7 completion_missing) 1 2 None refl).copyout_ends 5 refl)
 
 refuses_completion_unexecuted : Refuses completion_unexecuted
 unfolding completion_unexecuted after plans_table three
 refuses_completion_unexecuted h =
-    let x : (b : ℕ) × (Tick 0 ≡ Tick b) × (Never ≡ Never) × (NoTask ≡ Task 1) × (1 ≡ b + 1) = h.each_completion (take 4 completion_unexecuted) (drop 5 completion_unexecuted) 1 1 refl in
+    let x : (b : ℕ) × (Some 0 ≡ Some b) × (None ≡ None) × (None ≡ Some 1) × (1 ≡ b + 1) = h.each_completion (take 4 completion_unexecuted) (drop 5 completion_unexecuted) 1 1 refl in
     no_task 1 x.3
 
 refuses_begins_late : Refuses begins_late
@@ -200,46 +199,46 @@ refuses_begins_late h = other_tick 50 0 (λ e. omega arith) (h.each_taking (take
 
 refuses_no_ticks : Refuses no_ticks
 unfolding no_ticks first after plans_table three
-refuses_no_ticks h = never_is 2 ((h.each_execution (take 6 no_ticks) (drop 7 no_ticks) 1 2 NoTask refl).execution_ends 2 refl)
+refuses_no_ticks h = never_is 2 ((h.each_execution (take 6 no_ticks) (drop 7 no_ticks) 1 2 None refl).execution_ends 2 refl)
 
 refuses_not_executed : Refuses not_executed
 unfolding not_executed first after plans_table three
-refuses_not_executed h = not_never 2 ((h.each_execution (take 6 not_executed) (drop 7 not_executed) 1 2 NoTask refl).loaded_starts refl)
+refuses_not_executed h = not_never 2 ((h.each_execution (take 6 not_executed) (drop 7 not_executed) 1 2 None refl).loaded_starts refl)
 
 refuses_loaded_late : Refuses loaded_late
 unfolding loaded_late first after plans_table three
-refuses_loaded_late h = other_tick 3 2 (λ e. omega arith) ((h.each_execution (take 6 loaded_late) (drop 7 loaded_late) 1 2 NoTask refl).loaded_starts refl)
+refuses_loaded_late h = other_tick 3 2 (λ e. omega arith) ((h.each_execution (take 6 loaded_late) (drop 7 loaded_late) 1 2 None refl).loaded_starts refl)
 
 refuses_promoted_early : Refuses promoted_early
 unfolding promoted_early first after plans_table three
 refuses_promoted_early h =
-    other_tick 1 3 (λ e. omega arith) ((h.each_execution (take 7 promoted_early) (drop 8 promoted_early) 1 1 NoTask refl).promoted_starts refl)
+    other_tick 1 3 (λ e. omega arith) ((h.each_execution (take 7 promoted_early) (drop 8 promoted_early) 1 1 None refl).promoted_starts refl)
 
 refuses_execution_long : Refuses execution_long
 unfolding execution_long first after plans_table three
 refuses_execution_long h =
-    other_tick 6 5 (λ e. omega arith) ((h.each_execution (take 6 execution_long) (drop 7 execution_long) 1 2 NoTask refl).execution_ends 2 refl)
+    other_tick 6 5 (λ e. omega arith) ((h.each_execution (take 6 execution_long) (drop 7 execution_long) 1 2 None refl).execution_ends 2 refl)
 
 refuses_promoted_unmarked : Refuses promoted_unmarked
 unfolding promoted_unmarked after plans_table three Sets.member Sets.below Sets.collect Sets.insert Order.better Order.highest_below Order.highest
-refuses_promoted_unmarked h = task_none 2 (h.each_interval.each_begin (take 13 promoted_unmarked) (drop 14 promoted_unmarked) 5 (Task 2) (Task 1) refl).1
+refuses_promoted_unmarked h = task_none 2 (h.each_interval.each_begin (take 13 promoted_unmarked) (drop 14 promoted_unmarked) 5 (Some 2) (Some 1) refl).1
 
 refuses_nobody_promoted : Refuses nobody_promoted
 unfolding nobody_promoted after plans_table three Sets.member Sets.below Sets.collect Sets.insert Order.better Order.highest_below Order.highest
-refuses_nobody_promoted h = no_task 1 (h.each_interval.each_begin (take 7 nobody_promoted) (drop 8 nobody_promoted) 1 NoTask NoTask refl).1
+refuses_nobody_promoted h = no_task 1 (h.each_interval.each_begin (take 7 nobody_promoted) (drop 8 nobody_promoted) 1 None None refl).1
 
 refuses_promoted_late : Refuses promoted_late
 unfolding promoted_late after plans_table three Sets.member Sets.below Sets.collect Sets.insert Order.better Order.highest_below Order.highest
-refuses_promoted_late h = task_none 2 (h.each_interval.each_begin (take 13 promoted_late) (drop 14 promoted_late) 5 (Task 2) (Task 1) refl).1
+refuses_promoted_late h = task_none 2 (h.each_interval.each_begin (take 13 promoted_late) (drop 14 promoted_late) 5 (Some 2) (Some 1) refl).1
 
 refuses_promoted_beside_the_loaded : Refuses promoted_beside_the_loaded
 unfolding promoted_beside_the_loaded after plans_table three Sets.member Sets.below Sets.collect Sets.insert Order.better Order.highest_below Order.highest
 refuses_promoted_beside_the_loaded h =
-    other_task 2 1 (λ e. omega arith) (h.each_interval.each_begin (take 7 promoted_beside_the_loaded) (drop 8 promoted_beside_the_loaded) 2 (Task 2) NoTask refl).1
+    other_task 2 1 (λ e. omega arith) (h.each_interval.each_begin (take 7 promoted_beside_the_loaded) (drop 8 promoted_beside_the_loaded) 2 (Some 2) None refl).1
 
 refuses_begins_twice : Refuses begins_twice
 unfolding begins_twice after
-refuses_begins_twice h = true≢false (h.each_interval.each_begin (take 3 begins_twice) (drop 4 begins_twice) 0 NoTask NoTask refl).0
+refuses_begins_twice h = true≢false (h.each_interval.each_begin (take 3 begins_twice) (drop 4 begins_twice) 0 None None refl).0
 
 refuses_ends_twice : Refuses ends_twice
 unfolding ends_twice after
@@ -277,11 +276,11 @@ refuses_completed_twice h = let e : ◌≡◌ {A = ℕ} 1 3 = (h.each_task 1).at
 
 refuses_runs_unreleased : Refuses runs_unreleased
 unfolding runs_unreleased after
-refuses_runs_unreleased h = let e : ◌≡◌ {A = ℕ} 0 1 = (h.each_task 1).at_execution (take 6 runs_unreleased) (drop 7 runs_unreleased) 2 NoTask refl in omega arith
+refuses_runs_unreleased h = let e : ◌≡◌ {A = ℕ} 0 1 = (h.each_task 1).at_execution (take 6 runs_unreleased) (drop 7 runs_unreleased) 2 None refl in omega arith
 
 refuses_executed_again : Refuses executed_again
 unfolding executed_again after
-refuses_executed_again h = let e : ◌≡◌ {A = ℕ} 2 1 = (h.each_task 1).at_execution (take 13 executed_again) (drop 14 executed_again) 5 (Task 1) refl in omega arith
+refuses_executed_again h = let e : ◌≡◌ {A = ℕ} 2 1 = (h.each_task 1).at_execution (take 13 executed_again) (drop 14 executed_again) 5 (Some 1) refl in omega arith
 
 refuses_another_tick : Refuses another_tick
 unfolding another_tick after
@@ -302,14 +301,14 @@ refuses_starts_twice h = never_is 2 (h.each_start (take 9 starts_twice) (drop 10
 refuses_stops_unstarted : Refuses stops_unstarted
 unfolding stops_unstarted after plans_table three
 refuses_stops_unstarted h =
-    let x : (s : ℕ) × (Task 1 ≡ Task 1) × (Never ≡ Never) × (Never ≡ Tick s) × (Never ≡ Never) × (2 ≡ s + 3) =
+    let x : (s : ℕ) × (Some 1 ≡ Some 1) × (None ≡ None) × (None ≡ Some s) × (None ≡ None) × (2 ≡ s + 3) =
     h.each_stop (take 9 stops_unstarted) (drop 10 stops_unstarted) 1 2 refl in
     not_never x.0 x.3
 
 refuses_cut_short : Refuses cut_short
 unfolding cut_short after plans_table three
 refuses_cut_short h =
-    let x : (s : ℕ) × (Never ≡ Tick s) = h.each_end (take 9 cut_short) (drop 10 cut_short) 1 4 refl refl in not_never x.0 x.1
+    let x : (s : ℕ) × (None ≡ Some s) = h.each_end (take 9 cut_short) (drop 10 cut_short) 1 4 refl refl in not_never x.0 x.1
 
 refuses_one_waits : Refuses one_waits
 unfolding one_waits total
@@ -320,19 +319,19 @@ unfolding third_idle first
 refuses_incomplete h = let x : Completed 2 (drop 2 third_idle) = h.each (take 1 third_idle) (drop 2 third_idle) 2 0 false refl in not_never x.done x.completes
 
 -- a release that waits is taken, at the next completion of a job of its task
-taking_there : (n : ℕ) (between : List Event) (later : List Event) (tick : ℕ) (m : Bool) → taking n between ≡ Never → taking n (between ++ (Takes n tick m ∷ later)) ≡ Tick tick
+taking_there : (n : ℕ) (between : List Event) (later : List Event) (tick : ℕ) (m : Bool) → taking n between ≡ None → taking n (between ++ (Takes n tick m ∷ later)) ≡ Some tick
 unfolding first
-taking_there n [] later tick m h = ap (λ (b : Bool). cond b (Tick tick) (taking n later)) (same_task n)
+taking_there n [] later tick m h = ap (λ (b : Bool). cond b (Some tick) (taking n later)) (same_task n)
 taking_there n (e ∷ between) later tick m h =
     by-test (takes e && is_task n (details e).task) (λ x. absurd (never_is (details e).tick (rw x at h))) (λ x. rw x (taking_there n between later tick m (rw x at h)))
 
-completes_in : (n : ℕ) (between later : List Event) (c : ℕ) → completion n between ≡ Tick c → completion n (between ++ later) ≡ Tick c
+completes_in : (n : ℕ) (between later : List Event) (c : ℕ) → completion n between ≡ Some c → completion n (between ++ later) ≡ Some c
 unfolding first
 completes_in n [] later c h = absurd (not_never c h)
 completes_in n (e ∷ between) later c h =
     by-test (completes e && is_task n (details e).task) (λ x. rw x (rw x at h)) (λ x. rw x (completes_in n between later c (rw x at h)))
 
-then_taken : (n : ℕ) (after : List Event) (x : TakenLater n after) → (taking n after ≡ Tick x.tick) × (completion n after ≡ Tick x.tick)
+then_taken : (n : ℕ) (after : List Event) (x : TakenLater n after) → (taking n after ≡ Some x.tick) × (completion n after ≡ Some x.tick)
 then_taken n after x = (
   ap (taking n) x.is_taken ∙ taking_there n x.between x.later x.tick x.marked x.next_taken,
   ap (completion n) x.is_taken ∙ completes_in n x.between (Takes n x.tick x.marked ∷ x.later) x.tick x.at_completion,
@@ -342,14 +341,14 @@ refuses_never_taken : AllCompleted never_taken → ⊥
 unfolding never_taken first
 refuses_never_taken h =
     let x : TakenLater 1 (drop 12 never_taken) = h.each_deferred (take 11 never_taken) (drop 12 never_taken) 1 5 refl in
-    let e : Never ≡ Tick x.tick = (then_taken 1 (drop 12 never_taken) x).0 in not_never x.tick e
+    let e : None ≡ Some x.tick = (then_taken 1 (drop 12 never_taken) x).0 in not_never x.tick e
 
 refuses_late_taking : AllCompleted taken_late → ⊥
 unfolding taken_late first
 refuses_late_taking h =
     let x : TakenLater 1 (drop 15 taken_late) = h.each_deferred (take 14 taken_late) (drop 15 taken_late) 1 5 refl in
-    let e : Tick 19 ≡ Tick x.tick = (then_taken 1 (drop 15 taken_late) x).0 in
-    let f : Tick 6 ≡ Tick x.tick = (then_taken 1 (drop 15 taken_late) x).1 in
+    let e : Some 19 ≡ Some x.tick = (then_taken 1 (drop 15 taken_late) x).0 in
+    let f : Some 6 ≡ Some x.tick = (then_taken 1 (drop 15 taken_late) x).1 in
     other_tick 6 19 (λ e. omega arith) (f ∙ sym e)
 
 refuses_waited_unexecuted : AllCompleted waited_unexecuted → ⊥
@@ -378,7 +377,7 @@ refuses_ends_late h =
 refuses_stays_open : Refuses stays_open
 unfolding stays_open after
 refuses_stays_open h =
-    let x : 13 ≤ 5 + longest_interval plans_table.present plans_table.columns = h.figure.each_instant (take 14 stays_open) [] 5 13 NoTask refl refl refl in
+    let x : 13 ≤ 5 + longest_interval plans_table.present plans_table.columns = h.figure.each_instant (take 14 stays_open) [] 5 13 None refl refl refl in
     omega (arith, x, longest_is)
 
 refuses_ends_a_tick_late : Refuses ends_a_tick_late
@@ -408,7 +407,7 @@ refuses_nobody_chosen h = false≢true (h.each_copyin.each_end (take 11 nobody_c
 refuses_copyin_short : Refuses copyin_short
 unfolding copyin_short after plans_table three Sets.member Sets.below Sets.collect Sets.insert Sets.remove Order.better Order.highest_below Order.highest
 refuses_copyin_short h =
-    let x : (u : ℕ) × (Copying 1 2 ≡ Copying 1 u) × (Tick 1 ≡ Tick u) = h.each_copyin.each_finish (take 4 copyin_short) (drop 5 copyin_short) 1 refl in
+    let x : (u : ℕ) × (Copying 1 2 ≡ Copying 1 u) × (Some 1 ≡ Some u) = h.each_copyin.each_finish (take 4 copyin_short) (drop 5 copyin_short) 1 refl in
     let u : 2 ≡ x.0 = let z : Copying 1 2 ≡ Copying 1 x.0 = x.1 in cc in
     other_tick 1 x.0 (λ e. omega arith) x.2
 
@@ -584,7 +583,7 @@ refuses_lasts_long h = let l : 8 ≤ 7 = h.each_end (take 5 lasts_long) (drop 6 
 
 refuses_open_long : FigureRefuses open_long
 unfolding open_long after longest_interval greatest Sets.member plans_table three
-refuses_open_long h = let l : 8 ≤ 7 = h.each_instant (take 3 open_long) (drop 4 open_long) 0 8 NoTask refl refl refl in omega arith
+refuses_open_long h = let l : 8 ≤ 7 = h.each_instant (take 3 open_long) (drop 4 open_long) 0 8 None refl refl refl in omega arith
 
 refuses_completes_behind_two : FigureRefuses completes_behind_two
 unfolding completes_behind_two after first each upto until not_lower_in longest_interval greatest Sets.member plans_table three
@@ -631,9 +630,9 @@ figure_tells = (
 -- an entry that tells the truth, by the place among the events of the taking of its job, which is marked
 tells : (es : List Event) (k taken : ℕ) (e : JobEntry)
     → es ≡ take k es ++ (Takes e.task taken true ∷ drop (k + 1) es)
-    → taking e.task (drop (k + 1) es) ≡ Never
-    → e.release ≡ original (waiting e.task Never (take k es)) taken
-    → start e.task (drop (k + 1) es) ≡ Tick e.start
+    → taking e.task (drop (k + 1) es) ≡ None
+    → e.release ≡ original (waiting e.task None (take k es)) taken
+    → start e.task (drop (k + 1) es) ≡ Some e.start
     → e.blocked ≡ lower_in plans_table.priority e.task (waited e.task (situation NoneOpen (take k es)) (intervals (drop (k + 1) es)))
     → Tells es e.completion e
 tells es k taken e taking_is last_taken release start_is blocked = record {
@@ -654,22 +653,22 @@ walked : (es : List Event) (t r s c b : ℕ) (h : Tells es t (job_1 r s c b))
     → Found 1 r (situation NoneOpen h.before) h.after (tally 1 nothing es)
 walked es t r s c b h =
     subst (λ (u : ℕ). Found 1 u (situation NoneOpen h.before) h.after (tally 1 nothing es)) (sym h.release)
-    (subst (Found 1 (original (waiting 1 Never h.before) h.taken) (situation NoneOpen h.before) h.after)
+    (subst (Found 1 (original (waiting 1 None h.before) h.taken) (situation NoneOpen h.before) h.after)
     (ap (tally 1 nothing) (sym h.taking_is))
     (found 1 h.before h.after h.taken h.marked h.last_taken))
 
 -- the numbers of an entry that tells the truth
 module _ (es : List Event) (t r s c b : ℕ) (h : Tells es t (job_1 r s c b)) where
-  its_release : (tally 1 nothing es).release ≡ Tick r
+  its_release : (tally 1 nothing es).release ≡ Some r
   its_release = (walked es t r s c b h).release
 
-  its_start : (tally 1 nothing es).started ≡ Tick s
+  its_start : (tally 1 nothing es).started ≡ Some s
   its_start = (walked es t r s c b h).started ∙ h.execution_start
 
   its_count : b ≡ lower_in plans_table.priority 1 (tally 1 nothing es).waits
   its_count = h.blocked ∙ ap (lower_in plans_table.priority 1) (sym (walked es t r s c b h).waits)
 
-job_found : ((tally 1 nothing before_13).release ≡ Tick 4) × ((tally 1 nothing before_13).started ≡ Tick 9) × (lower_in plans_table.priority 1 (tally 1 nothing before_13).waits ≡ 1)
+job_found : ((tally 1 nothing before_13).release ≡ Some 4) × ((tally 1 nothing before_13).started ≡ Some 9) × (lower_in plans_table.priority 1 (tally 1 nothing before_13).waits ≡ 1)
 unfolding tally lower_in before_13 history_b plans_table three
 job_found = (refl, refl, refl)
 
@@ -684,7 +683,7 @@ one_entry = (
   λ h. let e : ◌≡◌ {A = ℕ} 2 1 = its_count before_13 13 4 9 13 2 h ∙ job_found.2 in omega arith,
 )
 
-waited_found : ((tally 1 nothing before_17).release ≡ Tick 3) × (lower_in plans_table.priority 1 (tally 1 nothing before_17).waits ≡ 0)
+waited_found : ((tally 1 nothing before_17).release ≡ Some 3) × (lower_in plans_table.priority 1 (tally 1 nothing before_17).waits ≡ 0)
 unfolding tally lower_in before_17 history_waiting plans_table three
 waited_found = (refl, refl)
 
@@ -699,7 +698,7 @@ waited_entry = (
 
 -- ---- the releases
 
-handed : (handed_in 1 (opening tasks).state calls_one ≡ 1) × (handed_in 2 (opening tasks).state calls_one ≡ 0)
+handed : (handed_in 1 (state_opened (opening tasks)) calls_one ≡ 1) × (handed_in 2 (state_opened (opening tasks)) calls_one ≡ 0)
 unfolding computed handed_in calls_one
 handed = (refl, refl)
 
@@ -726,7 +725,7 @@ releases_refused = (
 -- ---- the spacings
 
 -- a release at t that is late enough after the last one, at u, is no sooner
-late_enough : (t gap u v : ℕ) → u + gap ≤ t → Tick u ≡ Tick v → t < v + gap → ⊥
+late_enough : (t gap u v : ℕ) → u + gap ≤ t → Some u ≡ Some v → t < v + gap → ⊥
 late_enough t gap u v h e l = let z : u ≡ v = cc in omega arith
 
 pub spacings_accepted : SpacingsAccepted

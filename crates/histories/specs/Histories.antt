@@ -1,18 +1,15 @@
 -- That the claim says something: it accepts the histories of document 01's plans A to F' and of one with a release that waits, and refuses
 -- histories that are wrong in one point each. All are of the plans' tasks: 1 has the highest priority and is
 -- marked, then come 2 and 3, which are not.
-use Rattle.std.specs.Prelude.{◌≡◌, Bool, true, false, List, [], ◌∷◌, ◌++◌, ℕ, length, replicate, take, drop}
+use Rattle.std.specs.Prelude.{◌≡◌, Bool, true, false, List, [], ◌∷◌, ◌++◌, ℕ, length, replicate, take, drop, Option, None, Some}
 use Rattle.table.specs.declared.Table.{Table}
-use Rattle.entries.specs.declared.MaybeTask.{MaybeTask}
-use Rattle.entries.specs.declared.MaybeTask.TheVariants.{NoTask, Task}
 use Rattle.sets.specs.Sets.{member}
-use Rattle.rules.specs.Calls.{opening}
+use Rattle.rules.specs.Calls.{opening, state_opened}
 use Rattle.rules.specs.declared.Call.{Call}
 use Rattle.rules.specs.declared.Call.TheVariants.{Instant, Mark}
 use Rattle.guarantees.specs.History.{Event, Comes, Starts, Stops, Finishes, Completes, Ends, Takes, Defers, GivesWay, Begins, history}
 use Rattle.entries.specs.declared.JobEntry.{JobEntry}
 use Rattle.entries.specs.declared.IntervalEntry.{IntervalEntry}
-use Rattle.rules.specs.declared.Due.TheVariants.{Never, Tick}
 use Rattle.guarantees.specs.Queries.{situation, NoneOpen, intervals, met, last_released}
 use Rattle.guarantees.specs.Figure.{overtaking}
 use Rattle.guarantees.specs.Releases.{Balance, Placed}
@@ -57,18 +54,18 @@ calls_a =
 -- what occurs from 7 on, in this plan and the next
 abbrev pub from_7 : List Event
 from_7 =
-    Comes 7 ∷ Stops 3 7 ∷ Ends 7 ∷ Begins 7 (Task 1) (Task 3) ∷
+    Comes 7 ∷ Stops 3 7 ∷ Ends 7 ∷ Begins 7 (Some 1) (Some 3) ∷
     Comes 9 ∷ Starts 1 9 ∷ Completes 3 9 ∷
     Comes 11 ∷ Finishes 2 ∷
-    Comes 12 ∷ Stops 1 12 ∷ Ends 12 ∷ Begins 12 (Task 2) (Task 1) ∷ Starts 2 12 ∷
+    Comes 12 ∷ Stops 1 12 ∷ Ends 12 ∷ Begins 12 (Some 2) (Some 1) ∷ Starts 2 12 ∷
     Comes 13 ∷ Completes 1 13 ∷
-    Comes 16 ∷ Stops 2 16 ∷ Ends 16 ∷ Begins 16 NoTask (Task 2) ∷
+    Comes 16 ∷ Stops 2 16 ∷ Ends 16 ∷ Begins 16 None (Some 2) ∷
     Comes 17 ∷ Completes 2 17 ∷ Ends 17 ∷ []
 
 unfoldable pub history_a : List Event
 history_a =
-    Comes 0 ∷ Takes 3 0 false ∷ Begins 0 NoTask NoTask ∷
-    Comes 2 ∷ Finishes 3 ∷ Ends 2 ∷ Takes 2 2 false ∷ Begins 2 (Task 3) NoTask ∷ Starts 3 2 ∷
+    Comes 0 ∷ Takes 3 0 false ∷ Begins 0 None None ∷
+    Comes 2 ∷ Finishes 3 ∷ Ends 2 ∷ Takes 2 2 false ∷ Begins 2 (Some 3) None ∷ Starts 3 2 ∷
     Comes 3 ∷ Takes 1 3 true ∷ GivesWay 2 ∷
     from_7
 
@@ -79,8 +76,8 @@ calls_b =
 
 unfoldable pub history_b : List Event
 history_b =
-    Comes 0 ∷ Takes 3 0 false ∷ Begins 0 NoTask NoTask ∷
-    Comes 2 ∷ Finishes 3 ∷ Ends 2 ∷ Takes 2 2 false ∷ Begins 2 (Task 3) NoTask ∷ Starts 3 2 ∷
+    Comes 0 ∷ Takes 3 0 false ∷ Begins 0 None None ∷
+    Comes 2 ∷ Finishes 3 ∷ Ends 2 ∷ Takes 2 2 false ∷ Begins 2 (Some 3) None ∷ Starts 3 2 ∷
     Comes 4 ∷ Finishes 2 ∷ Takes 1 4 true ∷ GivesWay 2 ∷
     from_7
 
@@ -89,9 +86,9 @@ calls_c = Instant 0 2 ∷ Instant 2 0 ∷ Instant 5 0 ∷ Instant 6 0 ∷ []
 
 unfoldable pub history_c : List Event
 history_c =
-    Comes 0 ∷ Takes 1 0 true ∷ Begins 0 NoTask NoTask ∷
-    Comes 2 ∷ Finishes 1 ∷ Ends 2 ∷ Begins 2 (Task 1) NoTask ∷ Starts 1 2 ∷
-    Comes 5 ∷ Stops 1 5 ∷ Ends 5 ∷ Begins 5 NoTask (Task 1) ∷
+    Comes 0 ∷ Takes 1 0 true ∷ Begins 0 None None ∷
+    Comes 2 ∷ Finishes 1 ∷ Ends 2 ∷ Begins 2 (Some 1) None ∷ Starts 1 2 ∷
+    Comes 5 ∷ Stops 1 5 ∷ Ends 5 ∷ Begins 5 None (Some 1) ∷
     Comes 6 ∷ Completes 1 6 ∷ Ends 6 ∷ []
 
 unfoldable pub calls_d : List Call
@@ -99,12 +96,12 @@ calls_d = Instant 0 4 ∷ Instant 1 2 ∷ Instant 3 0 ∷ Instant 6 0 ∷ Instan
 
 unfoldable pub history_d : List Event
 history_d =
-    Comes 0 ∷ Takes 2 0 false ∷ Begins 0 NoTask NoTask ∷
-    Comes 1 ∷ Takes 1 1 true ∷ GivesWay 2 ∷ Ends 1 ∷ Begins 1 (Task 1) NoTask ∷
+    Comes 0 ∷ Takes 2 0 false ∷ Begins 0 None None ∷
+    Comes 1 ∷ Takes 1 1 true ∷ GivesWay 2 ∷ Ends 1 ∷ Begins 1 (Some 1) None ∷
     Comes 3 ∷ Starts 1 3 ∷ Finishes 2 ∷
-    Comes 6 ∷ Stops 1 6 ∷ Ends 6 ∷ Begins 6 (Task 2) (Task 1) ∷ Starts 2 6 ∷
+    Comes 6 ∷ Stops 1 6 ∷ Ends 6 ∷ Begins 6 (Some 2) (Some 1) ∷ Starts 2 6 ∷
     Comes 7 ∷ Completes 1 7 ∷
-    Comes 10 ∷ Stops 2 10 ∷ Ends 10 ∷ Begins 10 NoTask (Task 2) ∷
+    Comes 10 ∷ Stops 2 10 ∷ Ends 10 ∷ Begins 10 None (Some 2) ∷
     Comes 11 ∷ Completes 2 11 ∷ Ends 11 ∷ []
 
 unfoldable pub calls_e : List Call
@@ -112,12 +109,12 @@ calls_e = Instant 0 4 ∷ Instant 2 2 ∷ Instant 4 0 ∷ Instant 6 0 ∷ Instan
 
 unfoldable pub history_e : List Event
 history_e =
-    Comes 0 ∷ Takes 2 0 false ∷ Begins 0 NoTask NoTask ∷
-    Comes 2 ∷ Finishes 2 ∷ Ends 2 ∷ Takes 1 2 true ∷ Begins 2 (Task 2) NoTask ∷ Starts 2 2 ∷
+    Comes 0 ∷ Takes 2 0 false ∷ Begins 0 None None ∷
+    Comes 2 ∷ Finishes 2 ∷ Ends 2 ∷ Takes 1 2 true ∷ Begins 2 (Some 2) None ∷ Starts 2 2 ∷
     Comes 4 ∷ Finishes 1 ∷
-    Comes 6 ∷ Stops 2 6 ∷ Ends 6 ∷ Begins 6 (Task 1) (Task 2) ∷ Starts 1 6 ∷
+    Comes 6 ∷ Stops 2 6 ∷ Ends 6 ∷ Begins 6 (Some 1) (Some 2) ∷ Starts 1 6 ∷
     Comes 7 ∷ Completes 2 7 ∷
-    Comes 9 ∷ Stops 1 9 ∷ Ends 9 ∷ Begins 9 NoTask (Task 1) ∷
+    Comes 9 ∷ Stops 1 9 ∷ Ends 9 ∷ Begins 9 None (Some 1) ∷
     Comes 10 ∷ Completes 1 10 ∷ Ends 10 ∷ []
 
 unfoldable pub calls_f : List Call
@@ -126,12 +123,12 @@ calls_f = Instant 0 2 ∷ Instant 2 0 ∷ Instant 5 2 ∷ Instant 6 0 ∷ Instan
 -- 4/13: the release at 5 waits, and is taken at 6
 unfoldable pub history_f : List Event
 history_f =
-    Comes 0 ∷ Takes 1 0 true ∷ Begins 0 NoTask NoTask ∷
-    Comes 2 ∷ Finishes 1 ∷ Ends 2 ∷ Begins 2 (Task 1) NoTask ∷ Starts 1 2 ∷
-    Comes 5 ∷ Stops 1 5 ∷ Ends 5 ∷ Defers 1 5 ∷ Begins 5 NoTask (Task 1) ∷
+    Comes 0 ∷ Takes 1 0 true ∷ Begins 0 None None ∷
+    Comes 2 ∷ Finishes 1 ∷ Ends 2 ∷ Begins 2 (Some 1) None ∷ Starts 1 2 ∷
+    Comes 5 ∷ Stops 1 5 ∷ Ends 5 ∷ Defers 1 5 ∷ Begins 5 None (Some 1) ∷
     Comes 6 ∷ Completes 1 6 ∷ Takes 1 6 true ∷
-    Comes 8 ∷ Finishes 1 ∷ Ends 8 ∷ Begins 8 (Task 1) NoTask ∷ Starts 1 8 ∷
-    Comes 11 ∷ Stops 1 11 ∷ Ends 11 ∷ Begins 11 NoTask (Task 1) ∷
+    Comes 8 ∷ Finishes 1 ∷ Ends 8 ∷ Begins 8 (Some 1) None ∷ Starts 1 8 ∷
+    Comes 11 ∷ Stops 1 11 ∷ Ends 11 ∷ Begins 11 None (Some 1) ∷
     Comes 12 ∷ Completes 1 12 ∷ Ends 12 ∷ []
 
 unfoldable pub calls_f' : List Call
@@ -139,12 +136,12 @@ calls_f' = Instant 0 2 ∷ Instant 2 0 ∷ Instant 5 0 ∷ Instant 6 2 ∷ Insta
 
 unfoldable pub history_f' : List Event
 history_f' =
-    Comes 0 ∷ Takes 1 0 true ∷ Begins 0 NoTask NoTask ∷
-    Comes 2 ∷ Finishes 1 ∷ Ends 2 ∷ Begins 2 (Task 1) NoTask ∷ Starts 1 2 ∷
-    Comes 5 ∷ Stops 1 5 ∷ Ends 5 ∷ Begins 5 NoTask (Task 1) ∷
+    Comes 0 ∷ Takes 1 0 true ∷ Begins 0 None None ∷
+    Comes 2 ∷ Finishes 1 ∷ Ends 2 ∷ Begins 2 (Some 1) None ∷ Starts 1 2 ∷
+    Comes 5 ∷ Stops 1 5 ∷ Ends 5 ∷ Begins 5 None (Some 1) ∷
     Comes 6 ∷ Completes 1 6 ∷ Takes 1 6 true ∷
-    Comes 8 ∷ Finishes 1 ∷ Ends 8 ∷ Begins 8 (Task 1) NoTask ∷ Starts 1 8 ∷
-    Comes 11 ∷ Stops 1 11 ∷ Ends 11 ∷ Begins 11 NoTask (Task 1) ∷
+    Comes 8 ∷ Finishes 1 ∷ Ends 8 ∷ Begins 8 (Some 1) None ∷ Starts 1 8 ∷
+    Comes 11 ∷ Stops 1 11 ∷ Ends 11 ∷ Begins 11 None (Some 1) ∷
     Comes 12 ∷ Completes 1 12 ∷ Ends 12 ∷ []
 
 -- a release of 1 waits from 3 on, while job 3 executes, and is taken at 11, in an interval in which the processor idles
@@ -155,21 +152,21 @@ calls_waiting =
 
 unfoldable pub history_waiting : List Event
 history_waiting =
-    Comes 0 ∷ Takes 3 0 false ∷ Begins 0 NoTask NoTask ∷
-    Comes 2 ∷ Finishes 3 ∷ Ends 2 ∷ Takes 1 2 true ∷ Begins 2 (Task 3) NoTask ∷ Starts 3 2 ∷
+    Comes 0 ∷ Takes 3 0 false ∷ Begins 0 None None ∷
+    Comes 2 ∷ Finishes 3 ∷ Ends 2 ∷ Takes 1 2 true ∷ Begins 2 (Some 3) None ∷ Starts 3 2 ∷
     Comes 3 ∷ Defers 1 3 ∷
     Comes 4 ∷ Finishes 1 ∷
-    Comes 7 ∷ Stops 3 7 ∷ Ends 7 ∷ Begins 7 (Task 1) (Task 3) ∷ Starts 1 7 ∷
+    Comes 7 ∷ Stops 3 7 ∷ Ends 7 ∷ Begins 7 (Some 1) (Some 3) ∷ Starts 1 7 ∷
     Comes 9 ∷ Completes 3 9 ∷
-    Comes 10 ∷ Stops 1 10 ∷ Ends 10 ∷ Begins 10 NoTask (Task 1) ∷
+    Comes 10 ∷ Stops 1 10 ∷ Ends 10 ∷ Begins 10 None (Some 1) ∷
     Comes 11 ∷ Completes 1 11 ∷ Takes 1 11 true ∷
-    Comes 13 ∷ Finishes 1 ∷ Ends 13 ∷ Begins 13 (Task 1) NoTask ∷ Starts 1 13 ∷
-    Comes 16 ∷ Stops 1 16 ∷ Ends 16 ∷ Begins 16 NoTask (Task 1) ∷
+    Comes 13 ∷ Finishes 1 ∷ Ends 13 ∷ Begins 13 (Some 1) None ∷ Starts 1 13 ∷
+    Comes 16 ∷ Stops 1 16 ∷ Ends 16 ∷ Begins 16 None (Some 1) ∷
     Comes 17 ∷ Completes 1 17 ∷ Ends 17 ∷ []
 
 -- of the table that these bytes are, the calls make the history, and the claim holds of it
 pub record AcceptsOf (bytes : List ℕ) (table : Table) (calls : List Call) (h : List Event) : Type 0 where
-  pub made : history (opening bytes).state calls ≡ h
+  pub made : history (state_opened (opening bytes)) calls ≡ h
   pub holds : Holds table h
   pub completed : AllCompleted h
 
@@ -192,490 +189,490 @@ PlansAccepted =
 -- a marked job whose second interval runs a lower one: at 1 the copy-in of 3 is under way and is not cancelled
 unfoldable pub second_lower : List Event
 second_lower =
-    Comes 0 ∷ Takes 3 0 false ∷ Begins 0 NoTask NoTask ∷
+    Comes 0 ∷ Takes 3 0 false ∷ Begins 0 None None ∷
     Comes 1 ∷ Takes 1 1 true ∷
-    Comes 2 ∷ Finishes 3 ∷ Ends 2 ∷ Begins 2 (Task 3) NoTask ∷ Starts 3 2 ∷ []
+    Comes 2 ∷ Finishes 3 ∷ Ends 2 ∷ Begins 2 (Some 3) None ∷ Starts 3 2 ∷ []
 
 -- and one whose second runs a lower one that was finished when it came: plan B where the copy-in of 2 is not thrown out
 unfoldable pub second_finished : List Event
 second_finished =
-    Comes 0 ∷ Takes 3 0 false ∷ Begins 0 NoTask NoTask ∷
-    Comes 2 ∷ Finishes 3 ∷ Ends 2 ∷ Takes 2 2 false ∷ Begins 2 (Task 3) NoTask ∷ Starts 3 2 ∷
+    Comes 0 ∷ Takes 3 0 false ∷ Begins 0 None None ∷
+    Comes 2 ∷ Finishes 3 ∷ Ends 2 ∷ Takes 2 2 false ∷ Begins 2 (Some 3) None ∷ Starts 3 2 ∷
     Comes 4 ∷ Finishes 2 ∷ Takes 1 4 true ∷
-    Comes 7 ∷ Stops 3 7 ∷ Ends 7 ∷ Begins 7 (Task 2) (Task 3) ∷ Starts 2 7 ∷ []
+    Comes 7 ∷ Stops 3 7 ∷ Ends 7 ∷ Begins 7 (Some 2) (Some 3) ∷ Starts 2 7 ∷ []
 
 -- plan B with a job that was thrown out and executes without being copied in again
 unfoldable pub thrown_out_runs : List Event
 thrown_out_runs =
-    Comes 0 ∷ Takes 3 0 false ∷ Begins 0 NoTask NoTask ∷
-    Comes 2 ∷ Finishes 3 ∷ Ends 2 ∷ Takes 2 2 false ∷ Begins 2 (Task 3) NoTask ∷ Starts 3 2 ∷
+    Comes 0 ∷ Takes 3 0 false ∷ Begins 0 None None ∷
+    Comes 2 ∷ Finishes 3 ∷ Ends 2 ∷ Takes 2 2 false ∷ Begins 2 (Some 3) None ∷ Starts 3 2 ∷
     Comes 4 ∷ Finishes 2 ∷ Takes 1 4 true ∷ GivesWay 2 ∷
-    Comes 7 ∷ Stops 3 7 ∷ Ends 7 ∷ Begins 7 (Task 1) (Task 3) ∷
+    Comes 7 ∷ Stops 3 7 ∷ Ends 7 ∷ Begins 7 (Some 1) (Some 3) ∷
     Comes 9 ∷ Starts 1 9 ∷ Completes 3 9 ∷
-    Comes 12 ∷ Stops 1 12 ∷ Ends 12 ∷ Begins 12 (Task 2) (Task 1) ∷ Starts 2 12 ∷ []
+    Comes 12 ∷ Stops 1 12 ∷ Ends 12 ∷ Begins 12 (Some 2) (Some 1) ∷ Starts 2 12 ∷ []
 
 -- a third interval that is idle: plan D where the cancelled job 2 is not copied in again
 unfoldable pub third_idle : List Event
 third_idle =
-    Comes 0 ∷ Takes 2 0 false ∷ Begins 0 NoTask NoTask ∷
-    Comes 1 ∷ Takes 1 1 true ∷ GivesWay 2 ∷ Ends 1 ∷ Begins 1 (Task 1) NoTask ∷
+    Comes 0 ∷ Takes 2 0 false ∷ Begins 0 None None ∷
+    Comes 1 ∷ Takes 1 1 true ∷ GivesWay 2 ∷ Ends 1 ∷ Begins 1 (Some 1) None ∷
     Comes 3 ∷ Starts 1 3 ∷
-    Comes 6 ∷ Stops 1 6 ∷ Ends 6 ∷ Begins 6 NoTask (Task 1) ∷ []
+    Comes 6 ∷ Stops 1 6 ∷ Ends 6 ∷ Begins 6 None (Some 1) ∷ []
 
 -- a third interval with a lower job: plan D where job 3 comes too, and is copied in before job 2
 unfoldable pub third_lower : List Event
 third_lower =
-    Comes 0 ∷ Takes 2 0 false ∷ Begins 0 NoTask NoTask ∷
-    Comes 1 ∷ Takes 1 1 true ∷ Takes 3 1 false ∷ GivesWay 2 ∷ Ends 1 ∷ Begins 1 (Task 1) NoTask ∷
+    Comes 0 ∷ Takes 2 0 false ∷ Begins 0 None None ∷
+    Comes 1 ∷ Takes 1 1 true ∷ Takes 3 1 false ∷ GivesWay 2 ∷ Ends 1 ∷ Begins 1 (Some 1) None ∷
     Comes 3 ∷ Starts 1 3 ∷ Finishes 3 ∷
-    Comes 6 ∷ Stops 1 6 ∷ Ends 6 ∷ Begins 6 (Task 3) (Task 1) ∷ Starts 3 6 ∷ []
+    Comes 6 ∷ Stops 1 6 ∷ Ends 6 ∷ Begins 6 (Some 3) (Some 1) ∷ Starts 3 6 ∷ []
 
 -- a copy-out one interval late: plan D where each job is copied out in the second interval after its own
 unfoldable pub copyout_late : List Event
 copyout_late =
-    Comes 0 ∷ Takes 2 0 false ∷ Begins 0 NoTask NoTask ∷
-    Comes 1 ∷ Takes 1 1 true ∷ GivesWay 2 ∷ Ends 1 ∷ Begins 1 (Task 1) NoTask ∷
+    Comes 0 ∷ Takes 2 0 false ∷ Begins 0 None None ∷
+    Comes 1 ∷ Takes 1 1 true ∷ GivesWay 2 ∷ Ends 1 ∷ Begins 1 (Some 1) None ∷
     Comes 3 ∷ Starts 1 3 ∷ Finishes 2 ∷
-    Comes 6 ∷ Stops 1 6 ∷ Ends 6 ∷ Begins 6 (Task 2) NoTask ∷ Starts 2 6 ∷
-    Comes 10 ∷ Stops 2 10 ∷ Ends 10 ∷ Begins 10 NoTask (Task 1) ∷
-    Comes 11 ∷ Completes 1 11 ∷ Ends 11 ∷ Begins 11 NoTask (Task 2) ∷
+    Comes 6 ∷ Stops 1 6 ∷ Ends 6 ∷ Begins 6 (Some 2) None ∷ Starts 2 6 ∷
+    Comes 10 ∷ Stops 2 10 ∷ Ends 10 ∷ Begins 10 None (Some 1) ∷
+    Comes 11 ∷ Completes 1 11 ∷ Ends 11 ∷ Begins 11 None (Some 2) ∷
     Comes 12 ∷ Completes 2 12 ∷ Ends 12 ∷ []
 
 -- four intervals for one job: plan C with an interval of nothing after it
 unfoldable pub four_intervals : List Event
 four_intervals =
-    Comes 0 ∷ Takes 1 0 true ∷ Begins 0 NoTask NoTask ∷
-    Comes 2 ∷ Finishes 1 ∷ Ends 2 ∷ Begins 2 (Task 1) NoTask ∷ Starts 1 2 ∷
-    Comes 5 ∷ Stops 1 5 ∷ Ends 5 ∷ Begins 5 NoTask (Task 1) ∷
-    Comes 6 ∷ Completes 1 6 ∷ Ends 6 ∷ Begins 6 NoTask NoTask ∷ []
+    Comes 0 ∷ Takes 1 0 true ∷ Begins 0 None None ∷
+    Comes 2 ∷ Finishes 1 ∷ Ends 2 ∷ Begins 2 (Some 1) None ∷ Starts 1 2 ∷
+    Comes 5 ∷ Stops 1 5 ∷ Ends 5 ∷ Begins 5 None (Some 1) ∷
+    Comes 6 ∷ Completes 1 6 ∷ Ends 6 ∷ Begins 6 None None ∷ []
 
 -- the interval that copies out begins a tick after the execution's has ended
 unfoldable pub copyout_not_at_once : List Event
 copyout_not_at_once =
-    Comes 0 ∷ Takes 1 0 true ∷ Begins 0 NoTask NoTask ∷
-    Comes 2 ∷ Finishes 1 ∷ Ends 2 ∷ Begins 2 (Task 1) NoTask ∷ Starts 1 2 ∷
+    Comes 0 ∷ Takes 1 0 true ∷ Begins 0 None None ∷
+    Comes 2 ∷ Finishes 1 ∷ Ends 2 ∷ Begins 2 (Some 1) None ∷ Starts 1 2 ∷
     Comes 5 ∷ Stops 1 5 ∷ Ends 5 ∷
-    Comes 6 ∷ Begins 6 NoTask (Task 1) ∷
+    Comes 6 ∷ Begins 6 None (Some 1) ∷
     Comes 7 ∷ Completes 1 7 ∷ Ends 7 ∷ []
 
 -- the job completes a tick after its copy-out's end
 unfoldable pub completion_late : List Event
 completion_late =
-    Comes 0 ∷ Takes 1 0 true ∷ Begins 0 NoTask NoTask ∷
-    Comes 2 ∷ Finishes 1 ∷ Ends 2 ∷ Begins 2 (Task 1) NoTask ∷ Starts 1 2 ∷
-    Comes 5 ∷ Stops 1 5 ∷ Ends 5 ∷ Begins 5 NoTask (Task 1) ∷
+    Comes 0 ∷ Takes 1 0 true ∷ Begins 0 None None ∷
+    Comes 2 ∷ Finishes 1 ∷ Ends 2 ∷ Begins 2 (Some 1) None ∷ Starts 1 2 ∷
+    Comes 5 ∷ Stops 1 5 ∷ Ends 5 ∷ Begins 5 None (Some 1) ∷
     Comes 7 ∷ Completes 1 7 ∷ Ends 7 ∷ []
 
 -- the job has not completed though the list has reached the tick
 unfoldable pub completion_missing : List Event
 completion_missing =
-    Comes 0 ∷ Takes 1 0 true ∷ Begins 0 NoTask NoTask ∷
-    Comes 2 ∷ Finishes 1 ∷ Ends 2 ∷ Begins 2 (Task 1) NoTask ∷ Starts 1 2 ∷
-    Comes 5 ∷ Stops 1 5 ∷ Ends 5 ∷ Begins 5 NoTask (Task 1) ∷
+    Comes 0 ∷ Takes 1 0 true ∷ Begins 0 None None ∷
+    Comes 2 ∷ Finishes 1 ∷ Ends 2 ∷ Begins 2 (Some 1) None ∷ Starts 1 2 ∷
+    Comes 5 ∷ Stops 1 5 ∷ Ends 5 ∷ Begins 5 None (Some 1) ∷
     Comes 6 ∷ []
 
 -- a job completes that was never executed
 unfoldable pub completion_unexecuted : List Event
 completion_unexecuted =
-    Comes 0 ∷ Takes 1 0 true ∷ Begins 0 NoTask NoTask ∷
+    Comes 0 ∷ Takes 1 0 true ∷ Begins 0 None None ∷
     Comes 1 ∷ Completes 1 1 ∷ []
 
 -- the first interval begins 50 ticks after a release that came while none was open
 unfoldable pub begins_late : List Event
 begins_late =
     Comes 0 ∷ Takes 1 0 true ∷
-    Comes 50 ∷ Begins 50 NoTask NoTask ∷
-    Comes 52 ∷ Finishes 1 ∷ Ends 52 ∷ Begins 52 (Task 1) NoTask ∷ Starts 1 52 ∷ []
+    Comes 50 ∷ Begins 50 None None ∷
+    Comes 52 ∷ Finishes 1 ∷ Ends 52 ∷ Begins 52 (Some 1) None ∷ Starts 1 52 ∷ []
 
 -- plan C with an execution of no ticks
 unfoldable pub no_ticks : List Event
 no_ticks =
-    Comes 0 ∷ Takes 1 0 true ∷ Begins 0 NoTask NoTask ∷
-    Comes 2 ∷ Finishes 1 ∷ Ends 2 ∷ Begins 2 (Task 1) NoTask ∷ Starts 1 2 ∷ Stops 1 2 ∷ Ends 2 ∷ Begins 2 NoTask (Task 1) ∷
+    Comes 0 ∷ Takes 1 0 true ∷ Begins 0 None None ∷
+    Comes 2 ∷ Finishes 1 ∷ Ends 2 ∷ Begins 2 (Some 1) None ∷ Starts 1 2 ∷ Stops 1 2 ∷ Ends 2 ∷ Begins 2 None (Some 1) ∷
     Comes 3 ∷ Completes 1 3 ∷ Ends 3 ∷ []
 
 -- plan C with a job that is never executed in its interval
 unfoldable pub not_executed : List Event
 not_executed =
-    Comes 0 ∷ Takes 1 0 true ∷ Begins 0 NoTask NoTask ∷
-    Comes 2 ∷ Finishes 1 ∷ Ends 2 ∷ Begins 2 (Task 1) NoTask ∷
-    Comes 5 ∷ Ends 5 ∷ Begins 5 NoTask (Task 1) ∷
+    Comes 0 ∷ Takes 1 0 true ∷ Begins 0 None None ∷
+    Comes 2 ∷ Finishes 1 ∷ Ends 2 ∷ Begins 2 (Some 1) None ∷
+    Comes 5 ∷ Ends 5 ∷ Begins 5 None (Some 1) ∷
     Comes 6 ∷ Completes 1 6 ∷ Ends 6 ∷ []
 
 -- plan C with a loaded job that starts a tick after its interval
 unfoldable pub loaded_late : List Event
 loaded_late =
-    Comes 0 ∷ Takes 1 0 true ∷ Begins 0 NoTask NoTask ∷
-    Comes 2 ∷ Finishes 1 ∷ Ends 2 ∷ Begins 2 (Task 1) NoTask ∷
+    Comes 0 ∷ Takes 1 0 true ∷ Begins 0 None None ∷
+    Comes 2 ∷ Finishes 1 ∷ Ends 2 ∷ Begins 2 (Some 1) None ∷
     Comes 3 ∷ Starts 1 3 ∷
-    Comes 6 ∷ Stops 1 6 ∷ Ends 6 ∷ Begins 6 NoTask (Task 1) ∷
+    Comes 6 ∷ Stops 1 6 ∷ Ends 6 ∷ Begins 6 None (Some 1) ∷
     Comes 7 ∷ Completes 1 7 ∷ Ends 7 ∷ []
 
 -- plan D with a promoted job that starts with its interval, before its copy-in has ended
 unfoldable pub promoted_early : List Event
 promoted_early =
-    Comes 0 ∷ Takes 2 0 false ∷ Begins 0 NoTask NoTask ∷
-    Comes 1 ∷ Takes 1 1 true ∷ GivesWay 2 ∷ Ends 1 ∷ Begins 1 (Task 1) NoTask ∷ Starts 1 1 ∷
+    Comes 0 ∷ Takes 2 0 false ∷ Begins 0 None None ∷
+    Comes 1 ∷ Takes 1 1 true ∷ GivesWay 2 ∷ Ends 1 ∷ Begins 1 (Some 1) None ∷ Starts 1 1 ∷
     Comes 3 ∷ Finishes 2 ∷
-    Comes 4 ∷ Stops 1 4 ∷ Ends 4 ∷ Begins 4 (Task 2) (Task 1) ∷ Starts 2 4 ∷ []
+    Comes 4 ∷ Stops 1 4 ∷ Ends 4 ∷ Begins 4 (Some 2) (Some 1) ∷ Starts 2 4 ∷ []
 
 -- plan C with an execution that lasts a tick too long
 unfoldable pub execution_long : List Event
 execution_long =
-    Comes 0 ∷ Takes 1 0 true ∷ Begins 0 NoTask NoTask ∷
-    Comes 2 ∷ Finishes 1 ∷ Ends 2 ∷ Begins 2 (Task 1) NoTask ∷ Starts 1 2 ∷
-    Comes 6 ∷ Stops 1 6 ∷ Ends 6 ∷ Begins 6 NoTask (Task 1) ∷
+    Comes 0 ∷ Takes 1 0 true ∷ Begins 0 None None ∷
+    Comes 2 ∷ Finishes 1 ∷ Ends 2 ∷ Begins 2 (Some 1) None ∷ Starts 1 2 ∷
+    Comes 6 ∷ Stops 1 6 ∷ Ends 6 ∷ Begins 6 None (Some 1) ∷
     Comes 7 ∷ Completes 1 7 ∷ Ends 7 ∷ []
 
 -- plan C with a release of task 2 at 3, which is promoted though it is unmarked, because its interval chose nobody
 unfoldable pub promoted_unmarked : List Event
 promoted_unmarked =
-    Comes 0 ∷ Takes 1 0 true ∷ Begins 0 NoTask NoTask ∷
-    Comes 2 ∷ Finishes 1 ∷ Ends 2 ∷ Begins 2 (Task 1) NoTask ∷ Starts 1 2 ∷
+    Comes 0 ∷ Takes 1 0 true ∷ Begins 0 None None ∷
+    Comes 2 ∷ Finishes 1 ∷ Ends 2 ∷ Begins 2 (Some 1) None ∷ Starts 1 2 ∷
     Comes 3 ∷ Takes 2 3 false ∷
-    Comes 5 ∷ Stops 1 5 ∷ Ends 5 ∷ Begins 5 (Task 2) (Task 1) ∷ []
+    Comes 5 ∷ Stops 1 5 ∷ Ends 5 ∷ Begins 5 (Some 2) (Some 1) ∷ []
 
 -- a job starts to execute in an interval that executes none
 unfoldable pub starts_unasked : List Event
 starts_unasked =
-    Comes 0 ∷ Takes 1 0 true ∷ Begins 0 NoTask NoTask ∷ Starts 1 0 ∷ []
+    Comes 0 ∷ Takes 1 0 true ∷ Begins 0 None None ∷ Starts 1 0 ∷ []
 
 -- a job starts to execute twice in its interval
 unfoldable pub starts_twice : List Event
 starts_twice =
-    Comes 0 ∷ Takes 1 0 true ∷ Begins 0 NoTask NoTask ∷
-    Comes 2 ∷ Finishes 1 ∷ Ends 2 ∷ Begins 2 (Task 1) NoTask ∷ Starts 1 2 ∷
+    Comes 0 ∷ Takes 1 0 true ∷ Begins 0 None None ∷
+    Comes 2 ∷ Finishes 1 ∷ Ends 2 ∷ Begins 2 (Some 1) None ∷ Starts 1 2 ∷
     Comes 4 ∷ Starts 1 4 ∷ []
 
 -- an execution ends that never started: plan D where the promoted job is cut off in its copy-in
 unfoldable pub stops_unstarted : List Event
 stops_unstarted =
-    Comes 0 ∷ Takes 2 0 false ∷ Begins 0 NoTask NoTask ∷
-    Comes 1 ∷ Takes 1 1 true ∷ GivesWay 2 ∷ Ends 1 ∷ Begins 1 (Task 1) NoTask ∷
+    Comes 0 ∷ Takes 2 0 false ∷ Begins 0 None None ∷
+    Comes 1 ∷ Takes 1 1 true ∷ GivesWay 2 ∷ Ends 1 ∷ Begins 1 (Some 1) None ∷
     Comes 2 ∷ Stops 1 2 ∷ []
 
 -- an interval ends while its job executes
 unfoldable pub cut_short : List Event
 cut_short =
-    Comes 0 ∷ Takes 1 0 true ∷ Begins 0 NoTask NoTask ∷
-    Comes 2 ∷ Finishes 1 ∷ Ends 2 ∷ Begins 2 (Task 1) NoTask ∷ Starts 1 2 ∷
-    Comes 4 ∷ Ends 4 ∷ Begins 4 NoTask (Task 1) ∷ []
+    Comes 0 ∷ Takes 1 0 true ∷ Begins 0 None None ∷
+    Comes 2 ∷ Finishes 1 ∷ Ends 2 ∷ Begins 2 (Some 1) None ∷ Starts 1 2 ∷
+    Comes 4 ∷ Ends 4 ∷ Begins 4 None (Some 1) ∷ []
 
 -- four intervals where one release was taken and one waits: N is the number of those taken
 unfoldable pub one_waits : List Event
 one_waits =
-    Comes 0 ∷ Takes 1 0 true ∷ Begins 0 NoTask NoTask ∷
-    Comes 2 ∷ Finishes 1 ∷ Ends 2 ∷ Begins 2 (Task 1) NoTask ∷ Starts 1 2 ∷
-    Comes 5 ∷ Stops 1 5 ∷ Ends 5 ∷ Defers 1 5 ∷ Begins 5 NoTask (Task 1) ∷
-    Comes 6 ∷ Completes 1 6 ∷ Ends 6 ∷ Begins 6 NoTask NoTask ∷ []
+    Comes 0 ∷ Takes 1 0 true ∷ Begins 0 None None ∷
+    Comes 2 ∷ Finishes 1 ∷ Ends 2 ∷ Begins 2 (Some 1) None ∷ Starts 1 2 ∷
+    Comes 5 ∷ Stops 1 5 ∷ Ends 5 ∷ Defers 1 5 ∷ Begins 5 None (Some 1) ∷
+    Comes 6 ∷ Completes 1 6 ∷ Ends 6 ∷ Begins 6 None None ∷ []
 
 -- plan F where the release that waits is never taken: but for it this is plan C
 unfoldable pub never_taken : List Event
 never_taken =
-    Comes 0 ∷ Takes 1 0 true ∷ Begins 0 NoTask NoTask ∷
-    Comes 2 ∷ Finishes 1 ∷ Ends 2 ∷ Begins 2 (Task 1) NoTask ∷ Starts 1 2 ∷
-    Comes 5 ∷ Stops 1 5 ∷ Ends 5 ∷ Defers 1 5 ∷ Begins 5 NoTask (Task 1) ∷
+    Comes 0 ∷ Takes 1 0 true ∷ Begins 0 None None ∷
+    Comes 2 ∷ Finishes 1 ∷ Ends 2 ∷ Begins 2 (Some 1) None ∷ Starts 1 2 ∷
+    Comes 5 ∷ Stops 1 5 ∷ Ends 5 ∷ Defers 1 5 ∷ Begins 5 None (Some 1) ∷
     Comes 6 ∷ Completes 1 6 ∷ Ends 6 ∷ []
 
 -- plan F where a release waits from 3 on, and that at 5 is set waiting beside it
 unfoldable pub two_wait : List Event
 two_wait =
-    Comes 0 ∷ Takes 1 0 true ∷ Begins 0 NoTask NoTask ∷
-    Comes 2 ∷ Finishes 1 ∷ Ends 2 ∷ Begins 2 (Task 1) NoTask ∷ Starts 1 2 ∷
+    Comes 0 ∷ Takes 1 0 true ∷ Begins 0 None None ∷
+    Comes 2 ∷ Finishes 1 ∷ Ends 2 ∷ Begins 2 (Some 1) None ∷ Starts 1 2 ∷
     Comes 3 ∷ Defers 1 3 ∷
-    Comes 5 ∷ Stops 1 5 ∷ Ends 5 ∷ Defers 1 5 ∷ Begins 5 NoTask (Task 1) ∷
+    Comes 5 ∷ Stops 1 5 ∷ Ends 5 ∷ Defers 1 5 ∷ Begins 5 None (Some 1) ∷
     Comes 6 ∷ Completes 1 6 ∷ Takes 1 6 true ∷
-    Comes 8 ∷ Finishes 1 ∷ Ends 8 ∷ Begins 8 (Task 1) NoTask ∷ Starts 1 8 ∷
-    Comes 11 ∷ Stops 1 11 ∷ Ends 11 ∷ Begins 11 NoTask (Task 1) ∷
+    Comes 8 ∷ Finishes 1 ∷ Ends 8 ∷ Begins 8 (Some 1) None ∷ Starts 1 8 ∷
+    Comes 11 ∷ Stops 1 11 ∷ Ends 11 ∷ Begins 11 None (Some 1) ∷
     Comes 12 ∷ Completes 1 12 ∷ Ends 12 ∷ []
 
 -- plan F where the job of the release that waited is copied out and never executed
 unfoldable pub waited_unexecuted : List Event
 waited_unexecuted =
-    Comes 0 ∷ Takes 1 0 true ∷ Begins 0 NoTask NoTask ∷
-    Comes 2 ∷ Finishes 1 ∷ Ends 2 ∷ Begins 2 (Task 1) NoTask ∷ Starts 1 2 ∷
-    Comes 5 ∷ Stops 1 5 ∷ Ends 5 ∷ Defers 1 5 ∷ Begins 5 NoTask (Task 1) ∷
+    Comes 0 ∷ Takes 1 0 true ∷ Begins 0 None None ∷
+    Comes 2 ∷ Finishes 1 ∷ Ends 2 ∷ Begins 2 (Some 1) None ∷ Starts 1 2 ∷
+    Comes 5 ∷ Stops 1 5 ∷ Ends 5 ∷ Defers 1 5 ∷ Begins 5 None (Some 1) ∷
     Comes 6 ∷ Completes 1 6 ∷ Takes 1 6 true ∷
-    Comes 8 ∷ Finishes 1 ∷ Ends 8 ∷ Begins 8 NoTask (Task 1) ∷
+    Comes 8 ∷ Finishes 1 ∷ Ends 8 ∷ Begins 8 None (Some 1) ∷
     Comes 9 ∷ Completes 1 9 ∷ Ends 9 ∷ []
 
 -- 4/13: what waits is taken only once nothing at all is pending: releases (0,1) (4,2) (4,3) (5,1), and that of 5 is taken at 19 in place
 -- of 6, behind two lower jobs
 unfoldable pub taken_late : List Event
 taken_late =
-    Comes 0 ∷ Takes 1 0 true ∷ Begins 0 NoTask NoTask ∷
-    Comes 2 ∷ Finishes 1 ∷ Ends 2 ∷ Begins 2 (Task 1) NoTask ∷ Starts 1 2 ∷
+    Comes 0 ∷ Takes 1 0 true ∷ Begins 0 None None ∷
+    Comes 2 ∷ Finishes 1 ∷ Ends 2 ∷ Begins 2 (Some 1) None ∷ Starts 1 2 ∷
     Comes 4 ∷ Takes 2 4 false ∷ Takes 3 4 false ∷
     Comes 5 ∷ Stops 1 5 ∷ Ends 5 ∷
-    Defers 1 5 ∷ Begins 5 NoTask (Task 1) ∷
+    Defers 1 5 ∷ Begins 5 None (Some 1) ∷
     Comes 6 ∷ Completes 1 6 ∷
-    Comes 8 ∷ Finishes 2 ∷ Ends 8 ∷ Begins 8 (Task 2) NoTask ∷ Starts 2 8 ∷
+    Comes 8 ∷ Finishes 2 ∷ Ends 8 ∷ Begins 8 (Some 2) None ∷ Starts 2 8 ∷
     Comes 10 ∷ Finishes 3 ∷
-    Comes 12 ∷ Stops 2 12 ∷ Ends 12 ∷ Begins 12 (Task 3) (Task 2) ∷ Starts 3 12 ∷
+    Comes 12 ∷ Stops 2 12 ∷ Ends 12 ∷ Begins 12 (Some 3) (Some 2) ∷ Starts 3 12 ∷
     Comes 13 ∷ Completes 2 13 ∷
-    Comes 17 ∷ Stops 3 17 ∷ Ends 17 ∷ Begins 17 NoTask (Task 3) ∷
+    Comes 17 ∷ Stops 3 17 ∷ Ends 17 ∷ Begins 17 None (Some 3) ∷
     Comes 19 ∷ Completes 3 19 ∷ Takes 1 19 true ∷
-    Comes 21 ∷ Finishes 1 ∷ Ends 21 ∷ Begins 21 (Task 1) NoTask ∷ Starts 1 21 ∷
-    Comes 24 ∷ Stops 1 24 ∷ Ends 24 ∷ Begins 24 NoTask (Task 1) ∷
+    Comes 21 ∷ Finishes 1 ∷ Ends 21 ∷ Begins 21 (Some 1) None ∷ Starts 1 21 ∷
+    Comes 24 ∷ Stops 1 24 ∷ Ends 24 ∷ Begins 24 None (Some 1) ∷
     Comes 25 ∷ Completes 1 25 ∷ Ends 25 ∷ []
 
 -- a release is set waiting where no job of its task is pending: plan C with one at 6, behind the completion
 unfoldable pub waits_for_nothing : List Event
 waits_for_nothing =
-    Comes 0 ∷ Takes 1 0 true ∷ Begins 0 NoTask NoTask ∷
-    Comes 2 ∷ Finishes 1 ∷ Ends 2 ∷ Begins 2 (Task 1) NoTask ∷ Starts 1 2 ∷
-    Comes 5 ∷ Stops 1 5 ∷ Ends 5 ∷ Begins 5 NoTask (Task 1) ∷
+    Comes 0 ∷ Takes 1 0 true ∷ Begins 0 None None ∷
+    Comes 2 ∷ Finishes 1 ∷ Ends 2 ∷ Begins 2 (Some 1) None ∷ Starts 1 2 ∷
+    Comes 5 ∷ Stops 1 5 ∷ Ends 5 ∷ Begins 5 None (Some 1) ∷
     Comes 6 ∷ Completes 1 6 ∷ Defers 1 6 ∷ Ends 6 ∷ []
 
 -- task 1 is taken at 0 and again at 1, while its job is pending: the third and the fourth interval of its second job run lower ones
 unfoldable pub taken_twice : List Event
 taken_twice =
-    Comes 0 ∷ Takes 1 0 true ∷ Takes 2 0 false ∷ Takes 3 0 false ∷ Begins 0 NoTask NoTask ∷ Comes 1 ∷ Takes 1 1 true ∷
-    Comes 2 ∷ Finishes 1 ∷ Ends 2 ∷ Begins 2 (Task 1) NoTask ∷ Starts 1 2 ∷
+    Comes 0 ∷ Takes 1 0 true ∷ Takes 2 0 false ∷ Takes 3 0 false ∷ Begins 0 None None ∷ Comes 1 ∷ Takes 1 1 true ∷
+    Comes 2 ∷ Finishes 1 ∷ Ends 2 ∷ Begins 2 (Some 1) None ∷ Starts 1 2 ∷
     Comes 4 ∷ Finishes 2 ∷
-    Comes 5 ∷ Stops 1 5 ∷ Ends 5 ∷ Begins 5 (Task 2) (Task 1) ∷ Starts 2 5 ∷
+    Comes 5 ∷ Stops 1 5 ∷ Ends 5 ∷ Begins 5 (Some 2) (Some 1) ∷ Starts 2 5 ∷
     Comes 6 ∷ Completes 1 6 ∷
     Comes 8 ∷ Finishes 3 ∷
-    Comes 9 ∷ Stops 2 9 ∷ Ends 9 ∷ Begins 9 (Task 3) (Task 2) ∷ Starts 3 9 ∷ []
+    Comes 9 ∷ Stops 2 9 ∷ Ends 9 ∷ Begins 9 (Some 3) (Some 2) ∷ Starts 3 9 ∷ []
 
 -- two jobs are taken, one is executed, and both complete
 unfoldable pub completed_twice : List Event
 completed_twice =
-    Comes 0 ∷ Takes 1 0 true ∷ Begins 0 NoTask NoTask ∷
-    Comes 2 ∷ Finishes 1 ∷ Ends 2 ∷ Begins 2 (Task 1) NoTask ∷ Starts 1 2 ∷
-    Comes 5 ∷ Stops 1 5 ∷ Ends 5 ∷ Begins 5 NoTask (Task 1) ∷
+    Comes 0 ∷ Takes 1 0 true ∷ Begins 0 None None ∷
+    Comes 2 ∷ Finishes 1 ∷ Ends 2 ∷ Begins 2 (Some 1) None ∷ Starts 1 2 ∷
+    Comes 5 ∷ Stops 1 5 ∷ Ends 5 ∷ Begins 5 None (Some 1) ∷
     Comes 6 ∷ Completes 1 6 ∷ Takes 1 6 true ∷ Completes 1 6 ∷ []
 
 -- a task is executed that nobody released
 unfoldable pub runs_unreleased : List Event
 runs_unreleased =
-    Comes 0 ∷ Takes 2 0 false ∷ Begins 0 NoTask NoTask ∷
-    Comes 2 ∷ Finishes 1 ∷ Ends 2 ∷ Begins 2 (Task 1) NoTask ∷ Starts 1 2 ∷ []
+    Comes 0 ∷ Takes 2 0 false ∷ Begins 0 None None ∷
+    Comes 2 ∷ Finishes 1 ∷ Ends 2 ∷ Begins 2 (Some 1) None ∷ Starts 1 2 ∷ []
 
 -- plan C with a second execution and a second copy-out of its one job
 unfoldable pub executed_again : List Event
 executed_again =
-    Comes 0 ∷ Takes 1 0 true ∷ Begins 0 NoTask NoTask ∷
-    Comes 2 ∷ Finishes 1 ∷ Ends 2 ∷ Begins 2 (Task 1) NoTask ∷ Starts 1 2 ∷
+    Comes 0 ∷ Takes 1 0 true ∷ Begins 0 None None ∷
+    Comes 2 ∷ Finishes 1 ∷ Ends 2 ∷ Begins 2 (Some 1) None ∷ Starts 1 2 ∷
     Comes 4 ∷ Finishes 1 ∷
-    Comes 5 ∷ Stops 1 5 ∷ Ends 5 ∷ Begins 5 (Task 1) (Task 1) ∷ Starts 1 5 ∷ []
+    Comes 5 ∷ Stops 1 5 ∷ Ends 5 ∷ Begins 5 (Some 1) (Some 1) ∷ Starts 1 5 ∷ []
 
 -- a release is taken at an instant and says the tick of another
 unfoldable pub another_tick : List Event
 another_tick =
-    Comes 3 ∷ Takes 1 0 true ∷ Begins 0 NoTask NoTask ∷ []
+    Comes 3 ∷ Takes 1 0 true ∷ Begins 0 None None ∷ []
 
 -- an instant comes before the one before it
 unfoldable pub instants_fall : List Event
 instants_fall =
-    Comes 5 ∷ Takes 1 5 true ∷ Begins 5 NoTask NoTask ∷
+    Comes 5 ∷ Takes 1 5 true ∷ Begins 5 None None ∷
     Comes 3 ∷ []
 
 -- plan D where nobody is promoted: the release that cuts the interval short is given to the next one
 unfoldable pub nobody_promoted : List Event
 nobody_promoted =
-    Comes 0 ∷ Takes 2 0 false ∷ Begins 0 NoTask NoTask ∷
-    Comes 1 ∷ Takes 1 1 true ∷ GivesWay 2 ∷ Ends 1 ∷ Begins 1 NoTask NoTask ∷
-    Comes 3 ∷ Finishes 1 ∷ Ends 3 ∷ Begins 3 (Task 1) NoTask ∷ Starts 1 3 ∷ []
+    Comes 0 ∷ Takes 2 0 false ∷ Begins 0 None None ∷
+    Comes 1 ∷ Takes 1 1 true ∷ GivesWay 2 ∷ Ends 1 ∷ Begins 1 None None ∷
+    Comes 3 ∷ Finishes 1 ∷ Ends 3 ∷ Begins 3 (Some 1) None ∷ Starts 1 3 ∷ []
 
 -- a marked job is promoted at the end of the interval after its own: 1 is unmarked here and 2 marked, and the engine copies in nobody
 -- while 1 executes
 unfoldable pub promoted_late : List Event
 promoted_late =
-    Comes 0 ∷ Takes 1 0 false ∷ Begins 0 NoTask NoTask ∷
+    Comes 0 ∷ Takes 1 0 false ∷ Begins 0 None None ∷
     Comes 1 ∷ Takes 2 1 true ∷
-    Comes 2 ∷ Finishes 1 ∷ Ends 2 ∷ Begins 2 (Task 1) NoTask ∷ Starts 1 2 ∷
-    Comes 5 ∷ Stops 1 5 ∷ Ends 5 ∷ Begins 5 (Task 2) (Task 1) ∷ []
+    Comes 2 ∷ Finishes 1 ∷ Ends 2 ∷ Begins 2 (Some 1) None ∷ Starts 1 2 ∷
+    Comes 5 ∷ Stops 1 5 ∷ Ends 5 ∷ Begins 5 (Some 2) (Some 1) ∷ []
 
 -- a job is promoted though another one is loaded
 unfoldable pub promoted_beside_the_loaded : List Event
 promoted_beside_the_loaded =
-    Comes 0 ∷ Takes 1 0 false ∷ Takes 2 0 true ∷ Begins 0 NoTask NoTask ∷
-    Comes 2 ∷ Finishes 1 ∷ Ends 2 ∷ Begins 2 (Task 2) NoTask ∷ []
+    Comes 0 ∷ Takes 1 0 false ∷ Takes 2 0 true ∷ Begins 0 None None ∷
+    Comes 2 ∷ Finishes 1 ∷ Ends 2 ∷ Begins 2 (Some 2) None ∷ []
 
 -- an interval begins while one is open
 unfoldable pub begins_twice : List Event
 begins_twice =
-    Comes 0 ∷ Takes 3 0 false ∷ Begins 0 NoTask NoTask ∷ Begins 0 NoTask NoTask ∷ []
+    Comes 0 ∷ Takes 3 0 false ∷ Begins 0 None None ∷ Begins 0 None None ∷ []
 
 -- an interval ends that has ended
 unfoldable pub ends_twice : List Event
 ends_twice =
-    Comes 0 ∷ Takes 3 0 false ∷ Begins 0 NoTask NoTask ∷
+    Comes 0 ∷ Takes 3 0 false ∷ Begins 0 None None ∷
     Comes 2 ∷ Finishes 3 ∷ Ends 2 ∷ Ends 2 ∷ []
 
 -- the engine copies in two jobs in one interval
 unfoldable pub finishes_twice : List Event
 finishes_twice =
-    Comes 0 ∷ Takes 2 0 false ∷ Takes 3 0 false ∷ Begins 0 NoTask NoTask ∷
+    Comes 0 ∷ Takes 2 0 false ∷ Takes 3 0 false ∷ Begins 0 None None ∷
     Comes 2 ∷ Finishes 3 ∷ Finishes 2 ∷ []
 
 -- a copy-in gives way that has given way
 unfoldable pub gives_way_twice : List Event
 gives_way_twice =
-    Comes 0 ∷ Takes 2 0 false ∷ Begins 0 NoTask NoTask ∷
+    Comes 0 ∷ Takes 2 0 false ∷ Begins 0 None None ∷
     Comes 1 ∷ Takes 1 1 true ∷ GivesWay 2 ∷ GivesWay 2 ∷ []
 
 -- 7/13: M is 7 here, L + C of task 3. The processor waits from 2 to 11 while a job is loaded: this completes a tick after two intervals of
 -- 7 ticks and its copy-out
 unfoldable pub waits_between : List Event
 waits_between =
-    Comes 0 ∷ Takes 2 0 false ∷ Begins 0 NoTask NoTask ∷
+    Comes 0 ∷ Takes 2 0 false ∷ Begins 0 None None ∷
     Comes 2 ∷ Finishes 2 ∷ Ends 2 ∷
-    Comes 11 ∷ Begins 11 (Task 2) NoTask ∷ Starts 2 11 ∷
-    Comes 15 ∷ Stops 2 15 ∷ Ends 15 ∷ Begins 15 NoTask (Task 2) ∷
+    Comes 11 ∷ Begins 11 (Some 2) None ∷ Starts 2 11 ∷
+    Comes 15 ∷ Stops 2 15 ∷ Ends 15 ∷ Begins 15 None (Some 2) ∷
     Comes 16 ∷ Completes 2 16 ∷ Ends 16 ∷ []
 
 -- plan C with a last interval that ends 8 ticks after its begin
 unfoldable pub ends_late : List Event
 ends_late =
-    Comes 0 ∷ Takes 1 0 true ∷ Begins 0 NoTask NoTask ∷
-    Comes 2 ∷ Finishes 1 ∷ Ends 2 ∷ Begins 2 (Task 1) NoTask ∷ Starts 1 2 ∷
-    Comes 5 ∷ Stops 1 5 ∷ Ends 5 ∷ Begins 5 NoTask (Task 1) ∷
+    Comes 0 ∷ Takes 1 0 true ∷ Begins 0 None None ∷
+    Comes 2 ∷ Finishes 1 ∷ Ends 2 ∷ Begins 2 (Some 1) None ∷ Starts 1 2 ∷
+    Comes 5 ∷ Stops 1 5 ∷ Ends 5 ∷ Begins 5 None (Some 1) ∷
     Comes 6 ∷ Completes 1 6 ∷
     Comes 13 ∷ Ends 13 ∷ []
 
 -- and with one that is still open then
 unfoldable pub stays_open : List Event
 stays_open =
-    Comes 0 ∷ Takes 1 0 true ∷ Begins 0 NoTask NoTask ∷
-    Comes 2 ∷ Finishes 1 ∷ Ends 2 ∷ Begins 2 (Task 1) NoTask ∷ Starts 1 2 ∷
-    Comes 5 ∷ Stops 1 5 ∷ Ends 5 ∷ Begins 5 NoTask (Task 1) ∷
+    Comes 0 ∷ Takes 1 0 true ∷ Begins 0 None None ∷
+    Comes 2 ∷ Finishes 1 ∷ Ends 2 ∷ Begins 2 (Some 1) None ∷ Starts 1 2 ∷
+    Comes 5 ∷ Stops 1 5 ∷ Ends 5 ∷ Begins 5 None (Some 1) ∷
     Comes 6 ∷ Completes 1 6 ∷
     Comes 13 ∷ []
 
 -- R6: plan C, where the first interval ends a tick after its copy-in
 unfoldable pub ends_a_tick_late : List Event
 ends_a_tick_late =
-    Comes 0 ∷ Takes 1 0 true ∷ Begins 0 NoTask NoTask ∷
+    Comes 0 ∷ Takes 1 0 true ∷ Begins 0 None None ∷
     Comes 2 ∷ Finishes 1 ∷
-    Comes 3 ∷ Ends 3 ∷ Begins 3 (Task 1) NoTask ∷ Starts 1 3 ∷ []
+    Comes 3 ∷ Ends 3 ∷ Begins 3 (Some 1) None ∷ Starts 1 3 ∷ []
 
 -- R2: the engine is free at 7, and chooses nobody though a job is taken then
 unfoldable pub taken_unchosen : List Event
 taken_unchosen =
-    Comes 0 ∷ Takes 2 0 false ∷ Begins 0 NoTask NoTask ∷
-    Comes 2 ∷ Finishes 2 ∷ Ends 2 ∷ Begins 2 (Task 2) NoTask ∷ Starts 2 2 ∷
-    Comes 6 ∷ Stops 2 6 ∷ Ends 6 ∷ Begins 6 NoTask (Task 2) ∷
-    Comes 7 ∷ Completes 2 7 ∷ Takes 2 7 false ∷ Ends 7 ∷ Begins 7 NoTask NoTask ∷ []
+    Comes 0 ∷ Takes 2 0 false ∷ Begins 0 None None ∷
+    Comes 2 ∷ Finishes 2 ∷ Ends 2 ∷ Begins 2 (Some 2) None ∷ Starts 2 2 ∷
+    Comes 6 ∷ Stops 2 6 ∷ Ends 6 ∷ Begins 6 None (Some 2) ∷
+    Comes 7 ∷ Completes 2 7 ∷ Takes 2 7 false ∷ Ends 7 ∷ Begins 7 None None ∷ []
 
 -- plan C with a release of 2 at 5 that is taken before the interval that ends then has
 unfoldable pub ends_behind_a_taking : List Event
 ends_behind_a_taking =
-    Comes 0 ∷ Takes 1 0 true ∷ Begins 0 NoTask NoTask ∷
-    Comes 2 ∷ Finishes 1 ∷ Ends 2 ∷ Begins 2 (Task 1) NoTask ∷ Starts 1 2 ∷
-    Comes 5 ∷ Stops 1 5 ∷ Takes 2 5 false ∷ Ends 5 ∷ Begins 5 NoTask (Task 1) ∷ []
+    Comes 0 ∷ Takes 1 0 true ∷ Begins 0 None None ∷
+    Comes 2 ∷ Finishes 1 ∷ Ends 2 ∷ Begins 2 (Some 1) None ∷ Starts 1 2 ∷
+    Comes 5 ∷ Stops 1 5 ∷ Takes 2 5 false ∷ Ends 5 ∷ Begins 5 None (Some 1) ∷ []
 
 -- plan C, where the processor waits a tick though a job is loaded
 unfoldable pub begins_a_tick_late : List Event
 begins_a_tick_late =
-    Comes 0 ∷ Takes 1 0 true ∷ Begins 0 NoTask NoTask ∷
+    Comes 0 ∷ Takes 1 0 true ∷ Begins 0 None None ∷
     Comes 2 ∷ Finishes 1 ∷ Ends 2 ∷
-    Comes 3 ∷ Begins 3 (Task 1) NoTask ∷ Starts 1 3 ∷ []
+    Comes 3 ∷ Begins 3 (Some 1) None ∷ Starts 1 3 ∷ []
 
 -- R2: the engine copies in the lower of two ready jobs
 unfoldable pub lower_chosen : List Event
 lower_chosen =
-    Comes 0 ∷ Takes 2 0 false ∷ Takes 3 0 false ∷ Begins 0 NoTask NoTask ∷
+    Comes 0 ∷ Takes 2 0 false ∷ Takes 3 0 false ∷ Begins 0 None None ∷
     Comes 2 ∷ Finishes 3 ∷ []
 
 -- or nobody, though 3 is ready at 2
 unfoldable pub nobody_chosen : List Event
 nobody_chosen =
-    Comes 0 ∷ Takes 2 0 false ∷ Begins 0 NoTask NoTask ∷
-    Comes 2 ∷ Finishes 2 ∷ Ends 2 ∷ Takes 3 2 false ∷ Begins 2 (Task 2) NoTask ∷ Starts 2 2 ∷
-    Comes 6 ∷ Stops 2 6 ∷ Ends 6 ∷ Begins 6 NoTask (Task 2) ∷ []
+    Comes 0 ∷ Takes 2 0 false ∷ Begins 0 None None ∷
+    Comes 2 ∷ Finishes 2 ∷ Ends 2 ∷ Takes 3 2 false ∷ Begins 2 (Some 2) None ∷ Starts 2 2 ∷
+    Comes 6 ∷ Stops 2 6 ∷ Ends 6 ∷ Begins 6 None (Some 2) ∷ []
 
 -- plan C with a copy-in of one tick
 unfoldable pub copyin_short : List Event
 copyin_short =
-    Comes 0 ∷ Takes 1 0 true ∷ Begins 0 NoTask NoTask ∷
-    Comes 1 ∷ Finishes 1 ∷ Ends 1 ∷ Begins 1 (Task 1) NoTask ∷ Starts 1 1 ∷ []
+    Comes 0 ∷ Takes 1 0 true ∷ Begins 0 None None ∷
+    Comes 1 ∷ Finishes 1 ∷ Ends 1 ∷ Begins 1 (Some 1) None ∷ Starts 1 1 ∷ []
 
 -- and with one that is under way at 4
 unfoldable pub copyin_overdue : List Event
 copyin_overdue =
-    Comes 0 ∷ Takes 1 0 true ∷ Begins 0 NoTask NoTask ∷
+    Comes 0 ∷ Takes 1 0 true ∷ Begins 0 None None ∷
     Comes 4 ∷ []
 
 -- 2/13: plan B, where the copy-in of 2, which ends at 4, gives way as one under way
 unfoldable pub cancelled_at_its_end : List Event
 cancelled_at_its_end =
-    Comes 0 ∷ Takes 3 0 false ∷ Begins 0 NoTask NoTask ∷
-    Comes 2 ∷ Finishes 3 ∷ Ends 2 ∷ Takes 2 2 false ∷ Begins 2 (Task 3) NoTask ∷ Starts 3 2 ∷
+    Comes 0 ∷ Takes 3 0 false ∷ Begins 0 None None ∷
+    Comes 2 ∷ Finishes 3 ∷ Ends 2 ∷ Takes 2 2 false ∷ Begins 2 (Some 3) None ∷ Starts 3 2 ∷
     Comes 4 ∷ Takes 1 4 true ∷ GivesWay 2 ∷ []
 
 -- a job gives way that the engine does not copy in
 unfoldable pub gives_way_unchosen : List Event
 gives_way_unchosen =
-    Comes 0 ∷ Takes 3 0 false ∷ Begins 0 NoTask NoTask ∷
-    Comes 1 ∷ Takes 1 1 true ∷ Takes 2 1 false ∷ GivesWay 2 ∷ Ends 1 ∷ Begins 1 (Task 1) NoTask ∷ []
+    Comes 0 ∷ Takes 3 0 false ∷ Begins 0 None None ∷
+    Comes 1 ∷ Takes 1 1 true ∷ Takes 2 1 false ∷ GivesWay 2 ∷ Ends 1 ∷ Begins 1 (Some 1) None ∷ []
 
 -- R6: the first interval is over at 2 and stays open; at 3 a marked job throws out the copy that was finished, and it ends
 unfoldable pub over_and_open : List Event
 over_and_open =
-    Comes 0 ∷ Takes 2 0 false ∷ Begins 0 NoTask NoTask ∷
+    Comes 0 ∷ Takes 2 0 false ∷ Begins 0 None None ∷
     Comes 2 ∷ Finishes 2 ∷
-    Comes 3 ∷ Takes 1 3 true ∷ GivesWay 2 ∷ Ends 3 ∷ Begins 3 (Task 1) NoTask ∷ []
+    Comes 3 ∷ Takes 1 3 true ∷ GivesWay 2 ∷ Ends 3 ∷ Begins 3 (Some 1) None ∷ []
 
 -- or the list goes no further
 unfoldable pub left_open : List Event
 left_open =
-    Comes 0 ∷ Takes 2 0 false ∷ Begins 0 NoTask NoTask ∷
+    Comes 0 ∷ Takes 2 0 false ∷ Begins 0 None None ∷
     Comes 2 ∷ Finishes 2 ∷ []
 
 -- a copy-in of two ticks that is under way at its end
 unfoldable pub left_copying : List Event
 left_copying =
-    Comes 0 ∷ Takes 2 0 false ∷ Begins 0 NoTask NoTask ∷
+    Comes 0 ∷ Takes 2 0 false ∷ Begins 0 None None ∷
     Comes 2 ∷ []
 
 -- an interval begins though there is nothing to do: it is the fifth, and two jobs were taken
 unfoldable pub begins_for_nobody : List Event
 begins_for_nobody =
-    Comes 0 ∷ Takes 1 0 true ∷ Takes 2 0 false ∷ Begins 0 NoTask NoTask ∷
-    Comes 2 ∷ Finishes 1 ∷ Ends 2 ∷ Begins 2 (Task 1) NoTask ∷ Starts 1 2 ∷
+    Comes 0 ∷ Takes 1 0 true ∷ Takes 2 0 false ∷ Begins 0 None None ∷
+    Comes 2 ∷ Finishes 1 ∷ Ends 2 ∷ Begins 2 (Some 1) None ∷ Starts 1 2 ∷
     Comes 4 ∷ Finishes 2 ∷
-    Comes 5 ∷ Stops 1 5 ∷ Ends 5 ∷ Begins 5 (Task 2) (Task 1) ∷ Starts 2 5 ∷
+    Comes 5 ∷ Stops 1 5 ∷ Ends 5 ∷ Begins 5 (Some 2) (Some 1) ∷ Starts 2 5 ∷
     Comes 6 ∷ Completes 1 6 ∷
-    Comes 9 ∷ Stops 2 9 ∷ Ends 9 ∷ Begins 9 NoTask (Task 2) ∷
+    Comes 9 ∷ Stops 2 9 ∷ Ends 9 ∷ Begins 9 None (Some 2) ∷
     Comes 10 ∷ Completes 2 10 ∷ Ends 10 ∷
-    Comes 20 ∷ Begins 20 NoTask NoTask ∷ []
+    Comes 20 ∷ Begins 20 None None ∷ []
 
 -- R2: the engine becomes free at 7, where it has to choose after the releases, and the interval ends before them; the next copies in 1
 unfoldable pub ends_unchosen : List Event
 ends_unchosen =
-    Comes 0 ∷ Takes 2 0 false ∷ Begins 0 NoTask NoTask ∷
-    Comes 2 ∷ Finishes 2 ∷ Ends 2 ∷ Begins 2 (Task 2) NoTask ∷ Starts 2 2 ∷
-    Comes 6 ∷ Stops 2 6 ∷ Ends 6 ∷ Begins 6 NoTask (Task 2) ∷
-    Comes 7 ∷ Completes 2 7 ∷ Ends 7 ∷ Takes 1 7 false ∷ Begins 7 NoTask NoTask ∷ []
+    Comes 0 ∷ Takes 2 0 false ∷ Begins 0 None None ∷
+    Comes 2 ∷ Finishes 2 ∷ Ends 2 ∷ Begins 2 (Some 2) None ∷ Starts 2 2 ∷
+    Comes 6 ∷ Stops 2 6 ∷ Ends 6 ∷ Begins 6 None (Some 2) ∷
+    Comes 7 ∷ Completes 2 7 ∷ Ends 7 ∷ Takes 1 7 false ∷ Begins 7 None None ∷ []
 
 -- R6: plan E, where the first interval is over at 2 and stays open for the release of then, to which the finished copy gives way
 unfoldable pub open_for_a_release : List Event
 open_for_a_release =
-    Comes 0 ∷ Takes 2 0 false ∷ Begins 0 NoTask NoTask ∷
-    Comes 2 ∷ Finishes 2 ∷ Takes 1 2 true ∷ GivesWay 2 ∷ Ends 2 ∷ Begins 2 (Task 1) NoTask ∷ []
+    Comes 0 ∷ Takes 2 0 false ∷ Begins 0 None None ∷
+    Comes 2 ∷ Finishes 2 ∷ Takes 1 2 true ∷ GivesWay 2 ∷ Ends 2 ∷ Begins 2 (Some 1) None ∷ []
 
 -- plan F, where the second is over at 5 and ends behind the release that waits from then on
 unfoldable pub open_for_a_deferral : List Event
 open_for_a_deferral =
-    Comes 0 ∷ Takes 1 0 true ∷ Begins 0 NoTask NoTask ∷
-    Comes 2 ∷ Finishes 1 ∷ Ends 2 ∷ Begins 2 (Task 1) NoTask ∷ Starts 1 2 ∷
-    Comes 5 ∷ Stops 1 5 ∷ Defers 1 5 ∷ Ends 5 ∷ Begins 5 NoTask (Task 1) ∷ []
+    Comes 0 ∷ Takes 1 0 true ∷ Begins 0 None None ∷
+    Comes 2 ∷ Finishes 1 ∷ Ends 2 ∷ Begins 2 (Some 1) None ∷ Starts 1 2 ∷
+    Comes 5 ∷ Stops 1 5 ∷ Defers 1 5 ∷ Ends 5 ∷ Begins 5 None (Some 1) ∷ []
 
 -- 4/13: plan F with a release at 6 that waits for the completion of then, which comes before it
 unfoldable pub waits_before_the_completion : List Event
 waits_before_the_completion =
-    Comes 0 ∷ Takes 1 0 true ∷ Begins 0 NoTask NoTask ∷
-    Comes 2 ∷ Finishes 1 ∷ Ends 2 ∷ Begins 2 (Task 1) NoTask ∷ Starts 1 2 ∷
-    Comes 5 ∷ Stops 1 5 ∷ Ends 5 ∷ Begins 5 NoTask (Task 1) ∷
+    Comes 0 ∷ Takes 1 0 true ∷ Begins 0 None None ∷
+    Comes 2 ∷ Finishes 1 ∷ Ends 2 ∷ Begins 2 (Some 1) None ∷ Starts 1 2 ∷
+    Comes 5 ∷ Stops 1 5 ∷ Ends 5 ∷ Begins 5 None (Some 1) ∷
     Comes 6 ∷ Defers 1 6 ∷ Completes 1 6 ∷ Takes 1 6 true ∷ []
 
 -- the steps of an instant: 2 is taken behind the begin of the interval, whose engine therefore copies in 3
 unfoldable pub taken_behind_the_begin : List Event
 taken_behind_the_begin =
-    Comes 0 ∷ Takes 3 0 false ∷ Begins 0 NoTask NoTask ∷ Takes 2 0 false ∷
-    Comes 2 ∷ Finishes 3 ∷ Ends 2 ∷ Begins 2 (Task 3) NoTask ∷ Starts 3 2 ∷
+    Comes 0 ∷ Takes 3 0 false ∷ Begins 0 None None ∷ Takes 2 0 false ∷
+    Comes 2 ∷ Finishes 3 ∷ Ends 2 ∷ Begins 2 (Some 3) None ∷ Starts 3 2 ∷
     Comes 4 ∷ Finishes 2 ∷ []
 
 -- R3: tasks of which 3 is copied in for 3 ticks
@@ -686,15 +683,15 @@ late_table =
 -- the marked job of 1 is taken at 1, and the copy-in of 3 is cancelled only at 2, for the one of 2
 unfoldable pub cancelled_late : List Event
 cancelled_late =
-    Comes 0 ∷ Takes 3 0 false ∷ Begins 0 NoTask NoTask ∷
+    Comes 0 ∷ Takes 3 0 false ∷ Begins 0 None None ∷
     Comes 1 ∷ Takes 1 1 true ∷
-    Comes 2 ∷ Takes 2 2 true ∷ GivesWay 3 ∷ Ends 2 ∷ Begins 2 (Task 1) NoTask ∷ []
+    Comes 2 ∷ Takes 2 2 true ∷ GivesWay 3 ∷ Ends 2 ∷ Begins 2 (Some 1) None ∷ []
 
 -- 2/13: plan B up to 4, where the copy of 2 that has finished is not thrown out
 unfoldable pub not_thrown_out : List Event
 not_thrown_out =
-    Comes 0 ∷ Takes 3 0 false ∷ Begins 0 NoTask NoTask ∷
-    Comes 2 ∷ Finishes 3 ∷ Ends 2 ∷ Takes 2 2 false ∷ Begins 2 (Task 3) NoTask ∷ Starts 3 2 ∷
+    Comes 0 ∷ Takes 3 0 false ∷ Begins 0 None None ∷
+    Comes 2 ∷ Finishes 3 ∷ Ends 2 ∷ Takes 2 2 false ∷ Begins 2 (Some 3) None ∷ Starts 3 2 ∷
     Comes 4 ∷ Finishes 2 ∷ Takes 1 4 true ∷ []
 
 abbrev pub Refuses : List Event → Type 0
@@ -786,22 +783,22 @@ calls_slow = Instant 0 8 ∷ Instant 2 2 ∷ Instant 4 0 ∷ Instant 7 0 ∷ Ins
 -- the interval that begins at 7 executes 1 until 10, copies 3 out until 11, and ends then
 unfoldable pub history_slow : List Event
 history_slow =
-    Comes 0 ∷ Takes 3 0 false ∷ Begins 0 NoTask NoTask ∷
-    Comes 2 ∷ Finishes 3 ∷ Ends 2 ∷ Takes 1 2 true ∷ Begins 2 (Task 3) NoTask ∷ Starts 3 2 ∷
+    Comes 0 ∷ Takes 3 0 false ∷ Begins 0 None None ∷
+    Comes 2 ∷ Finishes 3 ∷ Ends 2 ∷ Takes 1 2 true ∷ Begins 2 (Some 3) None ∷ Starts 3 2 ∷
     Comes 4 ∷ Finishes 1 ∷
-    Comes 7 ∷ Stops 3 7 ∷ Ends 7 ∷ Begins 7 (Task 1) (Task 3) ∷ Starts 1 7 ∷
+    Comes 7 ∷ Stops 3 7 ∷ Ends 7 ∷ Begins 7 (Some 1) (Some 3) ∷ Starts 1 7 ∷
     Comes 10 ∷ Stops 1 10 ∷
-    Comes 11 ∷ Completes 3 11 ∷ Ends 11 ∷ Begins 11 NoTask (Task 1) ∷
+    Comes 11 ∷ Completes 3 11 ∷ Ends 11 ∷ Begins 11 None (Some 1) ∷
     Comes 12 ∷ Completes 1 12 ∷ Ends 12 ∷ []
 
 -- it ends with the execution, while it copies 3 out; the list does not go on to where 3 should complete
 unfoldable pub ends_copying_out : List Event
 ends_copying_out =
-    Comes 0 ∷ Takes 3 0 false ∷ Begins 0 NoTask NoTask ∷
-    Comes 2 ∷ Finishes 3 ∷ Ends 2 ∷ Takes 1 2 true ∷ Begins 2 (Task 3) NoTask ∷ Starts 3 2 ∷
+    Comes 0 ∷ Takes 3 0 false ∷ Begins 0 None None ∷
+    Comes 2 ∷ Finishes 3 ∷ Ends 2 ∷ Takes 1 2 true ∷ Begins 2 (Some 3) None ∷ Starts 3 2 ∷
     Comes 4 ∷ Finishes 1 ∷
-    Comes 7 ∷ Stops 3 7 ∷ Ends 7 ∷ Begins 7 (Task 1) (Task 3) ∷ Starts 1 7 ∷
-    Comes 10 ∷ Stops 1 10 ∷ Ends 10 ∷ Begins 10 NoTask (Task 1) ∷ []
+    Comes 7 ∷ Stops 3 7 ∷ Ends 7 ∷ Begins 7 (Some 1) (Some 3) ∷ Starts 1 7 ∷
+    Comes 10 ∷ Stops 1 10 ∷ Ends 10 ∷ Begins 10 None (Some 1) ∷ []
 
 unfoldable pub LaterEnd : Type 0
 LaterEnd = AcceptsOf slow_tasks slow_table calls_slow history_slow × (Holds slow_table ends_copying_out → ⊥)
@@ -811,92 +808,92 @@ LaterEnd = AcceptsOf slow_tasks slow_table calls_slow history_slow × (Holds slo
 -- an unmarked job with four intervals, none of which executes one that is not lower: 3 is copied in before 2, and the third is idle
 unfoldable pub unmarked_in_four : List Event
 unmarked_in_four =
-    Comes 0 ∷ Takes 2 0 false ∷ Takes 3 0 false ∷ Begins 0 NoTask NoTask ∷
-    Comes 2 ∷ Finishes 3 ∷ Ends 2 ∷ Begins 2 (Task 3) NoTask ∷ Starts 3 2 ∷
-    Comes 7 ∷ Stops 3 7 ∷ Ends 7 ∷ Begins 7 NoTask (Task 3) ∷
+    Comes 0 ∷ Takes 2 0 false ∷ Takes 3 0 false ∷ Begins 0 None None ∷
+    Comes 2 ∷ Finishes 3 ∷ Ends 2 ∷ Begins 2 (Some 3) None ∷ Starts 3 2 ∷
+    Comes 7 ∷ Stops 3 7 ∷ Ends 7 ∷ Begins 7 None (Some 3) ∷
     Comes 9 ∷ Completes 3 9 ∷
-    Comes 11 ∷ Finishes 2 ∷ Ends 11 ∷ Begins 11 (Task 2) NoTask ∷ Starts 2 11 ∷ []
+    Comes 11 ∷ Finishes 2 ∷ Ends 11 ∷ Begins 11 (Some 2) None ∷ Starts 2 11 ∷ []
 
 -- a marked job with three intervals, of which the second executes a lower one: at 1 the copy-in of 3 is not cancelled
 unfoldable pub marked_in_three : List Event
 marked_in_three =
-    Comes 0 ∷ Takes 3 0 false ∷ Begins 0 NoTask NoTask ∷
+    Comes 0 ∷ Takes 3 0 false ∷ Begins 0 None None ∷
     Comes 1 ∷ Takes 1 1 true ∷
-    Comes 2 ∷ Finishes 3 ∷ Ends 2 ∷ Begins 2 (Task 3) NoTask ∷ Starts 3 2 ∷
+    Comes 2 ∷ Finishes 3 ∷ Ends 2 ∷ Begins 2 (Some 3) None ∷ Starts 3 2 ∷
     Comes 4 ∷ Finishes 1 ∷
-    Comes 7 ∷ Stops 3 7 ∷ Ends 7 ∷ Begins 7 (Task 1) (Task 3) ∷ Starts 1 7 ∷ []
+    Comes 7 ∷ Stops 3 7 ∷ Ends 7 ∷ Begins 7 (Some 1) (Some 3) ∷ Starts 1 7 ∷ []
 
 -- and one with three intervals, of which the second is idle: plan C with an interval in which nobody is copied in
 unfoldable pub marked_behind_idle : List Event
 marked_behind_idle =
-    Comes 0 ∷ Takes 1 0 true ∷ Begins 0 NoTask NoTask ∷
-    Comes 2 ∷ Ends 2 ∷ Begins 2 NoTask NoTask ∷
-    Comes 4 ∷ Finishes 1 ∷ Ends 4 ∷ Begins 4 (Task 1) NoTask ∷ Starts 1 4 ∷ []
+    Comes 0 ∷ Takes 1 0 true ∷ Begins 0 None None ∷
+    Comes 2 ∷ Ends 2 ∷ Begins 2 None None ∷
+    Comes 4 ∷ Finishes 1 ∷ Ends 4 ∷ Begins 4 (Some 1) None ∷ Starts 1 4 ∷ []
 
 -- this one's first two: they are no more than two, and yet in its second the processor idles
 unfoldable pub marked_idles : List Event
 marked_idles =
-    Comes 0 ∷ Takes 1 0 true ∷ Begins 0 NoTask NoTask ∷
-    Comes 2 ∷ Ends 2 ∷ Begins 2 NoTask NoTask ∷ []
+    Comes 0 ∷ Takes 1 0 true ∷ Begins 0 None None ∷
+    Comes 2 ∷ Ends 2 ∷ Begins 2 None None ∷ []
 
 -- plan C with an interval that ends a tick later than M after its begin
 unfoldable pub lasts_long : List Event
 lasts_long =
-    Comes 0 ∷ Takes 1 0 true ∷ Begins 0 NoTask NoTask ∷
-    Comes 8 ∷ Finishes 1 ∷ Ends 8 ∷ Begins 8 (Task 1) NoTask ∷ Starts 1 8 ∷ []
+    Comes 0 ∷ Takes 1 0 true ∷ Begins 0 None None ∷
+    Comes 8 ∷ Finishes 1 ∷ Ends 8 ∷ Begins 8 (Some 1) None ∷ Starts 1 8 ∷ []
 
 -- and one that is open so long: the instant finds it so, and it does not end
 unfoldable pub open_long : List Event
 open_long =
-    Comes 0 ∷ Takes 1 0 true ∷ Begins 0 NoTask NoTask ∷
+    Comes 0 ∷ Takes 1 0 true ∷ Begins 0 None None ∷
     Comes 8 ∷ []
 
 -- an unmarked job that executes in its second interval and completes 2 × M + U + 1 after its taking: no interval is open from 6 to 15
 unfoldable pub completes_behind_two : List Event
 completes_behind_two =
-    Comes 0 ∷ Takes 2 0 false ∷ Begins 0 NoTask NoTask ∷
-    Comes 2 ∷ Finishes 2 ∷ Ends 2 ∷ Begins 2 (Task 2) NoTask ∷ Starts 2 2 ∷
+    Comes 0 ∷ Takes 2 0 false ∷ Begins 0 None None ∷
+    Comes 2 ∷ Finishes 2 ∷ Ends 2 ∷ Begins 2 (Some 2) None ∷ Starts 2 2 ∷
     Comes 6 ∷ Stops 2 6 ∷ Ends 6 ∷
-    Comes 15 ∷ Begins 15 NoTask (Task 2) ∷
+    Comes 15 ∷ Begins 15 None (Some 2) ∷
     Comes 16 ∷ Completes 2 16 ∷ Ends 16 ∷ []
 
 -- one that executes in its third, and completes 3 × M + U + 1 after its taking: none is open from 11 to 23
 unfoldable pub unmarked_late : List Event
 unmarked_late =
-    Comes 0 ∷ Takes 3 0 false ∷ Begins 0 NoTask NoTask ∷
+    Comes 0 ∷ Takes 3 0 false ∷ Begins 0 None None ∷
     Comes 1 ∷ Takes 2 1 false ∷
-    Comes 2 ∷ Finishes 3 ∷ Ends 2 ∷ Begins 2 (Task 3) NoTask ∷ Starts 3 2 ∷
+    Comes 2 ∷ Finishes 3 ∷ Ends 2 ∷ Begins 2 (Some 3) None ∷ Starts 3 2 ∷
     Comes 4 ∷ Finishes 2 ∷
-    Comes 7 ∷ Stops 3 7 ∷ Ends 7 ∷ Begins 7 (Task 2) (Task 3) ∷ Starts 2 7 ∷
+    Comes 7 ∷ Stops 3 7 ∷ Ends 7 ∷ Begins 7 (Some 2) (Some 3) ∷ Starts 2 7 ∷
     Comes 9 ∷ Completes 3 9 ∷
     Comes 11 ∷ Stops 2 11 ∷ Ends 11 ∷
-    Comes 23 ∷ Begins 23 NoTask (Task 2) ∷
+    Comes 23 ∷ Begins 23 None (Some 2) ∷
     Comes 24 ∷ Completes 2 24 ∷ Ends 24 ∷ []
 
 -- and a marked one that completes 2 × M + U + 1 after its taking: none is open from 5 to 15
 unfoldable pub marked_late : List Event
 marked_late =
-    Comes 0 ∷ Takes 1 0 true ∷ Begins 0 NoTask NoTask ∷
-    Comes 2 ∷ Finishes 1 ∷ Ends 2 ∷ Begins 2 (Task 1) NoTask ∷ Starts 1 2 ∷
+    Comes 0 ∷ Takes 1 0 true ∷ Begins 0 None None ∷
+    Comes 2 ∷ Finishes 1 ∷ Ends 2 ∷ Begins 2 (Some 1) None ∷ Starts 1 2 ∷
     Comes 5 ∷ Stops 1 5 ∷ Ends 5 ∷
-    Comes 15 ∷ Begins 15 NoTask (Task 1) ∷
+    Comes 15 ∷ Begins 15 None (Some 1) ∷
     Comes 16 ∷ Completes 1 16 ∷ Ends 16 ∷ []
 
 -- h of job 2 is 1, since 1 has an interval before its own: and yet no execution of 1 starts between, so that this reading of h is smaller
 unfoldable pub between_unstarted : List Event
 between_unstarted =
-    Comes 0 ∷ Takes 1 0 true ∷ Takes 2 0 false ∷ Begins 0 NoTask NoTask ∷
-    Comes 2 ∷ Finishes 1 ∷ Ends 2 ∷ Begins 2 (Task 1) NoTask ∷
+    Comes 0 ∷ Takes 1 0 true ∷ Takes 2 0 false ∷ Begins 0 None None ∷
+    Comes 2 ∷ Finishes 1 ∷ Ends 2 ∷ Begins 2 (Some 1) None ∷
     Comes 4 ∷ Finishes 2 ∷
-    Comes 5 ∷ Stops 1 5 ∷ Ends 5 ∷ Begins 5 (Task 2) (Task 1) ∷ Starts 2 5 ∷ []
+    Comes 5 ∷ Stops 1 5 ∷ Ends 5 ∷ Begins 5 (Some 2) (Some 1) ∷ Starts 2 5 ∷ []
 
 -- and none ends between
 unfoldable pub between_unstopped : List Event
 between_unstopped =
-    Comes 0 ∷ Takes 1 0 true ∷ Takes 2 0 false ∷ Begins 0 NoTask NoTask ∷
-    Comes 2 ∷ Finishes 1 ∷ Ends 2 ∷ Begins 2 (Task 1) NoTask ∷ Starts 1 2 ∷
+    Comes 0 ∷ Takes 1 0 true ∷ Takes 2 0 false ∷ Begins 0 None None ∷
+    Comes 2 ∷ Finishes 1 ∷ Ends 2 ∷ Begins 2 (Some 1) None ∷ Starts 1 2 ∷
     Comes 4 ∷ Finishes 2 ∷
-    Comes 5 ∷ Ends 5 ∷ Begins 5 (Task 2) (Task 1) ∷ Starts 2 5 ∷ []
+    Comes 5 ∷ Ends 5 ∷ Begins 5 (Some 2) (Some 1) ∷ Starts 2 5 ∷ []
 
 abbrev pub FigureRefuses : List Event → Type 0
 FigureRefuses h = Figure plans_table h → ⊥
@@ -962,7 +959,7 @@ calls_one = Instant 0 2 ∷ []
 
 unfoldable pub taken_another : List Event
 taken_another =
-    Comes 0 ∷ Takes 2 0 false ∷ Begins 0 NoTask NoTask ∷ []
+    Comes 0 ∷ Takes 2 0 false ∷ Begins 0 None None ∷ []
 
 -- plan F up to 5, where the release at 5 waits
 unfoldable pub up_to_5 : List Event
@@ -976,8 +973,8 @@ At = Placed 1 plans_table
 -- taking, and one that is skipped and was not handed in; and one that finds one waiting and is not skipped
 unfoldable pub ReleasesRefused : Type 0
 ReleasesRefused =
-    (Balance 1 (handed_in 1 (opening tasks).state calls_one) 0 taken_another → ⊥)
-    × (Balance 2 (handed_in 2 (opening tasks).state calls_one) 0 taken_another → ⊥)
+    (Balance 1 (handed_in 1 (state_opened (opening tasks)) calls_one) 0 taken_another → ⊥)
+    × (Balance 2 (handed_in 2 (state_opened (opening tasks)) calls_one) 0 taken_another → ⊥)
     × (At 0 0 0 [] (Comes 0 ∷ Takes 1 0 true ∷ []) → ⊥)
     × (At 0 2 2 [] (Comes 0 ∷ []) → ⊥)
     × (At 6 2 2 up_to_5 (Comes 6 ∷ Completes 1 6 ∷ Takes 1 6 true ∷ []) → ⊥)
@@ -1003,10 +1000,10 @@ unfoldable pub history_third : List Event
 history_third =
     take 21 history_f ++ (
     Comes 10 ∷ Defers 1 10 ∷
-    Comes 11 ∷ Stops 1 11 ∷ Ends 11 ∷ Begins 11 NoTask (Task 1) ∷
+    Comes 11 ∷ Stops 1 11 ∷ Ends 11 ∷ Begins 11 None (Some 1) ∷
     Comes 12 ∷ Completes 1 12 ∷ Takes 1 12 true ∷
-    Comes 14 ∷ Finishes 1 ∷ Ends 14 ∷ Begins 14 (Task 1) NoTask ∷ Starts 1 14 ∷
-    Comes 17 ∷ Stops 1 17 ∷ Ends 17 ∷ Begins 17 NoTask (Task 1) ∷
+    Comes 14 ∷ Finishes 1 ∷ Ends 14 ∷ Begins 14 (Some 1) None ∷ Starts 1 14 ∷
+    Comes 17 ∷ Stops 1 17 ∷ Ends 17 ∷ Begins 17 None (Some 1) ∷
     Comes 18 ∷ Completes 1 18 ∷ Ends 18 ∷ [])
 
 -- where task 1 has a spacing of s
@@ -1058,18 +1055,18 @@ SpacingsRefused =
 -- the last release by original time: of plan F the one that waited, while it waits and from its taking on
 unfoldable pub LastReleases : Type 0
 LastReleases =
-    (last_released 1 [] ≡ Never)
-    × (last_released 1 (take 8 history_f) ≡ Tick 0)
-    × (last_released 1 up_to_5 ≡ Tick 5)
-    × (last_released 1 history_f ≡ Tick 5)
-    × (last_released 1 history_f' ≡ Tick 6)
-    × (last_released 2 history_f ≡ Never)
+    (last_released 1 [] ≡ None)
+    × (last_released 1 (take 8 history_f) ≡ Some 0)
+    × (last_released 1 up_to_5 ≡ Some 5)
+    × (last_released 1 history_f ≡ Some 5)
+    × (last_released 1 history_f' ≡ Some 6)
+    × (last_released 2 history_f ≡ None)
 
 -- ---- The marks
 
 -- whether task 1 is marked behind some calls
 abbrev pub marked_1 : List Call → Bool
-marked_1 = marked_by 1 (member 1 (opening tasks).state.marked) (opening tasks).state
+marked_1 = marked_by 1 (member 1 (state_opened (opening tasks)).marked) (state_opened (opening tasks))
 
 -- it is as opening reads it, and not behind a mark call on it; one on another task, and one that is refused, change nothing
 unfoldable pub Marks : Type 0
@@ -1081,7 +1078,7 @@ Marks =
 
 -- ---- The entries of intervals
 
-abbrev pub interval : ℕ → ℕ → ℕ → MaybeTask → ℕ → MaybeTask → MaybeTask → ℕ → MaybeTask → IntervalEntry
+abbrev pub interval : ℕ → ℕ → ℕ → Option ℕ → ℕ → Option ℕ → Option ℕ → ℕ → Option ℕ → IntervalEntry
 interval begin end half task work copiedout chosen fate promoted = record {
   begin = begin;
   end = end;
@@ -1104,14 +1101,14 @@ calls_unmarked =
 
 unfoldable pub history_unmarked : List Event
 history_unmarked =
-    Comes 0 ∷ Takes 3 0 false ∷ Begins 0 NoTask NoTask ∷
-    Comes 2 ∷ Finishes 3 ∷ Ends 2 ∷ Takes 2 2 false ∷ Begins 2 (Task 3) NoTask ∷ Starts 3 2 ∷
+    Comes 0 ∷ Takes 3 0 false ∷ Begins 0 None None ∷
+    Comes 2 ∷ Finishes 3 ∷ Ends 2 ∷ Takes 2 2 false ∷ Begins 2 (Some 3) None ∷ Starts 3 2 ∷
     Comes 4 ∷ Finishes 2 ∷ Takes 1 4 false ∷
-    Comes 7 ∷ Stops 3 7 ∷ Ends 7 ∷ Begins 7 (Task 2) (Task 3) ∷ Starts 2 7 ∷
+    Comes 7 ∷ Stops 3 7 ∷ Ends 7 ∷ Begins 7 (Some 2) (Some 3) ∷ Starts 2 7 ∷
     Comes 9 ∷ Completes 3 9 ∷
-    Comes 11 ∷ Stops 2 11 ∷ Finishes 1 ∷ Ends 11 ∷ Begins 11 (Task 1) (Task 2) ∷ Starts 1 11 ∷
+    Comes 11 ∷ Stops 2 11 ∷ Finishes 1 ∷ Ends 11 ∷ Begins 11 (Some 1) (Some 2) ∷ Starts 1 11 ∷
     Comes 12 ∷ Completes 2 12 ∷
-    Comes 14 ∷ Stops 1 14 ∷ Ends 14 ∷ Begins 14 NoTask (Task 1) ∷
+    Comes 14 ∷ Stops 1 14 ∷ Ends 14 ∷ Begins 14 None (Some 1) ∷
     Comes 15 ∷ Completes 1 15 ∷ Ends 15 ∷ []
 
 -- the job of task 1 that is taken behind k events has so many intervals, where h others that are not lower go before it
@@ -1128,9 +1125,9 @@ BoundsMet = Accepts calls_unmarked history_unmarked × Has history_unmarked 12 3
 unfoldable pub PlanEntries : Type 0
 PlanEntries =
     (ended plans_table.priority no_course history_b
-    ≡ interval 0 2 0 NoTask 0 NoTask (Task 3) 1 NoTask
-    ∷ interval 2 7 1 (Task 3) 1 NoTask (Task 2) 3 (Task 1)
-    ∷ interval 7 12 0 (Task 1) 2 (Task 3) (Task 2) 1 NoTask
-    ∷ interval 12 16 1 (Task 2) 1 (Task 1) NoTask 0 NoTask
-    ∷ interval 16 17 0 NoTask 0 (Task 2) NoTask 0 NoTask ∷ [])
-    × (completions history_c ≡ record { task = Task 1; tick = 6 } ∷ [])
+    ≡ interval 0 2 0 None 0 None (Some 3) 1 None
+    ∷ interval 2 7 1 (Some 3) 1 None (Some 2) 3 (Some 1)
+    ∷ interval 7 12 0 (Some 1) 2 (Some 3) (Some 2) 1 None
+    ∷ interval 12 16 1 (Some 2) 1 (Some 1) None 0 None
+    ∷ interval 16 17 0 None 0 (Some 2) None 0 None ∷ [])
+    × (completions history_c ≡ record { task = Some 1; tick = 6 } ∷ [])

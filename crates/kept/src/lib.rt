@@ -5,10 +5,10 @@ ghost use Rattle.dispatcher.specs.Dispatcher.{AnswersKept, CommitsKept};
 ghost use Rattle.kept.specs.Kept.{MarksKept, MarksAllKept};
 
 use dispatcher::Dispatcher;
-use rules::{Answer, MarkAnswer};
+use rules::{CallRefusal, Occurred};
 
 // An instant of the dispatcher behind `d`. On a refusal what stands there is as it was.
-pub fn advance(d: &mut Dispatcher, time: u64, set: u32) -> Answer
+pub fn advance(d: &mut Dispatcher, time: u64, set: u32) -> Result<Occurred, CallRefusal>
     ensures { AnswersKept d.old time set result d.new }
 {
     let cur = *d;
@@ -18,7 +18,7 @@ pub fn advance(d: &mut Dispatcher, time: u64, set: u32) -> Answer
 }
 
 // 9/13: an instant that was enquired about, by its ticket, of the dispatcher behind `d`. On a refusal what stands there is as it was.
-pub fn commit(d: &mut Dispatcher, ticket: u64, time: u64, set: u32) -> Answer
+pub fn commit(d: &mut Dispatcher, ticket: u64, time: u64, set: u32) -> Result<Occurred, CallRefusal>
     ensures { CommitsKept d.old ticket time set result d.new }
 {
     let cur = *d;
@@ -28,7 +28,7 @@ pub fn commit(d: &mut Dispatcher, ticket: u64, time: u64, set: u32) -> Answer
 }
 
 // A mark call on the dispatcher behind `d`. On a refusal what stands there is as it was.
-pub fn mark(d: &mut Dispatcher, task: u8, mark: u8) -> MarkAnswer
+pub fn mark(d: &mut Dispatcher, task: u8, mark: u8) -> Result<(), CallRefusal>
     ensures { MarksKept d.old task mark result d.new }
 {
     let cur = *d;
@@ -38,7 +38,7 @@ pub fn mark(d: &mut Dispatcher, task: u8, mark: u8) -> MarkAnswer
 }
 
 // 10/13: a mark call of a set of tasks on the dispatcher behind `d`. On a refusal what stands there is as it was.
-pub fn mark_all(d: &mut Dispatcher, set: u32, mark: u8) -> MarkAnswer
+pub fn mark_all(d: &mut Dispatcher, set: u32, mark: u8) -> Result<(), CallRefusal>
     ensures { MarksAllKept d.old set mark result d.new }
 {
     let cur = *d;

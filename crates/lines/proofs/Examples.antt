@@ -1,7 +1,7 @@
 -- Document 01's lines, as the definitions give them.
 use mathlib.Core.Path.{◌≡◌, refl}
 use mathlib.Core.List.{[], ◌∷◌}
-use Rattle.lines.specs.Types.{NoTask, Task}
+use Rattle.lines.specs.Types.{None, Some}
 use Rattle.lines.specs.Lines.{digits, decimal, job_line, interval_line}
 
 -- 0 and 1000000000
@@ -16,7 +16,7 @@ unfolding digits decimal job_line
 job_1 = refl
 
 -- plan A: `I 7 12 0 1 2 3 2 1 -`
-interval_7 : interval_line (record { begin = 7; end = 12; half = 0; task = Task 1; work = 2; copiedout = Task 3; chosen = Task 2; fate = 1; promoted = NoTask })
+interval_7 : interval_line (record { begin = 7; end = 12; half = 0; task = Some 1; work = 2; copiedout = Some 3; chosen = Some 2; fate = 1; promoted = None })
     ≡ 73 ∷ 32 ∷ 55 ∷ 32 ∷ 49 ∷ 50 ∷ 32 ∷ 48 ∷ 32 ∷ 49 ∷ 32 ∷ 50 ∷ 32 ∷ 51 ∷ 32 ∷ 50 ∷ 32 ∷ 49 ∷ 32 ∷ 45 ∷ 10 ∷ []
 unfolding digits decimal interval_line
 interval_7 = refl

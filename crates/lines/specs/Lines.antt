@@ -1,10 +1,10 @@
 -- The printed lines, as bytes: a letter, the fields of document 01's entries in decimal and in body order, one space between, `-` for
 -- no task, a newline.
-use Rattle.std.specs.Prelude.{cond, List, [], ◌∷◌, ◌++◌, ℕ, zero, suc, ◌+◌, ◌/◌, ◌%◌, ltb}
+use Rattle.std.specs.Prelude.{cond, List, [], ◌∷◌, ◌++◌, ℕ, zero, suc, ◌+◌, ◌/◌, ◌%◌, ltb, Option, None, Some}
 use Rattle.entries.specs.Entries.{each}
 use Rattle.rules.specs.Answers.{mark_number}
 use Rattle.rules.specs.Entries.{done_entries, closed_entries}
-use Rattle.lines.specs.Types.{MaybeTask, NoTask, Task, JobEntry, IntervalEntry, RecordEntry, MalformedRecord, JobDone, IntervalEnded, ReleaseSkipped, Refusal, NoRefusal, Alone, AtEntry, Due, Never, Tick, Occurred, Answer, Refused, Served, MarkAnswer, MarkRefused, MarkServed}
+use Rattle.lines.specs.Types.{Option, None, Some, JobEntry, IntervalEntry, RecordEntry, JobDone, IntervalEnded, ReleaseSkipped, Refusal, Occurred, Answer, Err, Ok, MarkAnswer}
 use Rattle.table.specs.Refusals.{refusal_number, refusal_place}
 
 -- ---- Fields
@@ -28,13 +28,13 @@ field n = 32 ∷ decimal n
 abbrev pub no_field : List ℕ
 no_field = 32 ∷ 45 ∷ []
 
-abbrev pub task_field : MaybeTask → List ℕ
-task_field NoTask = no_field
-task_field (Task n) = field n
+abbrev pub task_field : Option ℕ → List ℕ
+task_field None = no_field
+task_field (Some n) = field n
 
-abbrev pub due_field : Due → List ℕ
-due_field Never = no_field
-due_field (Tick t) = field t
+abbrev pub due_field : Option ℕ → List ℕ
+due_field None = no_field
+due_field (Some t) = field t
 
 abbrev pub newline : List ℕ
 newline = 10 ∷ []
@@ -63,7 +63,6 @@ skipped_line task time = timed_line 83 task time
 
 -- of an entry of a record: no bytes where it is refused
 abbrev pub line_of : RecordEntry → List ℕ
-line_of (MalformedRecord n) = []
 line_of (JobDone e) = job_line e
 line_of (IntervalEnded e) = interval_line e
 line_of (ReleaseSkipped r) = skipped_line r.task r.time
@@ -75,7 +74,7 @@ listed_line task time = timed_line 76 task time
 -- ---- Refusals
 
 -- R: the number and the place of a refused input, 0 where there is no place
-unfoldable pub refused_input_line : Refusal → List ℕ
+unfoldable pub refused_input_line : Option Refusal → List ℕ
 refused_input_line r = 82 ∷ (field (refusal_number r) ++ (field (refusal_place r) ++ newline))
 
 -- R: the number alone of a refused call
@@ -113,18 +112,17 @@ unfoldable pub shown_lines : Occurred → ℕ → List ℕ
 shown_lines o ticket = each line_of (done_entries o.done ++ closed_entries o.closed []) ++ enquiry_line o ticket
 
 abbrev pub instant_lines : Answer → List ℕ
-instant_lines (Refused n) = refused_call_line n
-instant_lines (Served o) = served_lines o
+instant_lines (Err n) = refused_call_line n
+instant_lines (Ok o) = served_lines o
 
 abbrev pub enquiry_lines : Answer → ℕ → List ℕ
-enquiry_lines (Refused n) ticket = refused_call_line n
-enquiry_lines (Served o) ticket = shown_lines o ticket
+enquiry_lines (Err n) ticket = refused_call_line n
+enquiry_lines (Ok o) ticket = shown_lines o ticket
 
 abbrev pub mark_lines : MarkAnswer → List ℕ
-mark_lines MarkServed = marked_line
-mark_lines (MarkRefused n) = refused_call_line (mark_number (MarkRefused n))
+mark_lines (Ok x) = marked_line
+mark_lines (Err n) = refused_call_line (mark_number (Err n))
 
-abbrev pub opening_lines : Refusal → List ℕ
-opening_lines NoRefusal = opened_line
-opening_lines (Alone n) = refused_input_line (Alone n)
-opening_lines (AtEntry n at) = refused_input_line (AtEntry n at)
+abbrev pub opening_lines : Option Refusal → List ℕ
+opening_lines None = opened_line
+opening_lines (Some r) = refused_input_line (Some r)

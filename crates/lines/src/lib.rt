@@ -7,8 +7,8 @@ ghost use Rattle.rules.specs.Entries.{done_entries, closed_entries};
 ghost use Rattle.lines.specs.Lines.{decimal, field, task_field, due_field, no_field, newline, job_line, interval_line, timed_line, skipped_line, listed_line, line_of, answer_line, enquiry_line, served_lines, shown_lines, refused_input_line, refused_call_line, cut_short_line, instant_lines, enquiry_lines, mark_lines, opening_lines};
 ghost use Rattle.lines.specs.Text.{text_of, shown, room, written, Appended, Prints};
 
-use entries::{IntervalEntry, JobEntry, MaybeTask};
-use rules::{Answer, Closing, Done, Due, MarkAnswer, Occurred};
+use entries::{IntervalEntry, JobEntry};
+use rules::{Closing, Occurred};
 use table::Refusal;
 
 // A text: the first `len` of the bytes. All lines of one answer fit: a job's line takes at most 73 bytes, an interval's 72, and the
@@ -71,23 +71,23 @@ impl Text {
         self.byte(b' ').byte(b'-')
     }
 
-    fn task_field(self, task: MaybeTask) -> Text
+    fn task_field(self, task: Option<u8>) -> Text
         requires { self.len + 4 ≤ 224 }
         ensures { Appended self result (task_field task) 4 }
     {
         match task {
-            MaybeTask::NoTask => self.no_field(),
-            MaybeTask::Task(n) => self.byte_field(n),
+            None => self.no_field(),
+            Some(n) => self.byte_field(n),
         }
     }
 
-    fn due_field(self, due: Due) -> Text
+    fn due_field(self, due: Option<u64>) -> Text
         requires { self.len + 21 ≤ 224 }
         ensures { Appended self result (due_field due) 21 }
     {
         match due {
-            Due::Never => self.no_field(),
-            Due::Tick(time) => self.field(time),
+            None => self.no_field(),
+            Some(time) => self.field(time),
         }
     }
 
@@ -117,13 +117,13 @@ impl Text {
         engine.task_field(promoted).byte(b'\n')
     }
 
-    fn done(self, done: Done) -> Text
+    fn done(self, done: Option<JobEntry>) -> Text
         requires { self.len + 73 ≤ 224 }
         ensures { Appended self result (each line_of (done_entries done)) 73 }
     {
         match done {
-            Done::NoJob => self,
-            Done::Job(e) => self.job(e),
+            None => self,
+            Some(e) => self.job(e),
         }
     }
 
@@ -225,7 +225,7 @@ pub fn listed_line(task: u8, time: u64) -> Text
 }
 
 // R: an input refused.
-pub fn refused_input_line(refusal: Refusal) -> Text
+pub fn refused_input_line(refusal: Option<Refusal>) -> Text
     ensures { Prints result (refused_input_line refusal) }
 {
     let number = table::number_of(refusal);
@@ -269,52 +269,50 @@ fn shown_lines(o: Occurred, ticket: u64) -> Text
     empty().done(done).closing(closed).enquiry(o, ticket)
 }
 
-// The lines of an instant's answer.
-pub fn instant_lines(answer: Answer) -> Text
+// The lines of an instant's answer, of which the refusal is a number.
+pub fn instant_lines(answer: Result<Occurred, u8>) -> Text
     ensures { Prints result (instant_lines answer) }
 {
     match answer {
-        Answer::Refused(number) => refused_call_line(number),
-        Answer::Served(o) => served_lines(o),
+        Err(number) => refused_call_line(number),
+        Ok(o) => served_lines(o),
     }
 }
 
 // The lines of an enquiry: what the instant would answer, with its ticket, or the refusal.
-pub fn enquiry_lines(answer: Answer, ticket: u64) -> Text
+pub fn enquiry_lines(answer: Result<Occurred, u8>, ticket: u64) -> Text
     ensures { Prints result (enquiry_lines answer ticket) }
 {
     match answer {
-        Answer::Refused(number) => refused_call_line(number),
-        Answer::Served(o) => shown_lines(o, ticket),
+        Err(number) => refused_call_line(number),
+        Ok(o) => shown_lines(o, ticket),
     }
 }
 
 // The line of a mark call's answer.
-pub fn mark_lines(answer: MarkAnswer) -> Text
+pub fn mark_lines(answer: Result<(), u8>) -> Text
     ensures { Prints result (mark_lines answer) }
 {
     match answer {
-        MarkAnswer::MarkRefused(number) => refused_call_line(number),
-        MarkAnswer::MarkServed => letter_line(b'M'),
+        Err(number) => refused_call_line(number),
+        Ok(()) => letter_line(b'M'),
     }
 }
 
 // The line of an opening.
-pub fn opening_lines(refusal: Refusal) -> Text
+pub fn opening_lines(refusal: Option<Refusal>) -> Text
     ensures { Prints result (opening_lines refusal) }
 {
     match refusal {
-        Refusal::NoRefusal => letter_line(b'O'),
-        Refusal::Alone(_) => refused_input_line(refusal),
-        Refusal::AtEntry(_, _) => refused_input_line(refusal),
+        None => letter_line(b'O'),
+        Some(_) => refused_input_line(refusal),
     }
 }
 
 fn shown_len(text: Text) -> usize
     ensures { (result ≡ length (shown text)) × (result ≤ 224) }
 {
-    let n = text.len;
-    if n < 224 { n } else { 224 }
+    text.len.min(224)
 }
 
 // The text at the start of `out`, and how many bytes were written: none if `out` is too short.
@@ -325,10 +323,6 @@ pub fn put(text: Text, out: &mut [u8]) -> usize
     if out.len() < n {
         return 0;
     }
-    let mut i = 0;
-    while i < n {
-        out[i] = text.bytes[i];
-        i += 1;
-    }
+    out[..n].copy_from_slice(&text.bytes[..n]);
     n
 }

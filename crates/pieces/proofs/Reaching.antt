@@ -18,7 +18,7 @@ use Rattle.rules.specs.Entries.{entries}
 use Rattle.rules.specs.Steps.{Stands}
 use Rattle.rules.specs.Kept.{Kept, kept, by_task, Beside, read}
 use Rattle.dispatcher.specs.Dispatcher.{kept_of, beside_of, state_of}
-use Rattle.run.specs.Types.{Release, RecordEntry, State, Tick}
+use Rattle.run.specs.Types.{Release, RecordEntry, State, Some}
 use Rattle.run.specs.declared.Advanced.{Advanced}
 use Rattle.dispatcher.specs.declared.Dispatcher.{Dispatcher}
 use Rattle.pieces.specs.declared.Piece.{Piece}
@@ -66,7 +66,7 @@ bytes_most (m ∷ ms) =
     )
 
 pub one_more : (d : State) (rs : List Release) (ms : List Moment) (e : State) (es : List Release) (t : ℕ) {d' : State} {rs' : List Release} → Leads d rs ms e es
-    → next_time e es ≡ Tick t → at_g e t (released_at t es) ≡ d' → released_after t es ≡ rs' → Leads d rs (ms ++ (moment e t (released_at t es) ∷ [])) d' rs'
+    → next_time e es ≡ Some t → at_g e t (released_at t es) ≡ d' → released_after t es ≡ rs' → Leads d rs (ms ++ (moment e t (released_at t es) ∷ [])) d' rs'
 unfolding Leads
 one_more d rs [] e es t {d'} {rs'} h n x y =
     subst (λ (z : State). Leads z rs (moment e t (released_at t es) ∷ []) d' rs') (sym h.0)
@@ -88,7 +88,7 @@ along d rs (m ∷ ms) d' rs' h k =
     more : k + length (m ∷ ms) ≡ suc (k + length ms)
     more = omega arith
 
-    first : (n : ℕ) → next_time d rs ≡ Tick m.time
+    first : (n : ℕ) → next_time d rs ≡ Some m.time
         → run (suc n) d rs ≡ moment d m.time (released_at m.time rs) ∷ run n (at_g d m.time (released_at m.time rs)) (released_after m.time rs)
     first n e = unfold run in rw (e, run)
 
@@ -110,7 +110,7 @@ module _ (rest : List ℕ) (at : ℕ) {k : Kept} {b : Beside} {out : List ℕ} {
     pub steps_made : Steps x.time (released_at x.time (releases_at rest at)) k b out x.size k' b' out'
     steps_made = with_set (ap (released_at x.time) (in_part rest at)) step.steps
 
-    pub next_made : next_time (read k b) (releases_at rest at) ≡ Tick x.time
+    pub next_made : next_time (read k b) (releases_at rest at) ≡ Some x.time
     next_made = ⊎_elim (λ e. e) (λ z. absurd (on z.0)) next_is.is
 
     pub behind_made : released_after x.time (releases_at rest at) ≡ releases_at rest (at + x.read)

@@ -1,10 +1,11 @@
 -- A run in pieces: the moments that are made one after the other from a state on, and where they lead.
 use Rattle.std.specs.Prelude.{◌≡◌, ◌⊎◌, ◌<◌, length, ◌∷◌, ◌++◌, ◌+◌, ◌-◌, ◌^◌, ◌≤◌}
+use Rattle.std.specs.List.{FoldsTo, concat}
 use Rattle.entries.specs.Entries.{laid}
 use Rattle.entries.specs.Limits.{instant_most}
 use Rattle.rules.specs.Steps.{Stands}
 use Rattle.dispatcher.specs.Dispatcher.{state_of}
-use Rattle.run.specs.Types.{true, false, List, [], ℕ, Release, State, Tick}
+use Rattle.run.specs.Types.{true, false, List, [], ℕ, Release, State, Some}
 use Rattle.dispatcher.specs.declared.Dispatcher.{Dispatcher}
 use Rattle.pieces.specs.declared.Piece.{Piece}
 use Rattle.run.specs.Listed.{releases_at}
@@ -15,7 +16,7 @@ use Rattle.run.specs.Run.{Moment, released_at, released_after, next_time, moment
 unfoldable pub Leads : State → List Release → List Moment → State → List Release → Type 0
 Leads d rs [] d' rs' = (d ≡ d') × (rs ≡ rs')
 Leads d rs (m ∷ ms) d' rs' =
-    (next_time d rs ≡ Tick m.time) × (m ≡ moment d m.time (released_at m.time rs))
+    (next_time d rs ≡ Some m.time) × (m ≡ moment d m.time (released_at m.time rs))
     × Leads m.state (released_after m.time rs) ms d' rs'
 
 -- What a piece of a run is: the moments that were made lead from the dispatcher handed in, with the releases from the slice's start on, to
@@ -36,3 +37,17 @@ pub record Makes (rest : List ℕ) (d : Dispatcher) (budget : ℕ) (out : List �
   pub stopped : x.ended ≡ false → (x.left ≡ 0) ⊎ (length out < x.size + instant_most)
   pub left_is : x.ended ≡ false → x.left + length moments ≡ budget
   pub few : x.left + length moments ≤ budget
+
+-- A run is handed on in pieces: a closure was called on one after the other. One behind the other they are the bytes of moments that lead from a state on,
+-- with the releases that are left, until the budget is spent or no instant is left before the last tick.
+pub record HandsOn {F : Type 0} (Calls : F → List ℕ → F → Type 0) (d : State) (rs : List Release) (budget : ℕ) (first : F) : Type 0 where
+  pub last : F
+  pub pieces : List (List ℕ)
+  pub called : FoldsTo Calls first pieces last
+  pub moments : List Moment
+  pub bytes : concat pieces ≡ record_bytes moments
+  pub state : State
+  pub releases : List Release
+  pub leads : Leads d rs moments state releases
+  pub few : length moments ≤ budget
+  pub all : (length moments ≡ budget) ⊎ Stands (2 ^ 64 - 1) (next_time state releases)

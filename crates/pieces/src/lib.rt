@@ -1,7 +1,12 @@
-// A run in pieces: the one loop over its instants.
+// A run in pieces: the one loop over its instants, and the one over its pieces.
 #![tactic(auto)]
 
-ghost use Rattle.pieces.specs.Pieces.{Makes};
+ghost use Rattle.std.specs.Prelude.{◌≤◌, List, ℕ, length, Ok, Err, IfOk, IfErr};
+ghost use Rattle.std.specs.Fn.{CalledAt};
+ghost use Rattle.entries.specs.Limits.{instant_most};
+ghost use Rattle.dispatcher.specs.Dispatcher.{state_of};
+ghost use Rattle.run.specs.Listed.{releases_at};
+ghost use Rattle.pieces.specs.Pieces.{Makes, HandsOn};
 
 use dispatcher::Dispatcher;
 use entries::limits::INSTANT_MOST;
@@ -78,4 +83,34 @@ pub fn next_piece(rest: &[u8], d: Dispatcher, budget: usize, out: &mut [u8]) -> 
         left,
         ended,
     }
+}
+
+// The run from the dispatcher `d` on, with the releases in `rest` and at most `budget` instants: its bytes are handed to `take`, piece by
+// piece, by way of `out`, until it fails. No instant is made where there may be no room for one.
+pub fn each_piece<E, F: FnMut(&[u8]) -> Result<(), E>>(
+    rest: &[u8],
+    d: Dispatcher,
+    budget: usize,
+    out: &mut [u8],
+    mut take: F,
+) -> Result<(), E>
+    requires { F.IsAlwaysCallable take }
+    ensures handed { instant_most ≤ length out.old → IfOk result (λ _. HandsOn (λ f piece g. CalledAt F.FnMut f piece (Ok tt) g)
+        (state_of d) (releases_at rest.now 0) budget take) }
+    ensures failed { IfErr result (λ e. (f : F) × (piece : List ℕ) × (g : F) × CalledAt F.FnMut f piece (Err e) g) }
+{
+    if out.len() < INSTANT_MOST {
+        return Ok(());
+    }
+    let mut state = d;
+    let mut at = 0;
+    let mut left = budget;
+    while left != 0 {
+        let x = next_piece(&rest[at..], state, left, out);
+        take(&out[..x.size])?;
+        at += x.read;
+        left = x.left;
+        state = x.state;
+    }
+    Ok(())
 }

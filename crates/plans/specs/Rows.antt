@@ -1,12 +1,13 @@
 -- What is handed in and what must come of it: the rows of a table of examples, and what the definitions make of each.
 use Rattle.std.specs.Prelude.{cond, List, [], ◌∷◌, ◌++◌, ℕ, replicate}
+use Rattle.std.specs.Result.{result_err}
 use Rattle.sets.specs.Sets.{insert}
 use Rattle.rules.specs.Types.{Phase, Between, Within, State}
 use Rattle.rules.specs.With.{with_waiting}
 use Rattle.rules.specs.declared.Call.{Call}
 use Rattle.rules.specs.declared.Occurred.{Occurred}
 use Rattle.rules.specs.Instant.{occurred}
-use Rattle.rules.specs.Calls.{Opening, opening, row, serves, after_call}
+use Rattle.rules.specs.Calls.{opening, state_opened, row, serves, after_call}
 use Rattle.rules.specs.Answers.{due_values}
 use Rattle.guarantees.specs.History.{after_calls}
 use Rattle.run.specs.Run.{record_bytes}
@@ -67,13 +68,13 @@ found (OfDump s size) =
     let w : Written = dumped s (replicate size 170) in
     record { numbers = outcome_number w.outcome ∷ outcome_value w.outcome ∷ []; memory = w.memory }
 found (OfCalls s cs) =
-    let o : Opening = opening s in
+    let d : State = state_opened (opening s) in
     record {
-      numbers = refusal_number o.refusal ∷ refusal_place o.refusal ∷ called o.state cs;
-      memory = record_bytes (answers o.state cs);
+      numbers = refusal_number (result_err (opening s)) ∷ refusal_place (result_err (opening s)) ∷ called d cs;
+      memory = record_bytes (answers d cs);
     }
 found (OfPut s before n t cs) =
-    let d : State = with_put (after_calls (opening s).state before) n t in
+    let d : State = with_put (after_calls (state_opened (opening s)) before) n t in
     record { numbers = called d cs ++ (candidates_in (after_calls d cs).phase ∷ []); memory = record_bytes (answers d cs) }
 
 unfoldable pub all_found : List Row → List Result

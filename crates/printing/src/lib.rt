@@ -1,47 +1,46 @@
 // Lines printed on standard output, one by one or gathered in a lent slice that is printed where it is full.
 #![tactic(auto)]
 
-ghost use Rattle.std.specs.Prelude.{◌≡◌, true, ◌-◌, length};
+ghost use Rattle.std.specs.Prelude.{◌≡◌, ◌≤◌, ◌-◌, length, IfOk, IsOk};
 ghost use Rattle.lines.specs.Text.{shown};
-ghost use Rattle.printing.specs.Gathering.{Gathers};
+ghost use Rattle.printing.specs.Gathering.{Gathers, gathered};
 
 use lines::Text;
+use streams::Failed;
+use table::Refusal;
 
-// How many bytes are kept to be printed, and whether no write failed.
-#[derive(Clone, Copy)]
-pub struct Kept {
-    pub len: usize,
-    pub good: bool,
+// The bytes of a text.
+pub fn shown(text: &Text) -> &[u8]
+    ensures { result.now ≡ shown text.now }
+{
+    &text.bytes[..text.len.min(text.bytes.len())]
 }
 
-// Prints a text, and answers whether that was possible.
-pub fn print_text(rt: HostRuntime, name: &[u8], text: Text) -> bool
-    ensures { length (shown text) ≡ 0 → result ≡ true }
+// Prints a text.
+pub fn print_text(rt: HostRuntime, text: Text) -> Result<(), Failed>
+    ensures { length (shown text) ≡ 0 → IsOk result }
 {
-    let mut out = [0u8; 224];
-    let count = lines::put(text, &mut out);
-    streams::write_front(rt, name, &out, count)
+    streams::write(rt, shown(&text))
 }
 
-// How many bytes of a slice there are behind its first `len`.
-fn behind(all: usize, len: usize) -> usize
-    ensures { result ≡ all - len }
-{
-    if len < all { all - len } else { 0 }
+// Says on standard error why an input is refused, behind who says it.
+pub fn tell_refusal(rt: HostRuntime, who: &[u8], refusal: Refusal) {
+    streams::tell(rt, who, shown(&lines::refused_input_line(Some(refusal))));
 }
 
-// Puts a text behind the first `len` bytes of `out`, or, where there may be no room behind them, prints those and puts it at the front.
-pub fn gather(rt: HostRuntime, name: &[u8], out: &mut [u8], len: usize, text: Text) -> Kept
-    ensures { Gathers out.old len text result out.new }
+// Puts a text behind the first `len` bytes of `out`, or, where there may be no room behind them, prints those and puts it at the front, and
+// answers how many bytes are kept to be printed then. The text is put in its place also where the others cannot be printed.
+pub fn gather(rt: HostRuntime, out: &mut [u8], len: usize, text: Text) -> Result<usize, Failed>
+    ensures kept { IfOk result (λ kept. Gathers out.old len text kept) }
+    ensures holds { out.new ≡ gathered out.old len text }
+    ensures nothing_printed { 224 ≤ length out.old - len → IsOk result }
 {
-    if behind(out.len(), len) < 224 {
-        let good = streams::write_front(rt, name, out, len);
+    if out.len().saturating_sub(len) < 224 {
+        let printed = streams::write_front(rt, out, len);
         let put = lines::put(text, out);
-        return Kept { len: put, good };
+        printed?;
+        return Ok(put);
     }
     let put = lines::put(text, &mut out[len..]);
-    Kept {
-        len: len + put,
-        good: true,
-    }
+    Ok(len + put)
 }

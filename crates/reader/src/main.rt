@@ -7,12 +7,12 @@
 // the run of their list.
 #![tactic(auto)]
 
-ghost use Rattle.std.specs.Prelude.{◌≤◌, length};
+ghost use Rattle.std.specs.Prelude.{◌≤◌, length, IfOk};
 
 use entries::{Entry, RELEASE_SIZE, limits};
 use lines::Text;
 use reading::Noted;
-use streams::Source;
+use streams::{Failed, ReadFailed, Source};
 use table::{Head, Refusal};
 
 // A piece of the record, and room for many lines.
@@ -28,90 +28,56 @@ const PIECE: usize = 4096;
 // As many times as no input fills the buffer. A proved loop has to end, and nothing says that the input does.
 const TURNS: usize = 1099511627776;
 
-// What is noted, how many bytes the record has, its refusal, and whether no read or write failed.
+// What is noted, how many bytes the record has, and its refusal.
 #[derive(Clone, Copy)]
 struct Found {
     noted: Noted,
     size: usize,
-    refusal: Refusal,
-    good: bool,
+    refusal: Option<Refusal>,
 }
 
 // What is noted with a piece, how many bytes its whole entries have, and how many of those behind them are carried over; the number by
-// which the entry there is refused; whether the input has ended, and whether no read or write failed.
+// which the entry there is refused, if it is; and whether the input has ended.
 #[derive(Clone, Copy)]
 struct Piece {
     noted: Noted,
     taken: usize,
     carried: usize,
-    number: u8,
+    fault: Option<u8>,
     ended: bool,
-    good: bool,
 }
 
-// Whether the bytes are the same, and whether no read failed.
-#[derive(Clone, Copy)]
-struct Held {
-    same: bool,
-    good: bool,
+fn print_refusal(rt: HostRuntime, refusal: Refusal) -> Result<(), Failed> {
+    printing::print_text(rt, lines::refused_input_line(Some(refusal)))
 }
 
-fn print(rt: HostRuntime, text: Text) {
-    printing::print_text(rt, b"reader", text);
-}
-
-fn print_refusal(rt: HostRuntime, refusal: Refusal) {
-    print(rt, lines::refused_input_line(refusal));
-}
-
-// The line of the release entry at a place of a list.
-fn listed_at(list: &[u8], at: usize) -> Text {
-    let Entry::ReleaseEntry(release) = entries::entry_at(list, at) else {
-        return lines::no_line();
-    };
-    lines::listed_line(release.task, release.time)
-}
-
-// Prints the releases of a list from a place on, as far as they can be printed.
-fn print_list(rt: HostRuntime, list: &[u8], from: usize, out: &mut [u8]) {
-    let mut len = 0;
-    let mut at = from;
-    while at < list.len() && RELEASE_SIZE <= list.len() - at {
-        let line = listed_at(list, at);
-        let kept = printing::gather(rt, b"reader", out, len, line);
-        if !kept.good {
-            return;
-        }
-        len = kept.len;
-        at += RELEASE_SIZE;
+// The line of a release entry.
+fn listed(bytes: &[u8]) -> Text {
+    match entries::entry_at(bytes, 0) {
+        Ok(Entry::ReleaseEntry(release)) => lines::listed_line(release.task, release.time),
+        _ => lines::no_line(),
     }
-    streams::write_front(rt, b"reader", out, len);
+}
+
+// Prints the releases of a list, as far as they can be printed.
+fn print_list(rt: HostRuntime, list: &[u8], out: &mut [u8]) -> Result<(), Failed> {
+    let mut len = 0;
+    for bytes in list.chunks_exact(RELEASE_SIZE) {
+        len = printing::gather(rt, out, len, listed(bytes))?;
+    }
+    streams::write_front(rt, out, len)
 }
 
 // ---- The first time
 
-// Where a read or write failed.
-fn failed(noted: Noted) -> Piece
-    ensures { (result.noted.count ≤ noted.count) × (result.taken ≤ 0) × (result.carried ≤ 0) }
-{
-    Piece {
-        noted,
-        taken: 0,
-        carried: 0,
-        number: 0,
-        ended: true,
-        good: false,
-    }
-}
-
 // Moves the bytes behind the whole entries to the front, and answers how many there are: none where no entry is refused.
-fn carry(input: &mut [u8], refusal: Refusal, end: usize) -> usize
+fn carry(input: &mut [u8], refusal: Option<Refusal>, end: usize) -> usize
     ensures { (result ≤ end) × (result ≤ length input.old) }
 {
-    if table::number_of(refusal) == 0 {
+    let Some(refusal) = refusal else {
         return 0;
-    }
-    streams::keep(input, table::place_of(refusal), end)
+    };
+    streams::keep(input, refusal.place(), end)
 }
 
 // Reads a piece behind the `kept` bytes that were carried over. Where `place` bytes of the record, more than any list yields, are before
@@ -124,151 +90,143 @@ fn next_piece(
     kept: usize,
     keys: &mut [u64],
     noted: Noted,
-) -> Piece
-    requires kept_in_bounds { kept ≤ length input.old }
-    requires count_in_bounds { noted.count ≤ length keys.old }
-    ensures count_in_bounds_2 { (result.noted.count ≤ length keys.new) × (result.taken ≤ length input.old) }
-    ensures carried_in_bounds { result.carried ≤ length input.old }
+) -> Result<Piece, Failed>
+    requires kept_fits { kept ≤ length input.old }
+    requires noted_fits { noted.count ≤ length keys.old }
+    ensures noted_fits { IfOk result (λ x. x.noted.count ≤ length keys.new) }
+    ensures carried_fits { IfOk result (λ x. x.carried ≤ length input.old) }
 {
-    let got = streams::fill(rt, b"reader", input, kept);
-    if !got.good {
-        return failed(noted);
-    }
-    let end = got.count;
-    if place <= limits::RECORD_MOST
-        && !streams::put_aside(rt, b"reader", source, &input[kept..end])
-    {
-        return failed(noted);
+    let end = streams::fill(rt, input, kept)?;
+    if place <= limits::RECORD_MOST {
+        streams::put_aside(source, &input[kept..end])?;
     }
     let found = reading::collect(&input[..end], noted, keys);
-    let more = found.noted;
-    let refusal = found.refusal;
-    let carried = carry(input, refusal, end);
-    Piece {
-        noted: more,
+    let carried = carry(input, found.refusal, end);
+    Ok(Piece {
+        noted: found.noted,
         taken: end - carried,
         carried,
-        number: table::number_of(refusal),
+        fault: found.refusal.map(Refusal::number),
         ended: end < input.len(),
-        good: true,
-    }
+    })
 }
 
 // The refusal of a record with whole entries of so many bytes: that of the entry behind them, else 18 where no list can yield it.
-fn refusal_of(noted: Noted, size: usize, number: u8) -> Refusal {
-    if number != 0 {
-        return Refusal::AtEntry(number, size);
+fn refusal_of(noted: Noted, size: usize, fault: Option<u8>) -> Option<Refusal> {
+    if let Some(number) = fault {
+        return Some(Refusal::AtEntry(number, size));
     }
     if !noted.possible || limits::RECORD_MOST < size {
-        return Refusal::Alone(18);
+        return Some(Refusal::Alone(18));
     }
-    Refusal::NoRefusal
+    None
 }
 
 // The releases of the record on standard input, or its refusal. An entry that is cut short is refused where the input has ended.
-fn collect(rt: HostRuntime, source: &Source, input: &mut [u8], keys: &mut [u64]) -> Found
-    requires { length input.old ≤ 8192 }
-    ensures { result.noted.count ≤ length keys.new }
+fn collect(
+    rt: HostRuntime,
+    source: &Source,
+    input: &mut [u8],
+    keys: &mut [u64],
+) -> Result<Found, Failed>
+    ensures { IfOk result (λ found. found.noted.count ≤ length keys.new) }
 {
     let mut noted = Noted {
         count: 0,
         possible: true,
     };
-    let mut size = 0;
+    let mut size: usize = 0;
     let mut kept = 0;
-    let mut turns = TURNS;
-    while turns > 0 {
-        let x = next_piece(rt, source, size, input, kept, keys, noted);
+    for _ in 0..TURNS {
+        let x = next_piece(rt, source, size, input, kept, keys, noted)?;
         noted = x.noted;
-        size += x.taken;
-        if x.ended || x.number == 2 {
-            return Found {
+        size = size.saturating_add(x.taken);
+        if x.ended || x.fault == Some(2) {
+            return Ok(Found {
                 noted,
                 size,
-                refusal: refusal_of(noted, size, x.number),
-                good: x.good,
-            };
+                refusal: refusal_of(noted, size, x.fault),
+            });
         }
         kept = x.carried;
-        turns -= 1;
     }
-    Found {
+    Ok(Found {
         noted,
         size,
-        refusal: Refusal::Alone(18),
-        good: true,
-    }
+        refusal: Some(Refusal::Alone(18)),
+    })
 }
 
 // ---- The second time
 
-fn differs(good: bool) -> Held {
-    Held { same: false, good }
+// Why the second time does not come to the record's end: a call failed, or the record is another one than the run's.
+#[derive(Clone, Copy)]
+enum Stopped {
+    Failed(Failed),
+    Differs,
 }
 
-// Whether the next bytes of the record are these.
-fn next_are(rt: HostRuntime, source: &Source, made: &[u8], input: &mut [u8]) -> Held {
+impl From<Failed> for Stopped {
+    fn from(failed: Failed) -> Stopped {
+        Stopped::Failed(failed)
+    }
+}
+
+impl From<ReadFailed> for Stopped {
+    fn from(e: ReadFailed) -> Stopped {
+        Stopped::Failed(e.failed)
+    }
+}
+
+// Reads the next bytes of the record, of which there are `rest`: they have to be these.
+fn read_same(
+    source: &Source,
+    made: &[u8],
+    rest: &mut usize,
+    input: &mut [u8],
+) -> Result<(), Stopped> {
     let n = made.len();
-    if input.len() < n {
-        return differs(true);
+    if *rest < n || input.len() < n {
+        return Err(Stopped::Differs);
     }
-    let got = streams::read_again(rt, b"reader", source, &mut input[..n]);
-    let count = got.count;
-    Held {
-        same: reading::same(&input[..count], made),
-        good: got.good,
+    let count = streams::read_again(source, &mut input[..n])?;
+    if !reading::same(&input[..count], made) {
+        return Err(Stopped::Differs);
     }
+    *rest -= n;
+    Ok(())
 }
 
-// Whether the record, which has `size` bytes, is that of the run.
+// Reads the record, which has `size` bytes: it has to be that of the run.
 fn replays(
-    rt: HostRuntime,
     source: &Source,
     list: &[u8],
     part: Head,
     size: usize,
     input: &mut [u8],
-) -> Held
+) -> Result<(), Stopped>
     requires { part.end ≤ length list.now }
 {
     let mut made = [0u8; PIECE];
-    let table = part.table;
-    let mut d = dispatcher::opened(table, part.marked);
-    let mut at = part.end;
-    let mut left = limits::BUDGET_MOST;
     let mut rest = size;
-    while left != 0 {
-        let x = pieces::next_piece(&list[at..], d, left, &mut made);
-        let n = x.size;
-        if rest < n {
-            return differs(true);
-        }
-        let held = next_are(rt, source, &made[..n], input);
-        if !held.same {
-            return held;
-        }
-        rest -= n;
-        at += x.read;
-        left = x.left;
-        d = x.state;
-    }
-    Held {
-        same: rest == 0,
-        good: true,
+    let releases = &list[part.end..];
+    let d = dispatcher::opened(part.table, part.marked);
+    pieces::each_piece(releases, d, limits::BUDGET_MOST, &mut made, |piece| {
+        read_same(source, piece, &mut rest, input)
+    })?;
+    if rest == 0 {
+        Ok(())
+    } else {
+        Err(Stopped::Differs)
     }
 }
 
-// Whether an input is accepted, and its run's record is the one that is read again.
-fn yields(rt: HostRuntime, source: &Source, list: &[u8], size: usize, input: &mut [u8]) -> Held {
-    if !streams::go_back(rt, b"reader", source) {
-        return differs(false);
-    }
-    let part = run::check_file(list);
-    let refusal = part.refusal;
-    match refusal {
-        Refusal::NoRefusal => replays(rt, source, list, part, size, input),
-        Refusal::Alone(_) => differs(true),
-        Refusal::AtEntry(_, _) => differs(true),
+// Reads the record once more: the input has to be accepted, and the record to be its run's.
+fn yields(source: &Source, list: &[u8], size: usize, input: &mut [u8]) -> Result<(), Stopped> {
+    streams::go_back(source)?;
+    match run::check_file(list) {
+        Ok(part) => replays(source, list, part, size, input),
+        Err(_) => Err(Stopped::Differs),
     }
 }
 
@@ -283,71 +241,49 @@ fn print_if_yielded(
     keys: &mut [u64],
     list: &mut [u8],
     input: &mut [u8],
-) {
+) -> Result<(), Failed> {
     reading::sort(keys);
     let end = reading::rebuild(tasks, keys, list);
-    let held = yields(rt, source, &list[..end], size, input);
-    if held.same {
-        print_list(rt, &list[..end], tasks.len(), input);
-    } else if held.good {
-        print_refusal(rt, Refusal::Alone(18));
+    match yields(source, &list[..end], size, input) {
+        Ok(()) => print_list(rt, &list[tasks.len().min(end)..end], input),
+        Err(Stopped::Differs) => print_refusal(rt, Refusal::Alone(18)),
+        Err(Stopped::Failed(failed)) => Err(failed),
     }
 }
 
 // Behind task entries that open a dispatcher.
-fn answer(rt: HostRuntime, tasks: &[u8], input: &mut [u8], keys: &mut [u64], list: &mut [u8])
-    requires { length input.old ≤ 8192 }
-{
-    let Some(source) = streams::twice(rt, b"reader") else {
-        return;
-    };
-    let found = collect(rt, &source, input, keys);
-    if !found.good {
-        return;
+fn answer(
+    rt: HostRuntime,
+    tasks: &[u8],
+    input: &mut [u8],
+    keys: &mut [u64],
+    list: &mut [u8],
+) -> Result<(), Failed> {
+    let source = streams::twice(rt)?;
+    let found = collect(rt, &source, input, keys)?;
+    if let Some(refusal) = found.refusal {
+        return print_refusal(rt, refusal);
     }
-    let refusal = found.refusal;
-    if let Refusal::NoRefusal = refusal {
-        let noted = found.noted;
-        let count = noted.count;
-        print_if_yielded(
-            rt,
-            tasks,
-            &source,
-            found.size,
-            &mut keys[..count],
-            list,
-            input,
-        );
-    } else {
-        print_refusal(rt, refusal);
-    }
+    let keys = &mut keys[..found.noted.count];
+    print_if_yielded(rt, tasks, &source, found.size, keys, list, input)
 }
 
-fn drive(rt: HostRuntime, tasks: &mut [u8], input: &mut [u8], keys: &mut [u64], list: &mut [u8])
-    requires { length input.old ≤ 8192 }
-{
-    let head = streams::read_sized(rt, b"reader", tasks, input);
-    if !head.good {
-        return;
-    }
-    if !head.whole {
-        print(rt, lines::cut_short_line());
-        return;
-    }
-    let kept = head.kept;
-    let opening = guarantees::open(&tasks[..kept]);
-    let refusal = opening.refusal;
-    if let Refusal::NoRefusal = refusal {
-        answer(rt, &tasks[..kept], input, keys, list);
-    } else {
-        print_refusal(rt, refusal);
-    }
-}
-
-fn main(rt: HostRuntime) {
+fn drive(rt: HostRuntime) -> Result<(), Failed> {
     let mut tasks = [0u8; limits::HEAD_MOST];
     let mut input = [0u8; INPUT];
     let mut keys = [0u64; limits::RELEASES];
     let mut list = [0u8; LIST];
-    drive(rt, &mut tasks, &mut input, &mut keys, &mut list);
+    let Some(kept) = streams::read_sized(rt, &mut tasks, &mut input)? else {
+        return printing::print_text(rt, lines::cut_short_line());
+    };
+    match guarantees::open(&tasks[..kept]) {
+        Ok(_) => answer(rt, &tasks[..kept], &mut input, &mut keys, &mut list),
+        Err(refusal) => print_refusal(rt, refusal),
+    }
+}
+
+fn main(rt: HostRuntime) {
+    if let Err(failed) = drive(rt) {
+        streams::report(rt, "reader", failed);
+    }
 }

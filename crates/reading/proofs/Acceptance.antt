@@ -1,5 +1,6 @@
 -- What is read from a record is the only list that yields it. Assumes nothing.
-use Rattle.std.proofs.Common.{◌∷◌}
+use Rattle.std.proofs.Common.{◌∷◌, Some}
+use Rattle.std.specs.Prelude.{IsOk}
 use mathlib.Core.Path.{◌≡◌, refl, sym, ap, ap₂, ◌∙◌, subst}
 use mathlib.Core.Bool.{false≢true}
 use mathlib.Core.Logic.{◌⊎◌, inl, inr, ⊎_elim}
@@ -10,14 +11,15 @@ use lib.Dec.{eqb, leb}
 use lib.ListN.{length}
 use Rattle.sets.proofs.Laws.{by-test}
 use Rattle.table.specs.Refusals.{refusal_number}
-use Rattle.table.specs.Head.{head_of}
+use Rattle.table.specs.Head.{head_read, head_of}
+use Rattle.rules.specs.State.{State}
 use Rattle.rules.specs.Calls.{opening}
 use Rattle.run.specs.Files.{Checked, Rejected, Releases, releases_of}
 use Rattle.run.specs.Run.{record_bytes, moments_of}
 use Rattle.record.specs.Writing.{Written, Wrote, written, outcome_number}
 use Rattle.record.proofs.Accepted.{Accepted, accepted}
 use Rattle.record.proofs.TasksAlone.{fair}
-use Rattle.reading.specs.Types.{Bool, true, false, List, [], ℕ, Release, Refusal, NoRefusal, Alone, AtEntry, Outcome, RefusedInput}
+use Rattle.reading.specs.Types.{Bool, true, false, List, [], ℕ, Release, Refusal, Alone, Result, Ok, Err, Outcome, RefusedInput}
 use Rattle.reading.specs.Attested.{attested, sorted}
 use Rattle.reading.specs.Parts.{AllFit, AllEarly}
 use Rattle.reading.specs.Reading.{list_bytes, input_of, same_bytes, yielded_by, yields, turned_away, listed_if, read_attested, read_opened, reading}
@@ -76,9 +78,9 @@ read_back tasks rs bytes y =
     let a : Accepted s rs = accepted s rs y.admissible in
     let ps : List Release = run_attested (moments_of s rs) in
     let t : attested bytes ≡ Releases ps = tells s rs y.admissible bytes y.its_record in
-    (ps, t, ordered (head_of s).table.present (fair s rs a).present ps rs a.sorted (as_many s rs y.admissible bytes y.its_record ps t))
+    (ps, t, ordered (head_read (head_of s)).table.present (fair s rs a).present ps rs a.sorted (as_many s rs y.admissible bytes y.its_record ps t))
 
-module _ (tasks bytes : List ℕ) (ps : List Release) (h : (opening tasks).refusal ≡ NoRefusal) where
+module _ (tasks bytes : List ℕ) (ps : List Release) (h : IsOk (opening tasks)) where
   abbrev s : List ℕ
   s = input_of tasks (sorted ps)
 
@@ -94,7 +96,7 @@ module _ (tasks bytes : List ℕ) (ps : List Release) (h : (opening tasks).refus
       go f =
           let a : Accepted s f.qs = accepted s f.qs f.releases in
           let e : f.qs ≡ sorted ps = read_as (none_past ps fit).1 f in
-          none (early ps (sym (sorted_tally late ps) ∙ ap (tally late) (sym e) ∙ none_late (head_of s).table.present f.qs a.sorted))
+          none (early ps (sym (sorted_tally late ps) ∙ ap (tally late) (sym e) ∙ none_late (head_read (head_of s)).table.present f.qs a.sorted))
           (omega (arith, a.few, ap length e, all_tally (sorted ps), all_tally ps, sorted_tally (λ r. true) ps))
 
   -- they yield the record, if its bytes are those of their run
@@ -103,7 +105,7 @@ module _ (tasks bytes : List ℕ) (ps : List Release) (h : (opening tasks).refus
       let f : Found s bytes (releases_of s) = found s bytes (releases_of s) b in
       let a : Accepted s f.qs = accepted s f.qs f.releases in
       let e : f.qs ≡ sorted ps =
-      read_as (in_time ps (as_many s f.qs f.releases bytes f.its_record ps t late ∙ none_late (head_of s).table.present f.qs a.sorted)) f in
+      read_as (in_time ps (as_many s f.qs f.releases bytes f.its_record ps t late ∙ none_late (head_read (head_of s)).table.present f.qs a.sorted)) f in
       record {
         opens = h;
         admissible = f.releases ∙ ap Releases e;
@@ -113,9 +115,13 @@ module _ (tasks bytes : List ℕ) (ps : List Release) (h : (opening tasks).refus
 -- ---- what is read
 
 module _ (tasks bytes lent : List ℕ) where
-  attested_list : (ps : List Release) → (opening tasks).refusal ≡ NoRefusal → attested bytes ≡ Releases ps → reading tasks bytes lent ≡ listed_if tasks bytes lent (sorted ps)
+  attested_list : (ps : List Release) → IsOk (opening tasks) → attested bytes ≡ Releases ps → reading tasks bytes lent ≡ listed_if tasks bytes lent (sorted ps)
   unfolding reading
-  attested_list ps h t = ap (read_opened tasks bytes lent) h ∙ ap (read_attested tasks bytes lent) t
+  attested_list ps h t = go (opening tasks) h ∙ ap (read_attested tasks bytes lent) t
+    where
+      go : (o : Result State Refusal) → IsOk o → read_opened tasks bytes lent o ≡ read_attested tasks bytes lent (attested bytes)
+      go (Ok d) h = refl
+      go (Err r) h = absurd (cc)
 
   listed : (rs : List Release) → yields (input_of tasks rs) bytes ≡ true → listed_if tasks bytes lent rs ≡ written (list_bytes rs) lent
   unfolding listed_if
@@ -135,24 +141,23 @@ module _ (tasks bytes lent : List ℕ) where
       ∙ listed rs (ap (yielded_by s bytes) y.admissible ∙ ap (same_bytes (record_bytes (moments_of s rs))) (sym y.its_record) ∙ same (record_bytes (moments_of s rs)))
 
   -- by whether an entry is refused, a list yields the record, or none does
-  read_cases : (P : Written → Type 0) → ((r : Refusal) → Low (refusal_number r) → P (turned_away r lent))
+  read_cases : (P : Written → Type 0) → ((r : Refusal) → Low (refusal_number (Some r)) → P (turned_away r lent))
       → ((rs : List Release) → Yields tasks rs bytes → P (written (list_bytes rs) lent))
-      → ((opening tasks).refusal ≡ NoRefusal → (ps : List Release) → attested bytes ≡ Releases ps → yields (input_of tasks (sorted ps)) bytes ≡ false → P (turned_away (Alone 18) lent))
+      → (IsOk (opening tasks) → (ps : List Release) → attested bytes ≡ Releases ps → yields (input_of tasks (sorted ps)) bytes ≡ false → P (turned_away (Alone 18) lent))
       → P (reading tasks bytes lent)
   unfolding reading
-  read_cases P away some none = go (opening tasks).refusal refl (opening_low tasks)
+  read_cases P away some none = go (opening tasks) refl (opening_low tasks)
     where
-      go_attested : (opening tasks).refusal ≡ NoRefusal → (c : Checked) → attested bytes ≡ c → CheckedLow c → P (read_attested tasks bytes lent c)
+      go_attested : IsOk (opening tasks) → (c : Checked) → attested bytes ≡ c → CheckedLow c → P (read_attested tasks bytes lent c)
       go_attested h (Rejected r) t l = away r l
       go_attested h (Releases ps) t l =
           by-test (yields (input_of tasks (sorted ps)) bytes)
           (λ b. subst P (sym (listed (sorted ps) b)) (some (sorted ps) (yielded tasks bytes ps h t b)))
           (λ b. subst P (sym (not_listed (sorted ps) b)) (none h ps t b))
 
-      go : (r : Refusal) → (opening tasks).refusal ≡ r → RefusalLow r → P (read_opened tasks bytes lent r)
-      go NoRefusal h l = go_attested h (attested bytes) refl (attested_low bytes)
-      go (Alone n) h l = away (Alone n) l
-      go (AtEntry n at) h l = away (AtEntry n at) l
+      go : (o : Result State Refusal) → opening tasks ≡ o → RefusalLow o → P (read_opened tasks bytes lent o)
+      go (Ok d) h l = go_attested (rw h) (attested bytes) refl (attested_low bytes)
+      go (Err r) h l = away r l
 
 -- a list is written, or the slice is too short for it
 abbrev Writes : Outcome → Type 0
@@ -172,7 +177,7 @@ accepts tasks bytes before = record {
       (λ (w : Written). Writes w.outcome → (rs : List Release) × Yields tasks rs bytes × Wrote (written (list_bytes rs) before) w.outcome w.memory)
       (λ r l w. absurd (⊎_elim (λ x. omega arith) (λ x. omega arith) w))
       (λ rs y w. (rs, y, record { outcome_is = refl; holds = refl }))
-      (λ h ps t b w. absurd (not_18 (RefusedInput (Alone 18)) w refl));
+      (λ h ps t b w. absurd (not_18 (Err (RefusedInput (Alone 18))) w refl));
   the_only = λ rs qs y z.
       let a = read_back tasks rs bytes y in
       let b = read_back tasks qs bytes z in

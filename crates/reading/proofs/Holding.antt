@@ -18,12 +18,12 @@ use Rattle.entries.specs.Entries.{each}
 use Rattle.run.specs.Run.{run, record_entries, record_bytes}
 use Rattle.pieces.specs.Pieces.{Makes}
 use Rattle.pieces.proofs.Reaching.{same_slice, front}
-use Rattle.record.specs.Types.{Head, NoRefusal, Piece}
+use Rattle.std.proofs.Common.{Ok, Err}
+use Rattle.record.specs.Types.{Head, Refusal, Piece}
 use Rattle.record.specs.Cursor.{Cursor, Served, Room, start, run_bytes, budget_at}
 use Rattle.record.proofs.Running.{is_start, splits, served_on}
-use Rattle.table.specs.Head.{head_of}
+use Rattle.table.specs.Head.{head_read, head_of}
 use Rattle.run.specs.Files.{Checked, Rejected, Releases, refusal_of, releases_of, head_unless, file_head}
-use Rattle.record.proofs.Accepted.{accepted}
 use Rattle.record.proofs.Outcomes.{AllRead, accepted_whole, listed_all, same_run}
 use Rattle.reading.specs.Parts.{Tells}
 use Rattle.reading.specs.Reading.{same_bytes, yielded_by, yields}
@@ -157,17 +157,17 @@ module _ {s whole stored : List ℕ} (d : Dispatcher) {at size left : ℕ} (h : 
 
 -- ---- an input by what checking it found
 
-module _ (s : List ℕ) (k : Head) (is : k ≡ file_head s) (stored : List ℕ) where
-  pub yields_accepted : k.refusal ≡ NoRefusal → same_bytes (run_bytes s (start k) (budget_at s (start k))) stored ≡ yields s stored
+module _ (s stored : List ℕ) where
+  pub yields_accepted : (k : Head) → file_head s ≡ Ok k → same_bytes (run_bytes s (start k) (budget_at s (start k))) stored ≡ yields s stored
   unfolding yielded_by
-  yields_accepted h =
-      let read : AllRead s k = accepted_whole s k is h in
+  yields_accepted k is =
+      let read : AllRead s k = accepted_whole s k is in
       sym (ap (yielded_by s stored) (listed_all s k read.whole read.releases) ∙ ap (λ (x : List ℕ). same_bytes x stored) (same_run s k read.whole read.releases))
 
-  pub yields_refused : (k.refusal ≡ NoRefusal → ⊥) → false ≡ yields s stored
+  pub yields_refused : (r : Refusal) → file_head s ≡ Err r → false ≡ yields s stored
   unfolding yielded_by file_head
-  yields_refused h = go (releases_of s) refl
+  yields_refused r is = go (releases_of s) is
     where
-      go : (c : Checked) → releases_of s ≡ c → false ≡ yielded_by s stored c
-      go (Rejected r) e = refl
-      go (Releases rs) e = absurd (h (ap (λ (x : Head). x.refusal) (is ∙ ap (λ (x : Checked). head_unless (head_of s) (refusal_of x)) e) ∙ (accepted s rs e).tasks))
+      go : (c : Checked) → head_unless (head_read (head_of s)) (refusal_of c) ≡ Err r → false ≡ yielded_by s stored c
+      go (Rejected q) e = refl
+      go (Releases rs) e = absurd (cc)

@@ -10,12 +10,12 @@ use lib.Dec.{eqb}
 use lib.ListN.{length, get_or}
 use Rattle.sets.specs.Sets.{member, union, insert, bit}
 use Rattle.sets.proofs.Laws.{by-test, united, same_task, member_task, count_sum}
-use Rattle.table.specs.Head.{head_of}
+use Rattle.table.specs.Head.{head_read, head_of}
 use Rattle.rules.specs.With.{at_clock}
 use Rattle.rules.specs.Order.{highest_of}
 use Rattle.rules.specs.Instant.{completed, after_done, without_done, step_a, close, step_b, too_soon, passing, taken, deferred, skipped, original, stamped, step_c, cancel, step_d, choose, step_e, begin, step_g, fresh_stage, at_a, at_b, taken_at, deferred_at, skipped_at, at_e, at_f, at_g, occurred}
 use Rattle.rules.specs.Calls.{opened, after_call}
-use Rattle.guarantees.specs.Types.{refl, sym, ap, ◌∙◌, subst, Bool, true, false, cond, not, List, [], ℕ, Table, Jobs, WaitingReleases, MaybeTask, NoTask, Task, CopyOut, NoCopyOut, CopyingOut, CopiedOut, Interval, Phase, Between, Within, State, Done, Stage, Call}
+use Rattle.guarantees.specs.Types.{refl, sym, ap, ◌∙◌, subst, Bool, true, false, cond, not, List, [], ℕ, Table, Jobs, WaitingReleases, Option, JobEntry, None, Some, CopyOut, NoCopyOut, CopyingOut, CopiedOut, Interval, Phase, Between, Within, State, Stage, Call}
 use Rattle.guarantees.specs.History.{after_calls}
 use Rattle.guarantees.specs.States.{copyout_known}
 use Rattle.guarantees.proofs.Cases.{held_at, b_cases, d_cases, e_cases, g_cases}
@@ -56,10 +56,10 @@ d_held : (d : State) (taken_now : ℕ) → held (step_d d taken_now d.phase) ≡
 unfolding cancel
 d_held d taken_now = d_cases (λ x. held x ≡ held d) d taken_now refl (λ i n u e s b. refl)
 
-choose_held : (d : State) (t : ℕ) (i : Interval) (q : MaybeTask) → held (choose d t i q) ≡ held d
+choose_held : (d : State) (t : ℕ) (i : Interval) (q : Option ℕ) → held (choose d t i q) ≡ held d
 unfolding choose
-choose_held d t i NoTask = refl
-choose_held d t i (Task q) = refl
+choose_held d t i None = refl
+choose_held d t i (Some q) = refl
 
 e_held : (d : State) (t : ℕ) → held (step_e d t d.phase) ≡ held d
 e_held d t = e_cases (λ x. held x ≡ held d) d t refl (λ i e s u. choose_held d t i (highest_of d d.jobs.ready))
@@ -230,7 +230,7 @@ module _ (test : Release → Bool) where
         skips_tally test (union (too_soon b t set) (skipped b (passing b t set))) t,
         skipped_apart b t set,
         passing_apart b t set,
-        ap (λ (o : Done). tally test (done_attested o)) (done_so d t set),
+        ap (λ (o : Option JobEntry). tally test (done_attested o)) (done_so d t set),
         c_leaves b t (passing b t set) (b_long d t long),
         ap held_with (held_b d t),
         ap held_with (held_g d t set),
@@ -297,11 +297,11 @@ pub leaves_one : (s : List ℕ) (rs : List Release) → releases_of s ≡ Releas
 unfolding Demand3Files
 leaves_one s rs h test =
     let a : Accepted s rs = accepted s rs h in
-    let d : State = opened (head_of s).table (head_of s).marked in
+    let d : State = opened (head_read (head_of s)).table (head_read (head_of s)).marked in
     let f = fed_file s rs h in
     let claim = (demand_3_files s rs h).of_the_feed f.calls f.feeds in
     let fed : tally test (run_attested (answers d f.calls)) + held_with test (held (after_calls d f.calls)) ≡ held_with test (held d) + tally test rs =
-    feed_leaves test (head_of s).table (head_of s).marked (fair s rs a) f.calls d rs (fit s rs a) (unfold opened in record { release = refl; times = refl }) f.feeds in
+    feed_leaves test (head_read (head_of s)).table (head_read (head_of s)).marked (fair s rs a) f.calls d rs (fit s rs a) (unfold opened in record { release = refl; times = refl }) f.feeds in
     omega (
       arith,
       fed,

@@ -6,6 +6,7 @@ use Prim.Native.Nat.{ℕ, zero, suc, ◌+◌, ◌-◌, ◌*◌, ◌^◌, ◌≤�
 use native.Mathlib.Numerals.{add-one}
 use native.Mathlib.Omega.{arith}
 use borrow.Author.Tests.{le-leb, lt-leb, leb-true, leb-false}
+use Rattle.std.proofs.Common.{None, Some}
 use lib.Dec.{leb}
 use lib.ListN.{length, take, set, length-append, length-set}
 use lib.Seq.{length-take-le, take-suc-set}
@@ -15,14 +16,14 @@ use Rattle.words.proofs.Laws.{past}
 use Rattle.sets.proofs.Laws.{by-test}
 use Rattle.entries.proofs.Places.{entry_within}
 use Rattle.record.proofs.Accepted.{with_first}
-use Rattle.record.proofs.Outcomes.{at_entry}
-use Rattle.reading.specs.Types.{Release, Refusal, NoRefusal, AtEntry, RecordEntry, MalformedRecord, JobDone, IntervalEnded, ReleaseSkipped}
-use Rattle.reading.specs.declared.collecting.Decoded.TheVariants.{Faulty, Whole}
+use Rattle.reading.specs.Types.{Release, Refusal, AtEntry, RecordEntry, JobDone, IntervalEnded, ReleaseSkipped}
 use Rattle.reading.specs.declared.collecting.Noted.{Noted}
-use Rattle.reading.specs.declared.collecting.Telling.{Telling}
 use Rattle.reading.specs.Attested.{key, attested, attested_by, attested_from}
-use Rattle.reading.specs.Parts.{decoded, fault, keys_of, AllFit, AllEarly, Notes, NotesMore, attested_release, none_noted, Collects}
+use Rattle.reading.specs.Parts.{told_by, keys_of, AllFit, AllEarly, Notes, NotesMore, attested_release, none_noted, Collects}
 use Rattle.reading.specs.Pieces.{Front, front_by, front_from, front}
+use Rattle.std.specs.Prelude.{Result, Ok, Err}
+use Rattle.entries.specs.declared.Unreadable.{Unreadable}
+use Rattle.entries.specs.Unreadable.{unreadable_number}
 
 -- ---- one release more
 
@@ -54,35 +55,32 @@ early_less (q ∷ qs) r h = ((h.0, (early_less qs r h.1).0), (early_less qs r h.
 longer : (rs : List Release) (r : Release) → length (rs ++ (r ∷ [])) ≡ length rs + 1
 longer rs r = length-append rs (r ∷ [])
 
-module _ (n : Noted) (t : Telling) (keys : List ℕ) where
-  abbrev r : Release
-  r = t.release
+-- an entry that tells of no release
+pub notes_none : (n : Noted) (keys : List ℕ) → NotesMore n None keys n keys
+notes_none n keys = record {
+  same_length = refl;
+  within = λ h. h;
+  more = λ rs h. rw (append-nil rs) h;
+}
 
-  -- an entry that tells of no release
-  pub notes_none : t.counts ≡ false → NotesMore n t keys n keys
-  notes_none e = record {
-    same_length = refl;
-    within = λ h. h;
-    more = λ rs h. rw (e, append-nil rs) h;
-  }
-
-  module _ (e : t.counts ≡ true) (f : (t.release.task < 256) × (t.release.time < 2 ^ 64)) where
+module _ (n : Noted) (r : Release) (keys : List ℕ) where
+  module _ (f : (r.task < 256) × (r.time < 2 ^ 64)) where
     -- one that cannot be noted, whatever came before it
     notes_not : ((rs : List Release) → Notes rs n keys → AllEarly (rs ++ (r ∷ [])) → length (rs ++ (r ∷ [])) ≤ length keys → ⊥)
-        → NotesMore n t keys (record { count = n.count; possible = false }) keys
+        → NotesMore n (Some r) keys (record { count = n.count; possible = false }) keys
     notes_not none = record {
       same_length = refl;
       within = λ h. h;
-      more = λ rs h. rw e (record {
+      more = λ rs h. record {
         fit = fit_more rs r h.fit f;
         within = h.within;
         noted = λ x. absurd (false≢true x);
         not = λ x. none rs h;
-      });
+      };
     }
 
     -- more than there is room for
-    pub notes_full : length keys ≤ n.count → NotesMore n t keys (record { count = n.count; possible = false }) keys
+    pub notes_full : length keys ≤ n.count → NotesMore n (Some r) keys (record { count = n.count; possible = false }) keys
     notes_full l = notes_not (λ rs h early few. go rs h (early_less rs r early).0 (omega (arith, longer rs r)) n.possible refl)
       where
         go : (rs : List Release) → Notes rs n keys → AllEarly rs → length rs < length keys → (b : Bool) → n.possible ≡ b → ⊥
@@ -91,15 +89,15 @@ module _ (n : Noted) (t : Telling) (keys : List ℕ) where
         go rs h early few false x = h.not x early (omega arith)
 
     -- one that is too late
-    pub notes_late : 1000000000 < t.release.time → NotesMore n t keys (record { count = n.count; possible = false }) keys
+    pub notes_late : 1000000000 < r.time → NotesMore n (Some r) keys (record { count = n.count; possible = false }) keys
     notes_late l = notes_not (λ rs h early few. omega (arith, (early_less rs r early).1))
 
-    pub notes_one : n.count < length keys → t.release.time ≤ 1000000000
-        → NotesMore n t keys (record { count = n.count + 1; possible = n.possible }) (set keys n.count (key t.release))
+    pub notes_one : n.count < length keys → r.time ≤ 1000000000
+        → NotesMore n (Some r) keys (record { count = n.count + 1; possible = n.possible }) (set keys n.count (key r))
     notes_one l m = record {
       same_length = length-set keys n.count (key r);
       within = λ h. omega (arith, length-set keys n.count (key r));
-      more = λ rs h. rw e (record {
+      more = λ rs h. record {
         fit = fit_more rs r h.fit f;
         within = omega (arith, length-set keys n.count (key r));
         noted = λ x. (
@@ -108,7 +106,7 @@ module _ (n : Noted) (t : Telling) (keys : List ℕ) where
           early_more rs r (h.noted x).1 m,
         );
         not = λ x early few. h.not x (early_less rs r early).0 (omega (arith, longer rs r, length-set keys n.count (key r)));
-      });
+      };
     }
 
 -- ---- the entries from a place on
@@ -176,28 +174,23 @@ pub attested_one : (k : ℕ) (s : List ℕ) (at : ℕ) → at < length s
 unfolding attested_from
 attested_one k s at l = rw (lt-leb (length s) at l, attested_from)
 
-whole_is : (a b : Telling) → Whole a ≡ Whole b → a ≡ b
-whole_is a b e = cc
-
 pub same_releases : (qs rs : List Release) → Releases qs ≡ Releases rs → qs ≡ rs
 same_releases qs rs e = cc
 
 -- a whole entry, and what it tells
-pub record Says (at : ℕ) (e : RecordEntry) (c : Checked) (f : Front) (t : Telling) : Type 0 where
-  pub attested : attested_by e at c ≡ in_front (attested_release t t.counts) c
-  pub front : (front_by e at f).releases ≡ attested_release t t.counts ++ f.releases
-  pub size : t.size ≡ record_entry_size e
-  pub some : 0 < t.size
+pub record Says (at : ℕ) (e : RecordEntry) (c : Checked) (f : Front) : Type 0 where
+  pub attested : attested_by (Ok e) at c ≡ in_front (attested_release (told_by e)) c
+  pub front : (front_by (Ok e) at f).releases ≡ attested_release (told_by e) ++ f.releases
+  pub some : 0 < record_entry_size (Ok e)
 
-says : (at : ℕ) (e : RecordEntry) (c : Checked) (f : Front) (t : Telling) → decoded e ≡ Whole t → Says at e c f t
+says : (at : ℕ) (e : RecordEntry) (c : Checked) (f : Front) → Says at e c f
 unfolding attested_by front_by in_front
-says at (MalformedRecord x) c f t d = absurd (let z : ◌≡◌ {A = ℕ} 0 1 = cc in omega arith)
-says at (JobDone x) c f t d = subst (Says at (JobDone x) c f) (whole_is _ t d) (record { attested = refl; front = refl; size = refl; some = omega arith })
-says at (IntervalEnded x) c f t d = subst (Says at (IntervalEnded x) c f) (whole_is _ t d) (record { attested = refl; front = refl; size = refl; some = omega arith })
-says at (ReleaseSkipped x) c f t d = subst (Says at (ReleaseSkipped x) c f) (whole_is _ t d) (record { attested = refl; front = refl; size = refl; some = omega arith })
+says at (JobDone x) c f = record { attested = refl; front = refl; some = omega arith }
+says at (IntervalEnded x) c f = record { attested = refl; front = refl; some = omega arith }
+says at (ReleaseSkipped x) c f = record { attested = refl; front = refl; some = omega arith }
 
-pub whole_size : (e : RecordEntry) (t : Telling) → decoded e ≡ Whole t → (t.size ≡ record_entry_size e) × (0 < t.size)
-whole_size e t d = let w = says 0 e (Releases []) (front []) t d in (w.size, w.some)
+pub some_bytes : (e : RecordEntry) → 0 < record_entry_size (Ok e)
+some_bytes e = (says 0 e (Releases []) (front [])).some
 
 module _ {s : List ℕ} {n₀ : Noted} {before : List ℕ} {at : ℕ} {n : Noted} {keys : List ℕ} (h : Collecting s n₀ before at n keys) (same : length keys ≡ length before) where
   -- no whole entry is left
@@ -208,7 +201,7 @@ module _ {s : List ℕ} {n₀ : Noted} {before : List ℕ} {at : ℕ} {n : Noted
   all_noted e qs m = subst (λ (l : List Release). Notes (qs ++ l) n keys) e (h.notes qs m)
 
   -- nothing is left
-  pub ends : length s ≤ at → Collects s n₀ before (record { noted = n; refusal = NoRefusal }) keys
+  pub ends : length s ≤ at → Collects s n₀ before (record { noted = n; refusal = None }) keys
   ends l =
       let all : Releases h.rs ≡ attested s =
       ap Releases (sym (append-nil h.rs)) ∙ sym (front_all h.rs []) ∙ ap (in_front h.rs) (sym (attested_none h.fuel s at l)) ∙ h.rest in
@@ -231,53 +224,50 @@ module _ {s : List ℕ} {n₀ : Noted} {before : List ℕ} {at : ℕ} {n : Noted
     unfolding front_from
     fronted k e = ap (λ (x : ℕ). h.rs ++ (front_from x s at).releases) (sym e) ∙ h.fronts
 
-    -- an entry that is refused
-    pub faulty : (e : RecordEntry) → record_entry_at s at ≡ e → decoded e ≡ Faulty
-        → Collects s n₀ before (record { noted = n; refusal = AtEntry (fault e) at }) keys
+    -- what is no entry
+    pub faulty : (e : Unreadable) → record_entry_at s at ≡ Err e
+        → Collects s n₀ before (record { noted = n; refusal = Some (AtEntry (unreadable_number e) at) }) keys
     unfolding attested_by front_by
-    faulty (MalformedRecord x) a d = go h.fuel refl
+    faulty x a = go h.fuel refl
       where
-        refused : (k : ℕ) → h.fuel ≡ suc k → Rejected (AtEntry x at) ≡ attested s
-        refused k f = sym (front_refused h.rs (AtEntry x at)) ∙ subst (λ (y : RecordEntry). in_front h.rs (attested_by y at (attested_from k s (at + record_entry_size y))) ≡ attested s) a (turned k f)
+        refused : (k : ℕ) → h.fuel ≡ suc k → Rejected (AtEntry (unreadable_number x) at) ≡ attested s
+        refused k f = sym (front_refused h.rs (AtEntry (unreadable_number x) at)) ∙ subst (λ (y : Result RecordEntry Unreadable). in_front h.rs (attested_by y at (attested_from k s (at + record_entry_size y))) ≡ attested s) a (turned k f)
 
         here : (k : ℕ) → h.fuel ≡ suc k → h.rs ≡ (front s).releases
-        here k f = sym (append-nil h.rs) ∙ subst (λ (y : RecordEntry). h.rs ++ (front_by y at (front_from k s (at + record_entry_size y))).releases ≡ (front s).releases) a (fronted k f)
+        here k f = sym (append-nil h.rs) ∙ subst (λ (y : Result RecordEntry Unreadable). h.rs ++ (front_by y at (front_from k s (at + record_entry_size y))).releases ≡ (front s).releases) a (fronted k f)
 
-        go : (k : ℕ) → h.fuel ≡ k → Collects s n₀ before (record { noted = n; refusal = AtEntry x at }) keys
+        go : (k : ℕ) → h.fuel ≡ k → Collects s n₀ before (record { noted = n; refusal = Some (AtEntry (unreadable_number x) at) }) keys
         go zero f = absurd (omega (arith, h.enough))
         go (suc k) f = record {
           same_length = same;
           within = h.within;
           refusal_is = ap refusal_of (refused k f);
-          whole = λ e. absurd (at_entry {r = AtEntry x at} refl e);
+          whole = λ e. absurd (cc);
           notes = all_noted (here k f);
         }
-    faulty (JobDone x) a d = absurd (let z : ◌≡◌ {A = ℕ} 0 1 = cc in omega arith)
-    faulty (IntervalEnded x) a d = absurd (let z : ◌≡◌ {A = ℕ} 0 1 = cc in omega arith)
-    faulty (ReleaseSkipped x) a d = absurd (let z : ◌≡◌ {A = ℕ} 0 1 = cc in omega arith)
 
-    pub goes_on : (t : Telling) (m : Noted) (after : List ℕ) → decoded (record_entry_at s at) ≡ Whole t → NotesMore n t keys m after
-        → Collecting s n₀ before (at + t.size) m after
-    goes_on t m after d more = go h.fuel refl
+    pub goes_on : (e : RecordEntry) (m : Noted) (after : List ℕ) → record_entry_at s at ≡ Ok e → NotesMore n (told_by e) keys m after
+        → Collecting s n₀ before (at + record_entry_size (Ok e)) m after
+    goes_on e m after d more = go h.fuel refl
       where
         tells : List Release
-        tells = attested_release t t.counts
+        tells = attested_release (told_by e)
 
-        go : (k : ℕ) → h.fuel ≡ k → Collecting s n₀ before (at + t.size) m after
+        go : (k : ℕ) → h.fuel ≡ k → Collecting s n₀ before (at + record_entry_size (Ok e)) m after
         go zero f = absurd (omega (arith, h.enough))
         go (suc k) f =
-            let next : ℕ = at + record_entry_size (record_entry_at s at) in
-            let w = says at (record_entry_at s at) (attested_from k s next) (front_from k s next) t d in
+            let next : ℕ = at + record_entry_size (Ok e) in
+            let w = says at e (attested_from k s next) (front_from k s next) in
             record {
               rs = h.rs ++ tells;
               fuel = k;
               enough = omega (arith, h.enough, w.some);
-              rest = sym (front_more h.rs tells (attested_from k s (at + t.size)))
-                  ∙ ap (λ (x : ℕ). in_front h.rs (in_front tells (attested_from k s (at + x)))) w.size
-                  ∙ ap (in_front h.rs) (sym w.attested) ∙ turned k f;
-              fronts = append_assoc h.rs tells (front_from k s (at + t.size)).releases
-                  ∙ ap (λ (x : ℕ). h.rs ++ (tells ++ (front_from k s (at + x)).releases)) w.size
-                  ∙ ap (λ (l : List Release). h.rs ++ l) (sym w.front) ∙ fronted k f;
+              rest = sym (front_more h.rs tells (attested_from k s next))
+                  ∙ ap (in_front h.rs) (sym w.attested)
+                  ∙ subst (λ (y : Result RecordEntry Unreadable). in_front h.rs (attested_by y at (attested_from k s (at + record_entry_size y))) ≡ attested s) d (turned k f);
+              fronts = append_assoc h.rs tells (front_from k s next).releases
+                  ∙ ap (λ (l : List Release). h.rs ++ l) (sym w.front)
+                  ∙ subst (λ (y : Result RecordEntry Unreadable). h.rs ++ (front_by y at (front_from k s (at + record_entry_size y))).releases ≡ (front s).releases) d (fronted k f);
               within = λ q. more.within (h.within q);
               notes = λ qs q. subst (λ (l : List Release). Notes l m after) (append_assoc qs h.rs tells) (more.more (qs ++ h.rs) (h.notes qs q));
             }
@@ -285,14 +275,14 @@ module _ {s : List ℕ} {n₀ : Noted} {before : List ℕ} {at : ℕ} {n : Noted
 -- ---- how many releases a record can tell of
 
 -- no entry that tells of one has fewer bytes than 10
-entry_few : (k : ℕ) (s : List ℕ) (at : ℕ) (rs : List Release) (x : RecordEntry) → record_entry_size x ≤ length s - at
+entry_few : (k : ℕ) (s : List ℕ) (at : ℕ) (rs : List Release) (x : Result RecordEntry Unreadable) → record_entry_size x ≤ length s - at
     → attested_by x at (attested_from k s (at + record_entry_size x)) ≡ Releases rs
     → ((n : ℕ) (qs : List Release) → attested_from k s (at + n) ≡ Releases qs → 10 * length qs ≤ length s - (at + n)) → 10 * length rs ≤ length s - at
 unfolding attested_by
-entry_few k s at rs (MalformedRecord n) l h f = absurd (let z : ◌≡◌ {A = ℕ} 0 1 = cc in omega arith)
-entry_few k s at rs (IntervalEnded y) l h f = omega (arith, f 24 rs h)
-entry_few k s at rs (JobDone y) l h f = let w = with_first _ _ rs h in omega (arith, f 27 w.0 w.1, ap length w.2)
-entry_few k s at rs (ReleaseSkipped y) l h f = let w = with_first _ _ rs h in omega (arith, f 10 w.0 w.1, ap length w.2)
+entry_few k s at rs (Err n) l h f = absurd (let z : ◌≡◌ {A = ℕ} 0 1 = cc in omega arith)
+entry_few k s at rs (Ok (IntervalEnded y)) l h f = omega (arith, f 24 rs h)
+entry_few k s at rs (Ok (JobDone y)) l h f = let w = with_first _ _ rs h in omega (arith, f 27 w.0 w.1, ap length w.2)
+entry_few k s at rs (Ok (ReleaseSkipped y)) l h f = let w = with_first _ _ rs h in omega (arith, f 10 w.0 w.1, ap length w.2)
 
 attested_few : (k : ℕ) (s : List ℕ) (at : ℕ) (rs : List Release) → attested_from k s at ≡ Releases rs → 10 * length rs ≤ length s - at
 attested_few zero s at rs e = unfold attested_from in subst (λ (x : List Release). 10 * length x ≤ length s - at) (same_releases [] rs e) (omega arith)

@@ -16,12 +16,15 @@ use Rattle.entries.specs.Entries.{job_at, interval_at, release_at, record_entry_
 use Rattle.entries.proofs.Front.{number_in_front}
 use Rattle.entries.proofs.Places.{entry_behind, entry_within}
 use Rattle.run.specs.Files.{Checked, Rejected, Releases, with_release}
+use Rattle.rules.specs.State.{State}
 use Rattle.rules.specs.Calls.{opening}
-use Rattle.reading.specs.Types.{Release, Refusal, NoRefusal, Alone, AtEntry, RecordEntry, MalformedRecord, JobDone, IntervalEnded, ReleaseSkipped}
+use Rattle.reading.specs.Types.{Release, Refusal, Alone, AtEntry, Result, Ok, Err, RecordEntry, JobDone, IntervalEnded, ReleaseSkipped}
 use Rattle.reading.specs.Attested.{attested, attested_by, attested_from, release_of}
 use Rattle.reading.specs.Reading.{same_bytes, read_attested, read_opened, reading}
 use Rattle.reading.specs.Pieces.{Front, front_by, front_from, front, Going, at_start, go_on, gone, joined, behind, at_end, TellInPieces, opened_in_pieces, ReadInPieces, SameInPieces}
 use Rattle.reading.proofs.Noting.{attested_none, attested_one}
+use Rattle.entries.specs.declared.Unreadable.{Unreadable}
+use Rattle.entries.specs.declared.Unreadable.TheVariants.{CutShort, OtherKind}
 
 -- ---- Bytes that come behind
 
@@ -69,16 +72,16 @@ module _ (a b : List ℕ) (at : ℕ) where
       by-test (eqb kind 16)
       (λ e. by-test (leb 27 left)
       (λ f. let l = leb-true 27 left f in rw (kind_on (omega arith), e, f, room_on 27 l, job_on (omega arith)))
-      (λ f. none 1 (rw (e, f))))
+      (λ f. none CutShort (rw (e, f))))
       (λ e. by-test (eqb kind 17)
       (λ e2. by-test (leb 24 left)
       (λ f. let l = leb-true 24 left f in rw (kind_on (omega arith), e, e2, f, room_on 24 l, interval_on (omega arith)))
-      (λ f. none 1 (rw (e, e2, f))))
+      (λ f. none CutShort (rw (e, e2, f))))
       (λ e2. by-test (eqb kind 18)
       (λ e3. by-test (leb 10 left)
       (λ f. let l = leb-true 10 left f in rw (kind_on (omega arith), e, e2, e3, f, room_on 10 l, release_on (omega arith)))
-      (λ f. none 1 (rw (e, e2, e3, f))))
-      (λ e3. none 2 (rw (e, e2, e3)))))
+      (λ f. none CutShort (rw (e, e2, e3, f))))
+      (λ e3. none OtherKind (rw (e, e2, e3)))))
     where
       kind : ℕ
       kind = number_at 1 a at
@@ -86,18 +89,18 @@ module _ (a b : List ℕ) (at : ℕ) where
       left : ℕ
       left = length a - at
 
-      none : (n : ℕ) → record_entry_at a at ≡ MalformedRecord n → record_entry_at (a ++ b) at ≡ record_entry_at a at
+      none : (n : Unreadable) → record_entry_at a at ≡ Err n → record_entry_at (a ++ b) at ≡ record_entry_at a at
       none n e = absurd (omega (arith, h, ap record_entry_size e))
 
 -- ---- What is attested from a place on
 
 -- behind an entry that is refused nothing counts
-by_alike : (e : RecordEntry) (at : ℕ) (c d : Checked) → (0 < record_entry_size e → c ≡ d) → attested_by e at c ≡ attested_by e at d
+by_alike : (e : Result RecordEntry Unreadable) (at : ℕ) (c d : Checked) → (0 < record_entry_size e → c ≡ d) → attested_by e at c ≡ attested_by e at d
 unfolding attested_by
-by_alike (MalformedRecord n) at c d h = refl
-by_alike (JobDone x) at c d h = ap (with_release (release_of x)) (h (omega arith))
-by_alike (IntervalEnded x) at c d h = h (omega arith)
-by_alike (ReleaseSkipped r) at c d h = ap (with_release r) (h (omega arith))
+by_alike (Err n) at c d h = refl
+by_alike (Ok (JobDone x)) at c d h = ap (with_release (release_of x)) (h (omega arith))
+by_alike (Ok (IntervalEnded x)) at c d h = h (omega arith)
+by_alike (Ok (ReleaseSkipped r)) at c d h = ap (with_release r) (h (omega arith))
 
 -- a longer count tells the same
 attested_fuel : (k j : ℕ) (s : List ℕ) (at : ℕ) → length s - at ≤ k → length s - at ≤ j → attested_from k s at ≡ attested_from j s at
@@ -122,12 +125,12 @@ unfolding with_release
 behind_with r n (Rejected x) = refl
 behind_with r n (Releases qs) = refl
 
-by_moved : (e : RecordEntry) (n at : ℕ) (c : Checked) → attested_by e (n + at) (behind [] n c) ≡ behind [] n (attested_by e at c)
+by_moved : (e : Result RecordEntry Unreadable) (n at : ℕ) (c : Checked) → attested_by e (n + at) (behind [] n c) ≡ behind [] n (attested_by e at c)
 unfolding attested_by
-by_moved (MalformedRecord x) n at c = refl
-by_moved (JobDone x) n at c = behind_with (release_of x) n c
-by_moved (IntervalEnded x) n at c = refl
-by_moved (ReleaseSkipped r) n at c = behind_with r n c
+by_moved (Err x) n at c = refl
+by_moved (Ok (JobDone x)) n at c = behind_with (release_of x) n c
+by_moved (Ok (IntervalEnded x)) n at c = refl
+by_moved (Ok (ReleaseSkipped r)) n at c = behind_with r n c
 
 -- bytes in front move the places
 attested_moved : (k : ℕ) (f s : List ℕ) (at : ℕ) → attested_from k (f ++ s) (length f + at) ≡ behind [] (length f) (attested_from k s at)
@@ -138,9 +141,9 @@ attested_moved (suc k) f s at =
     ∙ ap (behind [] (length f)) (sym (attested_none (suc k) s at (leb-true (length s) at e))))
     (λ e.
     let l : at < length s = leb-false (length s) at e in
-    let x : RecordEntry = record_entry_at s at in
+    let x : Result RecordEntry Unreadable = record_entry_at s at in
     attested_one k (f ++ s) (length f + at) (omega (arith, length-append f s))
-    ∙ ap (λ (y : RecordEntry). attested_by y (length f + at) (attested_from k (f ++ s) (length f + at + record_entry_size y))) (entry_behind f s at)
+    ∙ ap (λ (y : Result RecordEntry Unreadable). attested_by y (length f + at) (attested_from k (f ++ s) (length f + at + record_entry_size y))) (entry_behind f s at)
     ∙ ap (λ (p : ℕ). attested_by x (length f + at) (attested_from k (f ++ s) p)) (add_assoc (length f) at (record_entry_size x))
     ∙ ap (attested_by x (length f + at)) (attested_moved k f s (at + record_entry_size x))
     ∙ by_moved x (length f) at (attested_from k s (at + record_entry_size x))
@@ -158,36 +161,36 @@ from_rest k a b at l m =
     ∙ ap (behind [] at) (attested_fuel k (length rest) rest 0 (omega (arith, length-append (drop at a) b, length-drop at a, length-append a b)) (omega arith))
 
 -- a whole entry of a piece, and what is attested behind it
-one : (k : ℕ) (a b : List ℕ) (at : ℕ) (e : RecordEntry) (c : Checked) → record_entry_at a at ≡ e → 0 < record_entry_size e → length (a ++ b) - at ≤ k
+one : (k : ℕ) (a b : List ℕ) (at : ℕ) (e : Result RecordEntry Unreadable) (c : Checked) → record_entry_at a at ≡ e → 0 < record_entry_size e → length (a ++ b) - at ≤ k
     → (at + record_entry_size e ≤ length a → (j : ℕ) → length (a ++ b) - (at + record_entry_size e) ≤ j → attested_from j (a ++ b) (at + record_entry_size e) ≡ c)
     → attested_from k (a ++ b) at ≡ attested_by e at c
 one zero a b at e c is p m h = absurd (omega (arith, entry_within a at, ap record_entry_size is, length-append a b))
 one (suc k) a b at e c is p m h =
     let within : at + record_entry_size e ≤ length a = omega (arith, entry_within a at, ap record_entry_size is) in
     attested_one k (a ++ b) at (omega (arith, within, length-append a b))
-    ∙ ap (λ (x : RecordEntry). attested_by x at (attested_from k (a ++ b) (at + record_entry_size x))) (entry_on a b at (omega (arith, p, ap record_entry_size is)) ∙ is)
+    ∙ ap (λ (x : Result RecordEntry Unreadable). attested_by x at (attested_from k (a ++ b) (at + record_entry_size x))) (entry_on a b at (omega (arith, p, ap record_entry_size is)) ∙ is)
     ∙ ap (attested_by e at) (h within k (omega arith))
 
 -- behind a front, what the rest of the piece tells with the bytes that come
 abbrev Goes : ℕ → List ℕ → List ℕ → ℕ → Front → Type 0
 Goes k a b at f = attested_from k (a ++ b) at ≡ behind f.releases f.end (attested (drop f.end a ++ b))
 
-by_front : (k : ℕ) (a b : List ℕ) (at : ℕ) (f : ℕ → Front) (e : RecordEntry) → record_entry_at a at ≡ e → at ≤ length a → length (a ++ b) - at ≤ k
+by_front : (k : ℕ) (a b : List ℕ) (at : ℕ) (f : ℕ → Front) (e : Result RecordEntry Unreadable) → record_entry_at a at ≡ e → at ≤ length a → length (a ++ b) - at ≤ k
     → ((n : ℕ) → at + n ≤ length a → (j : ℕ) → length (a ++ b) - (at + n) ≤ j → Goes j a b (at + n) (f (at + n)))
     → Goes k a b at (front_by e at (f (at + record_entry_size e)))
 unfolding front_by attested_by
-by_front k a b at f (MalformedRecord n) is l m h = from_rest k a b at l m
-by_front k a b at f (JobDone x) is l m h =
+by_front k a b at f (Err n) is l m h = from_rest k a b at l m
+by_front k a b at f (Ok (JobDone x)) is l m h =
     let g : Front = f (at + 27) in
     let c : Checked = attested (drop g.end a ++ b) in
-    one k a b at (JobDone x) (behind g.releases g.end c) is (omega arith) m (h 27) ∙ with_behind (release_of x) g.releases g.end c
-by_front k a b at f (IntervalEnded x) is l m h =
+    one k a b at (Ok (JobDone x)) (behind g.releases g.end c) is (omega arith) m (h 27) ∙ with_behind (release_of x) g.releases g.end c
+by_front k a b at f (Ok (IntervalEnded x)) is l m h =
     let g : Front = f (at + 24) in
-    one k a b at (IntervalEnded x) (behind g.releases g.end (attested (drop g.end a ++ b))) is (omega arith) m (h 24)
-by_front k a b at f (ReleaseSkipped r) is l m h =
+    one k a b at (Ok (IntervalEnded x)) (behind g.releases g.end (attested (drop g.end a ++ b))) is (omega arith) m (h 24)
+by_front k a b at f (Ok (ReleaseSkipped r)) is l m h =
     let g : Front = f (at + 10) in
     let c : Checked = attested (drop g.end a ++ b) in
-    one k a b at (ReleaseSkipped r) (behind g.releases g.end c) is (omega arith) m (h 10) ∙ with_behind r g.releases g.end c
+    one k a b at (Ok (ReleaseSkipped r)) (behind g.releases g.end c) is (omega arith) m (h 10) ∙ with_behind r g.releases g.end c
 
 onward : (j k : ℕ) (a b : List ℕ) (at : ℕ) → at ≤ length a → length (a ++ b) - at ≤ k → Goes k a b at (front_from j a at)
 unfolding front_from
@@ -200,13 +203,11 @@ attested_onward a b = onward (length a) (length (a ++ b)) a b 0 (omega arith) (o
 -- ---- Piece by piece
 
 behind_both : (rs qs : List Release) (n m : ℕ) (c : Checked) → behind rs n (behind qs m c) ≡ behind (rs ++ qs) (n + m) c
-behind_both rs qs n m (Rejected NoRefusal) = refl
 behind_both rs qs n m (Rejected (Alone x)) = refl
 behind_both rs qs n m (Rejected (AtEntry x at)) = ap (λ (p : ℕ). Rejected (AtEntry x p)) (sym (add_assoc n m at))
 behind_both rs qs n m (Releases ps) = ap Releases (sym (append_assoc rs qs ps))
 
 behind_none : (c : Checked) → behind [] 0 c ≡ c
-behind_none (Rejected NoRefusal) = refl
 behind_none (Rejected (Alone x)) = refl
 behind_none (Rejected (AtEntry x at)) = ap (λ (p : ℕ). Rejected (AtEntry x p)) (zero-add at)
 behind_none (Releases qs) = refl
@@ -226,12 +227,11 @@ tell_in_pieces pieces = all_attested at_start pieces ∙ behind_none (attested (
 
 pub read_in_pieces : ReadInPieces
 unfolding ReadInPieces TellInPieces reading
-read_in_pieces tasks pieces lent = go (opening tasks).refusal
+read_in_pieces tasks pieces lent = go (opening tasks)
   where
-    go : (r : Refusal) → opened_in_pieces tasks pieces lent r ≡ read_opened tasks (joined pieces) lent r
-    go NoRefusal = ap (read_attested tasks (joined pieces) lent) (tell_in_pieces pieces)
-    go (Alone n) = refl
-    go (AtEntry n at) = refl
+    go : (r : Result State Refusal) → opened_in_pieces tasks pieces lent r ≡ read_opened tasks (joined pieces) lent r
+    go (Ok d) = ap (read_attested tasks (joined pieces) lent) (tell_in_pieces pieces)
+    go (Err r) = refl
 
 pub same_in_pieces : SameInPieces
 unfolding SameInPieces same_bytes

@@ -7,10 +7,13 @@ use Prim.Native.Nat.{ℕ, zero, suc, ◌-◌, ◌*◌, ◌≤◌}
 use native.Mathlib.Omega.{arith}
 use lib.ListN.{length, take, drop, length-append}
 use lib.Seq.{drop_at, take_at, length-take-le}
+use Rattle.std.proofs.Common.{None, Some}
+use Rattle.std.specs.Prelude.{IsOk}
+use Rattle.rules.specs.State.{State}
 use Rattle.rules.specs.Calls.{opening}
 use Rattle.run.specs.Files.{Checked, Rejected, Releases, refusal_of}
 use Rattle.record.specs.Writing.{Wrote, written}
-use Rattle.reading.specs.Types.{Release, Refusal, NoRefusal, Alone, AtEntry, Outcome, RefusedInput}
+use Rattle.reading.specs.Types.{Release, Refusal, Alone, Result, Ok, Err, Outcome, RefusedInput}
 use Rattle.reading.specs.declared.collecting.Collected.{Collected}
 use Rattle.reading.specs.Attested.{attested, sorted}
 use Rattle.reading.specs.Reading.{list_bytes, input_of, yields, listed_if, read_attested, read_opened, reading}
@@ -31,7 +34,7 @@ module _ (tasks stored lent : List ℕ) (rs : List Release) where
   unfolding listed_if
   listed e h = rw e h
 
-  pub not_listed : yields (input_of tasks rs) stored ≡ false → Wrote (listed_if tasks stored lent rs) (RefusedInput (Alone 18)) lent
+  pub not_listed : yields (input_of tasks rs) stored ≡ false → Wrote (listed_if tasks stored lent rs) (Err (RefusedInput (Alone 18))) lent
   unfolding listed_if
   not_listed e = rw e (record { outcome_is = refl; holds = refl })
 
@@ -66,21 +69,21 @@ module _ (tasks keys stored lent : List ℕ) {before : List ℕ} {size : ℕ} {a
       listed tasks stored lent (releases_in keys) (ap (λ (x : List ℕ). yields x stored) (sym h.holds) ∙ e)
       (subst (λ (x : List ℕ). Wrote (written x lent) outcome out) list_part w)
 
-  pub not_listed_part : yields (take size after) stored ≡ false → Wrote (listed_if tasks stored lent (releases_in keys)) (RefusedInput (Alone 18)) lent
+  pub not_listed_part : yields (take size after) stored ≡ false → Wrote (listed_if tasks stored lent (releases_in keys)) (Err (RefusedInput (Alone 18))) lent
   not_listed_part e = not_listed tasks stored lent (releases_in keys) (ap (λ (x : List ℕ). yields x stored) (sym h.holds) ∙ e)
 
 -- ---- what a record's entries tell
 
 module _ (tasks stored lent keys : List ℕ) {x : Collected} {after : List ℕ} (h : Collects stored none_noted keys x after) where
   -- an entry is refused
-  pub entry_refused : (x.refusal ≡ NoRefusal → ⊥) → Wrote (read_attested tasks stored lent (attested stored)) (RefusedInput x.refusal) lent
-  entry_refused n = go (attested stored) h.refusal_is
+  pub entry_refused : (r : Refusal) → x.refusal ≡ Some r → Wrote (read_attested tasks stored lent (attested stored)) (Err (RefusedInput r)) lent
+  entry_refused r f = go (attested stored) (sym f ∙ h.refusal_is)
     where
-      go : (c : Checked) → x.refusal ≡ refusal_of c → Wrote (read_attested tasks stored lent c) (RefusedInput x.refusal) lent
-      go (Rejected r) e = record { outcome_is = ap RefusedInput e; holds = refl }
-      go (Releases rs) e = absurd (n e)
+      go : (c : Checked) → Some r ≡ refusal_of c → Wrote (read_attested tasks stored lent c) (Err (RefusedInput r)) lent
+      go (Rejected q) e = let same : r ≡ q = cc in record { outcome_is = ap (λ (y : Refusal). Err (RefusedInput y)) same; holds = refl }
+      go (Releases rs) e = absurd (cc)
 
-  module _ (e : x.refusal ≡ NoRefusal) where
+  module _ (e : x.refusal ≡ None) where
     abbrev rs : List Release
     rs = (front stored).releases
 
@@ -89,9 +92,9 @@ module _ (tasks stored lent keys : List ℕ) {x : Collected} {after : List ℕ} 
 
     -- no list can have them
     pub impossible : {input : List ℕ} → Lent tasks stored keys input → x.noted.possible ≡ false
-        → Wrote (read_attested tasks stored lent (attested stored)) (RefusedInput (Alone 18)) lent
+        → Wrote (read_attested tasks stored lent (attested stored)) (Err (RefusedInput (Alone 18))) lent
     impossible o p =
-        subst (λ (c : Checked). Wrote (read_attested tasks stored lent c) (RefusedInput (Alone 18)) lent) (sym (h.whole e))
+        subst (λ (c : Checked). Wrote (read_attested tasks stored lent c) (Err (RefusedInput (Alone 18))) lent) (sym (h.whole e))
         (not_listed tasks stored lent (sorted rs) (unlistable tasks stored rs o.opens noted.fit (λ early few. noted.not p early (many o.enough few))))
       where
         many : (4096 ≤ length keys) ⊎ (length stored ≤ 10 * length keys) → length (front stored).releases ≤ 4096 → length (front stored).releases ≤ length after
@@ -122,20 +125,19 @@ module _ (count : ℕ) (front ks rest : List ℕ) (s : Sorts (take count front) 
 
 -- ---- task entries that are refused
 
-module _ (tasks stored lent : List ℕ) (r : Refusal) (e : r ≡ (opening tasks).refusal) where
-  pub not_opened : (r ≡ NoRefusal → ⊥) → Wrote (reading tasks stored lent) (RefusedInput r) lent
+module _ (tasks stored lent : List ℕ) where
+  pub not_opened : (r : Refusal) → opening tasks ≡ Err r → Wrote (reading tasks stored lent) (Err (RefusedInput r)) lent
   unfolding reading
-  not_opened n = subst (λ (q : Refusal). Wrote (read_opened tasks stored lent q) (RefusedInput r) lent) e (go r n)
-    where
-      go : (r : Refusal) → (r ≡ NoRefusal → ⊥) → Wrote (read_opened tasks stored lent r) (RefusedInput r) lent
-      go NoRefusal n = absurd (n refl)
-      go (Alone x) n = record { outcome_is = refl; holds = refl }
-      go (AtEntry x at) n = record { outcome_is = refl; holds = refl }
+  not_opened r e = rw e (record { outcome_is = refl; holds = refl })
 
   -- task entries that open
-  pub opened : {outcome : Outcome} {out : List ℕ} → r ≡ NoRefusal → Wrote (read_attested tasks stored lent (attested stored)) outcome out → Wrote (reading tasks stored lent) outcome out
+  pub opened : {outcome : Outcome} {out : List ℕ} → IsOk (opening tasks) → Wrote (read_attested tasks stored lent (attested stored)) outcome out → Wrote (reading tasks stored lent) outcome out
   unfolding reading
-  opened {outcome} {out} n w = subst (λ (q : Refusal). Wrote (read_opened tasks stored lent q) outcome out) (sym n ∙ e) w
+  opened {outcome} {out} e w = go (opening tasks) e
+    where
+      go : (r : Result State Refusal) → IsOk r → Wrote (read_opened tasks stored lent r) outcome out
+      go (Ok d) e = w
+      go (Err r) e = absurd (cc)
 
 -- ---- acceptance, of what was read
 

@@ -4,12 +4,12 @@ use mathlib.Core.List.{List, [], ◌∷◌, ◌++◌}
 use Prim.Native.Nat.{ℕ, zero, suc, ◌+◌}
 use Rattle.sets.specs.Sets.{member}
 use Rattle.run.specs.Run.{Moment}
-use Rattle.reading.specs.Types.{Release, Done, NoJob, Job}
+use Rattle.reading.specs.Types.{Release, Option, JobEntry, None, Some}
 use Rattle.reading.specs.Attested.{release_of}
 
-abbrev pub done_attested : Done → List Release
-done_attested NoJob = []
-done_attested (Job e) = release_of e ∷ []
+abbrev pub done_attested : Option JobEntry → List Release
+done_attested None = []
+done_attested (Some e) = release_of e ∷ []
 
 unfoldable pub skips_attested : ℕ → ℕ → ℕ → List Release
 skips_attested zero set t = []

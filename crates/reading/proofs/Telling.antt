@@ -17,10 +17,12 @@ use Rattle.run.specs.Run.{Moment, record_entries, record_bytes, moments_of}
 use Rattle.record.specs.Types.{Closing, Unclosed, BeforeReleases, AfterReleases}
 use Rattle.record.specs.Fits.{EntriesFit}
 use Rattle.record.proofs.FileFits.{file_fits}
-use Rattle.reading.specs.Types.{Bool, true, false, cond, List, [], ℕ, zero, suc, Release, Done, NoJob, Job, Occurred, RecordEntry, MalformedRecord, JobDone, IntervalEnded, ReleaseSkipped}
+use Rattle.reading.specs.Types.{Bool, true, false, cond, List, [], ℕ, zero, suc, Release, Option, JobEntry, None, Some, Occurred, RecordEntry, JobDone, IntervalEnded, ReleaseSkipped}
 use Rattle.reading.specs.Attested.{release_of, attested_by, attested_from, attested}
 use Rattle.reading.proofs.RunAttested.{done_attested, skips_attested, moment_attested, run_attested}
 use Rattle.reading.proofs.Noting.{in_front, front_more, front_all, attested_none, attested_one}
+use Rattle.std.specs.Prelude.{Result, Ok}
+use Rattle.entries.specs.declared.Unreadable.{Unreadable}
 
 -- ---- entries one after the other
 
@@ -51,7 +53,6 @@ both a b x y p q = record {
 
 -- the releases that some entries tell
 abbrev entry_attested : RecordEntry → List Release
-entry_attested (MalformedRecord n) = []
 entry_attested (JobDone e) = release_of e ∷ []
 entry_attested (IntervalEnded e) = []
 entry_attested (ReleaseSkipped r) = r ∷ []
@@ -60,9 +61,8 @@ unfoldable entries_attested : List RecordEntry → List Release
 entries_attested [] = []
 entries_attested (e ∷ es) = entry_attested e ++ entries_attested es
 
-attested_so : (e : RecordEntry) → EntryFits e → (at : ℕ) (c : Checked) → attested_by e at c ≡ in_front (entry_attested e) c
+attested_so : (e : RecordEntry) → EntryFits e → (at : ℕ) (c : Checked) → attested_by (Ok e) at c ≡ in_front (entry_attested e) c
 unfolding EntryFits attested_by in_front
-attested_so (MalformedRecord n) h at c = absurd h
 attested_so (JobDone e) h at c = refl
 attested_so (IntervalEnded e) h at c = refl
 attested_so (ReleaseSkipped r) h at c = refl
@@ -75,10 +75,10 @@ entry_tells e h =
       entries = 1;
       no_more = omega arith;
       tells = λ s front rest at k here a.
-          let there : record_entry_at s at ≡ e = rw (here, a) (round_trip.entry e h front rest) in
+          let there : record_entry_at s at ≡ Ok e = rw (here, a) (round_trip.entry e h front rest) in
           let before : at < length s = rw (here, a) (omega (arith, length-append front (bytes ++ rest), length-append bytes rest)) in
           ap (λ (n : ℕ). attested_from n s at) (omega arith) ∙ attested_one k s at before
-          ∙ ap (λ (x : RecordEntry). attested_by x at (attested_from k s (at + record_entry_size x))) there ∙ attested_so e h at (attested_from k s (at + record_entry_size e))
+          ∙ ap (λ (x : Result RecordEntry Unreadable). attested_by x at (attested_from k s (at + record_entry_size x))) there ∙ attested_so e h at (attested_from k s (at + record_entry_size (Ok e)))
           ∙ ap (λ (n : ℕ). in_front (entry_attested e) (attested_from k s (at + n))) (sym (entry_size e));
     }
   where
@@ -97,10 +97,10 @@ unfolding entries_attested
 attested_both [] ys = refl
 attested_both (e ∷ xs) ys = ap (λ (l : List Release). entry_attested e ++ l) (attested_both xs ys) ∙ sym (append_assoc (entry_attested e) (entries_attested xs) (entries_attested ys))
 
-attested_done : (o : Done) → entries_attested (done_entries o) ≡ done_attested o
+attested_done : (o : Option JobEntry) → entries_attested (done_entries o) ≡ done_attested o
 unfolding entries_attested
-attested_done NoJob = refl
-attested_done (Job e) = refl
+attested_done None = refl
+attested_done (Some e) = refl
 
 attested_skips : (k set t : ℕ) → entries_attested (skipped_entries k set t) ≡ skips_attested k set t
 unfolding skipped_entries skips_attested entries_attested

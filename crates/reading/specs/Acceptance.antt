@@ -1,24 +1,24 @@
 -- Acceptance, said for itself. What stands between quotation marks is request 1/13 of document 02.
-use Rattle.std.specs.Prelude.{◌≡◌, ◌⊎◌, ◌<◌, take, drop, get_or}
-use Rattle.table.specs.Head.{head_of}
+use Rattle.std.specs.Prelude.{◌≡◌, ◌⊎◌, ◌<◌, take, drop, get_or, IsOk}
+use Rattle.table.specs.Head.{head_read, head_of}
 use Rattle.rules.specs.Calls.{opening}
 use Rattle.run.specs.Files.{Releases, releases_of}
 use Rattle.run.specs.Run.{record_bytes, moments_of}
 use Rattle.record.specs.Writing.{Wrote, written, file, outcome_number, outcome_value}
-use Rattle.reading.specs.Types.{List, ℕ, Release, NoRefusal, Outcome, Recorded}
+use Rattle.reading.specs.Types.{List, ℕ, Release, Outcome, Ok}
 use Rattle.reading.specs.Attested.{attested}
 use Rattle.reading.specs.Reading.{list_bytes, input_of, reading}
 
 -- a list yields a record: the task entries open a dispatcher; with the list's release entries behind them they are an input that is
 -- accepted, with just these releases; and the record of its run is these bytes
 pub record Yields (tasks : List ℕ) (rs : List Release) (bytes : List ℕ) : Type 0 where
-  pub opens : (opening tasks).refusal ≡ NoRefusal
+  pub opens : IsOk (opening tasks)
   pub admissible : releases_of (input_of tasks rs) ≡ Releases rs
   pub its_record : record_bytes (moments_of (input_of tasks rs) rs) ≡ bytes
 
 -- "the bytes are whole entries of kinds 16 to 18 but no list yields them", where the task entries open a dispatcher
 pub record NoList (tasks bytes : List ℕ) : Type 0 where
-  pub opens : (opening tasks).refusal ≡ NoRefusal
+  pub opens : IsOk (opening tasks)
   pub whole : (ps : List Release) × (attested bytes ≡ Releases ps)
   pub none : (rs : List Release) → Yields tasks rs bytes → ⊥
 
@@ -50,5 +50,5 @@ AllBytes s = (i : ℕ) → get_or s i 0 < 256
 
 -- what `record::write` wrote for an input that is accepted is read back as exactly its release entries
 unfoldable pub RoundTrip : Type 0
-RoundTrip = (s out lent : List ℕ) (n : ℕ) → AllBytes s → (file s out).outcome ≡ Recorded n →
-    reading (take (head_of s).end s) (take n (file s out).memory) lent ≡ written (drop (head_of s).end s) lent
+RoundTrip = (s out lent : List ℕ) (n : ℕ) → AllBytes s → (file s out).outcome ≡ Ok n →
+    reading (take (head_read (head_of s)).end s) (take n (file s out).memory) lent ≡ written (drop (head_read (head_of s)).end s) lent

@@ -1,37 +1,24 @@
 -- What the functions within promise: the releases that a record tells, noted as numbers in a lent slice, and the input that they make.
-use Rattle.std.specs.Prelude.{◌≡◌, ◌⊎◌, ◌+◌, ◌*◌, ◌/◌, ◌%◌, ◌^◌, ◌≤◌, ◌<◌, length, take, ◌∷◌, ◌++◌}
+use Rattle.std.specs.Prelude.{◌≡◌, ◌⊎◌, ◌+◌, ◌*◌, ◌/◌, ◌%◌, ◌^◌, ◌≤◌, ◌<◌, length, take, ◌∷◌, ◌++◌, None, Some, Option, IsOk}
 use Rattle.entries.specs.Entries.{size}
 use Rattle.entries.specs.Limits as limits
 use Rattle.table.specs.declared.Head.{Head}
 use Rattle.table.specs.Head.{head_of}
 use Rattle.rules.specs.Calls.{opening}
 use Rattle.run.specs.Files.{Releases, refusal_of}
-use Rattle.reading.specs.Types.{Bool, true, false, List, [], ℕ, Release, NoRefusal, RecordEntry, MalformedRecord, JobDone, IntervalEnded, ReleaseSkipped}
-use Rattle.reading.specs.declared.collecting.Decoded.{Decoded}
-use Rattle.reading.specs.declared.collecting.Decoded.TheVariants.{Faulty, Whole}
+use Rattle.reading.specs.Types.{Bool, true, false, List, [], ℕ, Release, Ok, RecordEntry, JobDone, IntervalEnded, ReleaseSkipped}
 use Rattle.reading.specs.declared.collecting.Noted.{Noted}
 use Rattle.reading.specs.declared.collecting.Collected.{Collected}
-use Rattle.reading.specs.declared.collecting.Telling.{Telling}
 use Rattle.reading.specs.Attested.{release_of, attested, key}
 use Rattle.reading.specs.Pieces.{front}
 
 -- ---- An entry taken apart
 
-abbrev pub no_release : Release
-no_release = record { task = 0; time = 0 }
-
--- its length and the release that it tells of, where it is not refused
-abbrev pub decoded : RecordEntry → Decoded
-decoded (MalformedRecord n) = Faulty
-decoded (JobDone e) = Whole (record { size = size 16; counts = true; release = release_of e })
-decoded (IntervalEnded e) = Whole (record { size = size 17; counts = false; release = no_release })
-decoded (ReleaseSkipped r) = Whole (record { size = size 18; counts = true; release = r })
-
-abbrev pub fault : RecordEntry → ℕ
-fault (MalformedRecord n) = n
-fault (JobDone e) = 0
-fault (IntervalEnded e) = 0
-fault (ReleaseSkipped r) = 0
+-- the release that it tells of
+abbrev pub told_by : RecordEntry → Option Release
+told_by (JobDone e) = Some (release_of e)
+told_by (IntervalEnded e) = None
+told_by (ReleaseSkipped r) = Some r
 
 -- ---- Releases as numbers
 
@@ -64,14 +51,14 @@ pub record Notes (rs : List Release) (n : Noted) (keys : List ℕ) : Type 0 wher
   pub noted : n.possible ≡ true → (take n.count keys ≡ keys_of rs) × AllEarly rs
   pub not : n.possible ≡ false → AllEarly rs → length rs ≤ length keys → ⊥
 
-abbrev pub attested_release : Telling → Bool → List Release
-attested_release t true = t.release ∷ []
-attested_release t false = []
+abbrev pub attested_release : Option Release → List Release
+attested_release None = []
+attested_release (Some r) = r ∷ []
 
-pub record NotesMore (n : Noted) (t : Telling) (before : List ℕ) (x : Noted) (after : List ℕ) : Type 0 where
+pub record NotesMore (n : Noted) (told : Option Release) (before : List ℕ) (x : Noted) (after : List ℕ) : Type 0 where
   pub same_length : length after ≡ length before
   pub within : n.count ≤ length before → x.count ≤ length after
-  pub more : (rs : List Release) → Notes rs n before → Notes (rs ++ attested_release t t.counts) x after
+  pub more : (rs : List Release) → Notes rs n before → Notes (rs ++ attested_release told) x after
 
 -- none yet
 abbrev pub none_noted : Noted
@@ -82,7 +69,7 @@ pub record Collects (s : List ℕ) (n : Noted) (before : List ℕ) (x : Collecte
   pub same_length : length after ≡ length before
   pub within : n.count ≤ length before → x.noted.count ≤ length after
   pub refusal_is : x.refusal ≡ refusal_of (attested s)
-  pub whole : x.refusal ≡ NoRefusal → attested s ≡ Releases (front s).releases
+  pub whole : x.refusal ≡ None → attested s ≡ Releases (front s).releases
   pub notes : (rs : List Release) → Notes rs n before → Notes (rs ++ (front s).releases) x.noted after
 
 -- ---- Bytes held against others
@@ -97,24 +84,16 @@ pub record Tells (x : Bool) (a b : List ℕ) : Type 0 where
 -- an input's head, as it was read
 pub record ReadHead (s : List ℕ) (k : Head) : Type 0 where
   pub some : length s ≡ 0 → ⊥
-  pub is : k ≡ head_of s
-  pub accepted : k.refusal ≡ NoRefusal
+  pub is : head_of s ≡ Ok k
 
 -- task entries that open a dispatcher, and their head
 pub record Opened (tasks : List ℕ) (k : Head) : Type 0 where
-  pub opens : (opening tasks).refusal ≡ NoRefusal
-  pub is : k ≡ head_of tasks
-
--- of how many releases a record tells at most that is shorter than so many release entries
-abbrev pub few : ℕ
-few = 512
-
-abbrev pub some : ℕ
-some = 2048
+  pub opens : IsOk (opening tasks)
+  pub is : head_of tasks ≡ Ok k
 
 -- memory for reading: task entries that open a dispatcher; room for as many numbers as a file may have releases, or as the record can
 -- tell of; and for the input that they make
 pub record Lent (tasks stored keys input : List ℕ) : Type 0 where
-  pub opens : (opening tasks).refusal ≡ NoRefusal
+  pub opens : IsOk (opening tasks)
   pub enough : (limits.releases ≤ length keys) ⊎ (length stored ≤ size 2 * length keys)
   pub room : limits.longest_head + size 2 * length keys ≤ length input

@@ -1,12 +1,14 @@
 -- A record in pieces: what its front tells, and how the bytes behind that go on.
 use Rattle.std.specs.Prelude.{◌≡◌, ◌&&◌, length, drop, ◌∷◌, ◌++◌, ◌+◌}
 use Rattle.entries.specs.Entries.{record_entry_at, record_entry_size}
+use Rattle.rules.specs.State.{State}
 use Rattle.rules.specs.Calls.{opening}
 use Rattle.run.specs.Files.{Checked, Rejected, Releases}
 use Rattle.record.specs.Writing.{Written}
-use Rattle.reading.specs.Types.{List, [], ℕ, zero, suc, Release, Refusal, NoRefusal, Alone, AtEntry, RecordEntry, MalformedRecord, JobDone, IntervalEnded, ReleaseSkipped}
+use Rattle.reading.specs.Types.{List, [], ℕ, zero, suc, Release, Refusal, Alone, AtEntry, Result, Ok, Err, RecordEntry, JobDone, IntervalEnded, ReleaseSkipped}
 use Rattle.reading.specs.Attested.{release_of, attested}
 use Rattle.reading.specs.Reading.{same_bytes, turned_away, read_attested, reading}
+use Rattle.entries.specs.declared.Unreadable.{Unreadable}
 
 -- ---- The whole entries at the front of some bytes
 
@@ -16,16 +18,16 @@ pub record Front : Type 0 where
   pub end : ℕ
 
 -- a whole entry at a place, in front of those behind it
-unfoldable pub front_by : RecordEntry → ℕ → Front → Front
-front_by (MalformedRecord n) at behind = record { releases = []; end = at }
-front_by (JobDone e) at behind = record { releases = release_of e ∷ behind.releases; end = behind.end }
-front_by (IntervalEnded e) at behind = behind
-front_by (ReleaseSkipped r) at behind = record { releases = r ∷ behind.releases; end = behind.end }
+unfoldable pub front_by : Result RecordEntry Unreadable → ℕ → Front → Front
+front_by (Err e) at behind = record { releases = []; end = at }
+front_by (Ok (JobDone e)) at behind = record { releases = release_of e ∷ behind.releases; end = behind.end }
+front_by (Ok (IntervalEnded e)) at behind = behind
+front_by (Ok (ReleaseSkipped r)) at behind = record { releases = r ∷ behind.releases; end = behind.end }
 
 -- from a place on, at most k of them: at the end of the bytes no whole entry stands
 unfoldable pub front_from : ℕ → List ℕ → ℕ → Front
 front_from zero s at = record { releases = []; end = at }
-front_from (suc k) s at = let e : RecordEntry = record_entry_at s at in front_by e at (front_from k s (at + record_entry_size e))
+front_from (suc k) s at = let e : Result RecordEntry Unreadable = record_entry_at s at in front_by e at (front_from k s (at + record_entry_size e))
 
 abbrev pub front : List ℕ → Front
 front s = front_from (length s) s 0
@@ -56,7 +58,6 @@ joined (p ∷ ps) = p ++ joined ps
 
 -- a place of the bytes from another place on
 abbrev pub moved : ℕ → Refusal → Refusal
-moved n NoRefusal = NoRefusal
 moved n (Alone x) = Alone x
 moved n (AtEntry x at) = AtEntry x (n + at)
 
@@ -75,15 +76,14 @@ TellInPieces = (pieces : List (List ℕ)) → at_end (gone at_start pieces) ≡ 
 
 -- ---- The outcome
 
-abbrev pub opened_in_pieces : List ℕ → List (List ℕ) → List ℕ → Refusal → Written
-opened_in_pieces tasks pieces lent NoRefusal = read_attested tasks (joined pieces) lent (at_end (gone at_start pieces))
-opened_in_pieces tasks pieces lent (Alone n) = turned_away (Alone n) lent
-opened_in_pieces tasks pieces lent (AtEntry n at) = turned_away (AtEntry n at) lent
+abbrev pub opened_in_pieces : List ℕ → List (List ℕ) → List ℕ → Result State Refusal → Written
+opened_in_pieces tasks pieces lent (Ok d) = read_attested tasks (joined pieces) lent (at_end (gone at_start pieces))
+opened_in_pieces tasks pieces lent (Err r) = turned_away r lent
 
 -- from the task entries and a record's pieces, what comes of the record
 unfoldable pub ReadInPieces : Type 0
 ReadInPieces = (tasks : List ℕ) (pieces : List (List ℕ)) (lent : List ℕ) →
-    opened_in_pieces tasks pieces lent (opening tasks).refusal ≡ reading tasks (joined pieces) lent
+    opened_in_pieces tasks pieces lent (opening tasks) ≡ reading tasks (joined pieces) lent
 
 -- a run and a record are the same if a piece of each is, and what is behind it
 unfoldable pub SameInPieces : Type 0

@@ -1,11 +1,12 @@
 -- "From the task entries and a record, give back the release entries": the outcome, and what the lent slice holds at the end.
 use Rattle.std.specs.Prelude.{eqb, ◌∷◌, ◌++◌}
 use Rattle.entries.specs.Entries.{release_bytes}
+use Rattle.rules.specs.State.{State}
 use Rattle.rules.specs.Calls.{opening}
 use Rattle.run.specs.Files.{Checked, Rejected, Releases, releases_of}
 use Rattle.run.specs.Run.{record_bytes, moments_of}
 use Rattle.record.specs.Writing.{Written, written}
-use Rattle.reading.specs.Types.{Bool, true, false, cond, List, [], ℕ, Release, Refusal, NoRefusal, Alone, AtEntry, RefusedInput}
+use Rattle.reading.specs.Types.{Bool, true, false, cond, List, [], ℕ, Release, Refusal, Alone, Result, Ok, Err, RefusedInput}
 use Rattle.reading.specs.Attested.{attested, sorted}
 
 -- the release entries of a list
@@ -34,7 +35,7 @@ yields s bytes = yielded_by s bytes (releases_of s)
 -- ---- The outcome. "The task entries are checked first, as at opening"; then 2 and 1 of the record's entries; 18; 13.
 
 abbrev pub turned_away : Refusal → List ℕ → Written
-turned_away r lent = record { outcome = RefusedInput r; memory = lent }
+turned_away r lent = record { outcome = Err (RefusedInput r); memory = lent }
 
 -- each release leaves one entry: the list can be no other than that of the releases attested, in their order
 unfoldable pub listed_if : List ℕ → List ℕ → List ℕ → List Release → Written
@@ -44,10 +45,9 @@ abbrev pub read_attested : List ℕ → List ℕ → List ℕ → Checked → Wr
 read_attested tasks bytes lent (Rejected r) = turned_away r lent
 read_attested tasks bytes lent (Releases rs) = listed_if tasks bytes lent (sorted rs)
 
-abbrev pub read_opened : List ℕ → List ℕ → List ℕ → Refusal → Written
-read_opened tasks bytes lent NoRefusal = read_attested tasks bytes lent (attested bytes)
-read_opened tasks bytes lent (Alone n) = turned_away (Alone n) lent
-read_opened tasks bytes lent (AtEntry n at) = turned_away (AtEntry n at) lent
+abbrev pub read_opened : List ℕ → List ℕ → List ℕ → Result State Refusal → Written
+read_opened tasks bytes lent (Ok d) = read_attested tasks bytes lent (attested bytes)
+read_opened tasks bytes lent (Err r) = turned_away r lent
 
 unfoldable pub reading : List ℕ → List ℕ → List ℕ → Written
-reading tasks bytes lent = read_opened tasks bytes lent (opening tasks).refusal
+reading tasks bytes lent = read_opened tasks bytes lent (opening tasks)

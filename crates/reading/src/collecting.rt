@@ -1,24 +1,9 @@
 // The releases that a record tells of, each as one number: time first, then task.
 ghost use Rattle.std.specs.Prelude.{◌≡◌};
-ghost use Rattle.reading.specs.Parts.{decoded, fault, NotesMore, Collects};
+ghost use Rattle.reading.specs.Parts.{told_by, NotesMore, Collects};
 
 use entries::{RecordEntry, Release, limits};
 use table::Refusal;
-
-// What an entry tells: its length, and the release where `counts`. An interval tells of none.
-#[derive(Clone, Copy)]
-pub struct Telling {
-    pub size: usize,
-    pub counts: bool,
-    pub release: Release,
-}
-
-// An entry taken apart, or one that is refused.
-#[derive(Clone, Copy)]
-pub enum Decoded {
-    Faulty,
-    Whole(Telling),
-}
 
 // How many releases are noted. No list can have them where one is later than any release may be or they are more than there is room for.
 #[derive(Clone, Copy)]
@@ -30,56 +15,31 @@ pub struct Noted {
 #[derive(Clone, Copy)]
 pub struct Collected {
     pub noted: Noted,
-    pub refusal: Refusal,
+    pub refusal: Option<Refusal>,
 }
 
-fn decode(entry: RecordEntry) -> Decoded
-    ensures { result ≡ decoded entry }
+// The release that an entry tells of. An interval tells of none.
+fn told_by(entry: RecordEntry) -> Option<Release>
+    ensures { result ≡ told_by entry }
 {
     match entry {
-        RecordEntry::MalformedRecord(_) => Decoded::Faulty,
-        RecordEntry::JobDone(e) => Decoded::Whole(Telling {
-            size: entries::JOB_SIZE,
-            counts: true,
-            release: Release {
-                task: e.task,
-                time: e.release,
-            },
+        RecordEntry::JobDone(e) => Some(Release {
+            task: e.task,
+            time: e.release,
         }),
-        RecordEntry::IntervalEnded(_) => Decoded::Whole(Telling {
-            size: entries::INTERVAL_SIZE,
-            counts: false,
-            release: Release { task: 0, time: 0 },
-        }),
-        RecordEntry::ReleaseSkipped(release) => Decoded::Whole(Telling {
-            size: entries::SKIPPED_SIZE,
-            counts: true,
-            release,
-        }),
+        RecordEntry::IntervalEnded(_) => None,
+        RecordEntry::ReleaseSkipped(release) => Some(release),
     }
 }
 
-// The number by which an entry is refused; 0 where it is not.
-fn fault_of(entry: RecordEntry) -> u8
-    ensures { result ≡ fault entry }
+// One release more, where there is one.
+fn note(keys: &mut [u64], n: Noted, told: Option<Release>) -> Noted
+    ensures { NotesMore n told keys.old result keys.new }
 {
-    match entry {
-        RecordEntry::MalformedRecord(n) => n,
-        RecordEntry::JobDone(_) => 0,
-        RecordEntry::IntervalEnded(_) => 0,
-        RecordEntry::ReleaseSkipped(_) => 0,
-    }
-}
-
-// One release more, where the entry tells of one.
-fn note(keys: &mut [u64], n: Noted, attested: Telling) -> Noted
-    ensures { NotesMore n attested keys.old result keys.new }
-{
-    if !attested.counts {
+    let Some(release) = told else {
         return n;
-    }
+    };
     let count = n.count;
-    let release = attested.release;
     let task = release.task;
     let time = release.time;
     if keys.len() <= count {
@@ -110,17 +70,20 @@ pub fn collect(stored: &[u8], before: Noted, keys: &mut [u64]) -> Collected
     let mut noted = before;
     while at < stored.len() {
         let entry = entries::record_entry_at(stored, at);
-        let Decoded::Whole(attested) = decode(entry) else {
-            return Collected {
-                noted,
-                refusal: Refusal::AtEntry(fault_of(entry), at),
-            };
+        let whole = match entry {
+            Ok(whole) => whole,
+            Err(unreadable) => {
+                return Collected {
+                    noted,
+                    refusal: Some(Refusal::AtEntry(unreadable.number(), at)),
+                };
+            }
         };
-        noted = note(keys, noted, attested);
-        at += attested.size;
+        noted = note(keys, noted, told_by(whole));
+        at += entries::record_entry_size(entry);
     }
     Collected {
         noted,
-        refusal: Refusal::NoRefusal,
+        refusal: None,
     }
 }

@@ -11,16 +11,13 @@ fn lay(keys: &[u64], out: &mut [u8])
     requires { size 2 * length keys.now ≤ length out.old }
     ensures { out.new ≡ laid 0 (list_bytes (releases_in keys.now)) out.old }
 {
-    let mut i: usize = 0;
     let mut at: usize = 0;
-    while i < keys.len() {
-        let k = keys[i];
+    for k in keys {
         let r = Release {
-            task: (k % 256) as u8,
-            time: k / 256,
+            task: (*k % 256) as u8,
+            time: *k / 256,
         };
         at += entries::put_release(&mut out[at..], r);
-        i += 1;
     }
 }
 

@@ -5,7 +5,7 @@ ghost use Rattle.reading.specs.Parts.{Tells, ReadHead};
 ghost use Rattle.reading.specs.Reading.{same_bytes, yields};
 
 use entries::{RELEASE_SIZE, limits};
-use table::{Head, Refusal};
+use table::Head;
 
 // How many bytes of a run are made before they are held against the record: long pieces are compared faster than what one instant leaves.
 const PIECE: usize = 4096;
@@ -28,10 +28,8 @@ pub fn same(a: &[u8], b: &[u8]) -> bool
         return false;
     }
     let mut alike = true;
-    let mut i: usize = 0;
-    while i < a.len() {
-        alike = alike_with(alike, a[i], b[i]);
-        i += 1;
+    for (i, x) in a.iter().enumerate() {
+        alike = alike_with(alike, *x, b[i]);
     }
     alike
 }
@@ -78,15 +76,10 @@ pub fn yields(s: &[u8], head: Head, stored: &[u8]) -> bool
     requires { ReadHead s.now head }
     ensures { result ≡ yields s.now stored.now }
 {
-    let checked = run::check_behind(s, head);
-    let refusal = checked.refusal;
-    match refusal {
-        Refusal::NoRefusal => {
-            let n = (s.len() - checked.end) / RELEASE_SIZE;
-            let budget = limits::INSTANTS_EACH * n + limits::INSTANTS_EACH;
-            replays(s, checked, budget, stored)
-        }
-        Refusal::Alone(_) => false,
-        Refusal::AtEntry(_, _) => false,
-    }
+    let Ok(checked) = run::check_behind(s, head) else {
+        return false;
+    };
+    let n = (s.len() - checked.end) / RELEASE_SIZE;
+    let budget = limits::INSTANTS_EACH * n + limits::INSTANTS_EACH;
+    replays(s, checked, budget, stored)
 }

@@ -6,7 +6,7 @@ use Prim.Native.Nat.{ℕ, ◌*◌, ◌≤◌}
 use native.Mathlib.Omega.{arith}
 use lib.ListN.{length}
 use Rattle.entries.specs.Limits as limits
-use Rattle.table.specs.Head.{head_of}
+use Rattle.table.specs.Head.{head_read, head_of}
 use Rattle.rules.specs.Calls.{opened}
 use Rattle.guarantees.specs.Types.{Table, State}
 use Rattle.guarantees.proofs.Count.{at_most_three}
@@ -26,7 +26,7 @@ none_open table marks = refl
 pub record_bound : (s : List ℕ) (rs : List Release) → releases_of s ≡ Releases rs → length (record_bytes (moments_of s rs)) ≤ limits.record_each * length rs
 record_bound s rs h =
     let a : Accepted s rs = accepted s rs h in
-    let d : State = opened (head_of s).table (head_of s).marked in
+    let d : State = opened (head_read (head_of s)).table (head_read (head_of s)).marked in
     let f : Fed (limits.budget (length rs)) d rs (moments_of s rs) = fed s rs a in
     omega (
       arith,
@@ -35,6 +35,6 @@ record_bound s rs h =
       f.jobs,
       f.intervals,
       (completed s rs a).as_many,
-      none_open (head_of s).table (head_of s).marked,
-      at_most_three (head_of s).table (head_of s).marked f.calls,
+      none_open (head_read (head_of s)).table (head_read (head_of s)).marked,
+      at_most_three (head_read (head_of s)).table (head_read (head_of s)).marked f.calls,
     )

@@ -7,7 +7,7 @@ use native.Mathlib.Omega.{arith}
 use Rattle.rules.specs.With.{at_clock}
 use Rattle.rules.specs.Order.{highest_of}
 use Rattle.rules.specs.Instant.{fresh_stage, step_a, step_b, step_c, step_d, step_e, close, close_stage, over, closing, with_candidates, cancel, choose, at_a, at_b, at_e, at_f, at_g, taken_at, deferred_at, occurred}
-use Rattle.guarantees.specs.Types.{MaybeTask, NoTask, Task, Interval, Phase, Between, Within, State, Done, NoJob, Job, Closed, NoInterval, Span, Stage}
+use Rattle.guarantees.specs.Types.{Option, JobEntry, None, Some, Interval, Phase, Between, Within, State, Closed, NoInterval, Span, Stage}
 use Rattle.guarantees.specs.History.{completion_events, begin_events}
 use Rattle.guarantees.specs.Queries.{total, is_begin, is_completion}
 use Rattle.guarantees.proofs.Cases.{d_cases, e_cases}
@@ -71,10 +71,10 @@ d_open : (d : State) (taken_now : ℕ) → is_open (step_d d taken_now d.phase).
 unfolding cancel
 d_open d taken_now = d_cases (λ x. is_open x.phase ≡ is_open d.phase) d taken_now refl (λ i n u e s b. ap is_open (sym e))
 
-choose_open : (d : State) (t : ℕ) (i : Interval) (q : MaybeTask) → is_open (choose d t i q).phase ≡ 1
+choose_open : (d : State) (t : ℕ) (i : Interval) (q : Option ℕ) → is_open (choose d t i q).phase ≡ 1
 unfolding choose
-choose_open d t i NoTask = refl
-choose_open d t i (Task q) = refl
+choose_open d t i None = refl
+choose_open d t i (Some q) = refl
 
 e_open : (d : State) (t : ℕ) → is_open (step_e d t d.phase).phase ≡ is_open d.phase
 e_open d t =
@@ -134,10 +134,10 @@ b_done s t (Within i) = go (over i)
     go true = unfold close_stage in refl
     go false = unfold close_stage in refl
 
-is_job_total : (o : Done) → is_job o ≡ total is_completion (completion_events o)
+is_job_total : (o : Option JobEntry) → is_job o ≡ total is_completion (completion_events o)
 unfolding completion_events total
-is_job_total NoJob = refl
-is_job_total (Job e) = refl
+is_job_total None = refl
+is_job_total (Some e) = refl
 
 pub job_completes : (d : State) (t set : ℕ) → is_job (occurred d t set).done ≡ total is_completion (completion_events (at_a d t).done)
 unfolding occurred at_b

@@ -13,7 +13,7 @@ use Rattle.sets.proofs.Laws.{by-test, clash, none, empty, difference_left, diffe
 use Rattle.entries.specs.Limits as limits
 use Rattle.rules.specs.Instant.{due, sooner, at_g, occurred}
 use Rattle.rules.specs.Calls.{refusal, unknown, not_after, before_now, after_call}
-use Rattle.guarantees.specs.Types.{Table, Clock, Unset, At, State, Due, Never, Tick, Call, Instant}
+use Rattle.guarantees.specs.Types.{Table, Clock, Unset, At, State, Option, None, Some, Call, Instant}
 use Rattle.guarantees.specs.History.{Event, by_call, after_calls, history}
 use Rattle.guarantees.specs.Queries.{total, is_take, is_begin, is_completion}
 use Rattle.guarantees.specs.Entries.{handed_in}
@@ -39,7 +39,7 @@ abbrev pub Ahead : Clock → List Release → Type 0
 Ahead Unset rs = Unit {0}
 Ahead (At u) rs = After u rs
 
-none_first : (rs : List Release) → first_time rs ≡ Never → rs ≡ []
+none_first : (rs : List Release) → first_time rs ≡ None → rs ≡ []
 none_first [] h = refl
 none_first (r ∷ rs) h = absurd (let z : ◌≡◌ {A = ℕ} 0 1 = cc in omega arith)
 
@@ -47,17 +47,17 @@ first_after : (rs : List Release) (t : ℕ) → before_now (first_time rs) t ≡
 first_after [] t h = tt
 first_after (r ∷ rs) t h = ltb-false r.time t h
 
-first_ahead : (c : Clock) (rs : List Release) (t : ℕ) → Ahead c rs → first_time rs ≡ Tick t → not_after c t ≡ false
+first_ahead : (c : Clock) (rs : List Release) (t : ℕ) → Ahead c rs → first_time rs ≡ Some t → not_after c t ≡ false
 first_ahead Unset rs t h e = refl
 first_ahead (At u) [] t h e = absurd (let z : ◌≡◌ {A = ℕ} 0 1 = cc in omega arith)
 first_ahead (At u) (r ∷ rs) t h e = let x : r.time ≡ t = cc in lt-leb t u (omega arith)
 
-first_early : (present : ℕ) (rs : List Release) (t : ℕ) → Sorted present rs → first_time rs ≡ Tick t → t ≤ limits.last_instant
+first_early : (present : ℕ) (rs : List Release) (t : ℕ) → Sorted present rs → first_time rs ≡ Some t → t ≤ limits.last_instant
 unfolding Sorted
 first_early present [] t h e = absurd (let z : ◌≡◌ {A = ℕ} 0 1 = cc in omega arith)
 first_early present (r ∷ rs) t h e = let x : r.time ≡ t = cc in omega (arith, h.1)
 
-first_fewer : (rs : List Release) (t : ℕ) → first_time rs ≡ Tick t → length (released_after t rs) < length rs
+first_fewer : (rs : List Release) (t : ℕ) → first_time rs ≡ Some t → length (released_after t rs) < length rs
 first_fewer [] t e = absurd (let z : ◌≡◌ {A = ℕ} 0 1 = cc in omega arith)
 first_fewer (r ∷ rs) t e = fewer t r rs (let x : r.time ≡ t = cc in x)
 
@@ -72,17 +72,17 @@ pub record Fed (k : ℕ) (d : State) (rs : List Release) (ms : List Moment) : Ty
   pub early : AllEarly calls
   pub gives : answers d calls ≡ ms
   pub within : length calls < k
-  pub rests : due (after_calls d calls).phase ≡ Never
+  pub rests : due (after_calls d calls).phase ≡ None
   pub releases : total is_take (history d calls) + size (after_calls d calls).waiting.tasks + releases_skipped ms ≡ length rs + size d.waiting.tasks
   pub handed : (n : ℕ) → n < 32 → handed_in n d calls ≡ of_task n rs
   pub jobs : jobs_done ms ≡ total is_completion (history d calls)
   pub intervals : intervals_ended ms ≤ is_open d.phase + total is_begin (history d calls)
 
-run_end : (k : ℕ) (d : State) (rs : List Release) → sooner (first_time rs) (due d.phase) ≡ Never → run (suc k) d rs ≡ []
+run_end : (k : ℕ) (d : State) (rs : List Release) → sooner (first_time rs) (due d.phase) ≡ None → run (suc k) d rs ≡ []
 unfolding run
 run_end k d rs e = rw (e, run)
 
-fed_none : (k : ℕ) (d : State) → due d.phase ≡ Never → Fed (suc k) d [] []
+fed_none : (k : ℕ) (d : State) → due d.phase ≡ None → Fed (suc k) d [] []
 unfolding Feeds AllServed AllEarly answers after_calls history total jobs_done intervals_ended releases_skipped handed_in of_task
 fed_none k d e = record {
   calls = [];
@@ -98,9 +98,9 @@ fed_none k d e = record {
   intervals = omega arith;
 }
 
-fed_end : (k : ℕ) (d : State) (rs : List Release) → sooner (first_time rs) (due d.phase) ≡ Never → Fed (suc k) d rs (run (suc k) d rs)
+fed_end : (k : ℕ) (d : State) (rs : List Release) → sooner (first_time rs) (due d.phase) ≡ None → Fed (suc k) d rs (run (suc k) d rs)
 fed_end k d rs e =
-    let x : (first_time rs ≡ Never) × (due d.phase ≡ Never) = sooner_never (first_time rs) (due d.phase) e in
+    let x : (first_time rs ≡ None) × (due d.phase ≡ None) = sooner_never (first_time rs) (due d.phase) e in
     subst (Fed (suc k) d rs) (sym (run_end k d rs e)) (subst (λ (qs : List Release). Fed (suc k) d qs []) (sym (none_first rs x.0)) (fed_none k d x.1))
 
 module _ (table : Table) (marks : ℕ) (fair : Fair table marks) where
@@ -113,7 +113,7 @@ module _ (table : Table) (marks : ℕ) (fair : Fair table marks) where
     pub sorted : Sorted table.present rs
     pub ahead : Ahead d.clock rs
 
-  module _ (d : State) (rs : List Release) (t : ℕ) (fit : Fit d rs) (next : sooner (first_time rs) (due d.phase) ≡ Tick t) where
+  module _ (d : State) (rs : List Release) (t : ℕ) (fit : Fit d rs) (next : sooner (first_time rs) (due d.phase) ≡ Some t) where
     abbrev set : ℕ
     set = released_at t rs
 
@@ -121,7 +121,7 @@ module _ (table : Table) (marks : ℕ) (fair : Fair table marks) where
     rest = released_after t rs
 
     in_time : (before_now (first_time rs) t ≡ false) × (before_now (due d.phase) t ≡ false)
-    in_time = before_sooner (first_time rs) (due d.phase) t (ap (λ (x : Due). before_now x t) next ∙ le-ltb t t (omega arith))
+    in_time = before_sooner (first_time rs) (due d.phase) t (ap (λ (x : Option ℕ). before_now x t) next ∙ le-ltb t t (omega arith))
 
     parts : Split table.present fair.present t 0 rs (released_at t rs) (released_after t rs)
     parts = split table.present fair.present t rs fit.sorted (first_after rs t in_time.0)
@@ -218,11 +218,11 @@ module _ (table : Table) (marks : ℕ) (fair : Fair table marks) where
   feeding (suc k) d rs f l = go (sooner (first_time rs) (due d.phase)) refl
       (λ t e. feeding k (at_g d t (released_at t rs)) (released_after t rs) (fit_next d rs t f e) (omega (arith, nearer d rs t f e)))
     where
-      go : (x : Due) → sooner (first_time rs) (due d.phase) ≡ x
-          → ((t : ℕ) → sooner (first_time rs) (due d.phase) ≡ Tick t
+      go : (x : Option ℕ) → sooner (first_time rs) (due d.phase) ≡ x
+          → ((t : ℕ) → sooner (first_time rs) (due d.phase) ≡ Some t
           → let g : State = at_g d t (released_at t rs) in Fed k g (released_after t rs) (run k g (released_after t rs)))
           → Fed (suc k) d rs (run (suc k) d rs)
-      go Never e h = fed_end k d rs e
-      go (Tick t) e h =
+      go None e h = fed_end k d rs e
+      go (Some t) e h =
           let g : State = at_g d t (released_at t rs) in
           subst (Fed (suc k) d rs) (sym (run_next d rs t f e k)) (fed_more d rs t f e k (run k g (released_after t rs)) (h t e))

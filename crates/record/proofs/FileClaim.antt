@@ -7,10 +7,10 @@ use lib.ListN.{length}
 use Rattle.sets.specs.Sets.{size}
 use Rattle.sets.proofs.Laws.{by-test, size_none}
 use Rattle.entries.specs.Limits as limits
-use Rattle.table.specs.Head.{head_of}
+use Rattle.table.specs.Head.{head_read, head_of}
 use Rattle.rules.specs.Instant.{due, sooner}
 use Rattle.rules.specs.Calls.{opened, serves, after_call}
-use Rattle.guarantees.specs.Types.{State, Due, Never, Tick, Call, Instant, Occurred}
+use Rattle.guarantees.specs.Types.{State, Option, None, Some, Call, Instant, Occurred}
 use Rattle.guarantees.specs.History.{after_calls, history, EmptySets}
 use Rattle.guarantees.specs.Queries.{total, is_take}
 use Rattle.guarantees.specs.Claim.{AllCompleted}
@@ -32,10 +32,10 @@ use Rattle.record.proofs.Feeding.{Fit, Fed, feeding}
 
 -- ---- there is one way to feed a file
 
-pub not_over : (d : State) (rs : List Release) (t : ℕ) → rs ≡ [] → due d.phase ≡ Never → sooner (first_time rs) (due d.phase) ≡ Tick t → ⊥
+pub not_over : (d : State) (rs : List Release) (t : ℕ) → rs ≡ [] → due d.phase ≡ None → sooner (first_time rs) (due d.phase) ≡ Some t → ⊥
 unfolding sooner
 not_over d rs t e h x =
-    let y : Never ≡ Tick t = subst (λ (u : Due). sooner Never u ≡ Tick t) h (subst (λ (qs : List Release). sooner (first_time qs) (due d.phase) ≡ Tick t) e x) in
+    let y : None ≡ Some t = subst (λ (u : Option ℕ). sooner None u ≡ Some t) h (subst (λ (qs : List Release). sooner (first_time qs) (due d.phase) ≡ Some t) e x) in
     let z : ◌≡◌ {A = ℕ} 0 1 = cc in
     omega arith
 
@@ -52,7 +52,7 @@ one_feed (c ∷ cs) (e ∷ es) d rs h g =
     (subst (λ (u : ℕ). Feeds (after_call d c) (released_after u rs) es) (sym t) (subst (λ (y : Call). Feeds (after_call d y) (released_after g.0 rs) es) (sym x) g.3)))
     ∙ ap (λ (y : Call). y ∷ es) x
   where
-    same : (t u : ℕ) → Tick t ≡ Tick u → t ≡ u
+    same : (t u : ℕ) → Some t ≡ Some u → t ≡ u
     same t u e = cc
 
 -- ---- what the moments have is what the calls answer
@@ -66,42 +66,42 @@ as_answered (c ∷ cs) d = by-test (serves d c) (λ e. rw (e, as_answered cs (af
 
 module _ (s : List ℕ) (rs : List Release) (a : Accepted s rs) where
   abbrev d : State
-  d = opened (head_of s).table (head_of s).marked
+  d = opened (head_read (head_of s)).table (head_read (head_of s)).marked
 
-  pub fit : Fit (head_of s).table (head_of s).marked (fair s rs a) (opened (head_of s).table (head_of s).marked) rs
-  fit = record { good = good_opened (head_of s).table (head_of s).marked (fair s rs a); sorted = a.sorted; ahead = unfold opened in tt }
+  pub fit : Fit (head_read (head_of s)).table (head_read (head_of s)).marked (fair s rs a) (opened (head_read (head_of s)).table (head_read (head_of s)).marked) rs
+  fit = record { good = good_opened (head_read (head_of s)).table (head_read (head_of s)).marked (fair s rs a); sorted = a.sorted; ahead = unfold opened in tt }
 
-  none_yet : mass (opened (head_of s).table (head_of s).marked) ≡ 0
+  none_yet : mass (opened (head_read (head_of s)).table (head_read (head_of s)).marked) ≡ 0
   unfolding mass opened
   none_yet = omega (arith, size_none)
 
   -- a run has at most 25 instants for each release
-  pub fed : Fed (limits.budget (length rs)) (opened (head_of s).table (head_of s).marked) rs (moments_of s rs)
+  pub fed : Fed (limits.budget (length rs)) (opened (head_read (head_of s)).table (head_read (head_of s)).marked) rs (moments_of s rs)
   unfolding moments_of
-  fed = feeding (head_of s).table (head_of s).marked (fair s rs a) (limits.budget (length rs)) d rs fit (omega (arith, none_yet))
+  fed = feeding (head_read (head_of s)).table (head_read (head_of s)).marked (fair s rs a) (limits.budget (length rs)) d rs fit (omega (arith, none_yet))
 
-  pub completed : AllCompleted (history (opened (head_of s).table (head_of s).marked) fed.calls)
+  pub completed : AllCompleted (history (opened (head_read (head_of s)).table (head_read (head_of s)).marked) fed.calls)
   completed =
       subst (λ (cs : List Call). AllCompleted (history d cs)) (append-nil fed.calls)
       ((claim s rs a fed.calls).complete_every_job [] (unfold EmptySets in fed.rests))
 
-  none_waits : (after_calls (opened (head_of s).table (head_of s).marked) fed.calls).waiting.tasks ≡ 0
+  none_waits : (after_calls (opened (head_read (head_of s)).table (head_read (head_of s)).marked) fed.calls).waiting.tasks ≡ 0
   none_waits =
       subst (λ (cs : List Call). (after_calls d cs).waiting.tasks ≡ 0) (append-nil fed.calls)
       ((claim s rs a fed.calls).nothing_waits [] (unfold EmptySets in fed.rests))
 
-  none_waits_yet : size (opened (head_of s).table (head_of s).marked).waiting.tasks ≡ 0
+  none_waits_yet : size (opened (head_read (head_of s)).table (head_read (head_of s)).marked).waiting.tasks ≡ 0
   unfolding opened
   none_waits_yet = size_none
 
-  pub releases_so : total is_take (history (opened (head_of s).table (head_of s).marked) fed.calls) + releases_skipped (moments_of s rs) ≡ length rs
+  pub releases_so : total is_take (history (opened (head_read (head_of s)).table (head_read (head_of s)).marked) fed.calls) + releases_skipped (moments_of s rs) ≡ length rs
   releases_so = omega (arith, fed.releases, ap size none_waits, size_none, none_waits_yet)
 
   -- what the record is made of, and what the feed answers
-  same : all_occurred (opened (head_of s).table (head_of s).marked) fed.calls ≡ occurrences (moments_of s rs)
+  same : all_occurred (opened (head_read (head_of s)).table (head_read (head_of s)).marked) fed.calls ≡ occurrences (moments_of s rs)
   same = sym (as_answered fed.calls d) ∙ ap occurrences fed.gives
 
-  fed_claim : FedClaim (opened (head_of s).table (head_of s).marked) rs (moments_of s rs) fed.calls
+  fed_claim : FedClaim (opened (head_read (head_of s)).table (head_read (head_of s)).marked) rs (moments_of s rs) fed.calls
   fed_claim = record {
     all_served = fed.all_served;
     gives_record = fed.gives;
@@ -124,14 +124,14 @@ module _ (s : List ℕ) (rs : List Release) (a : Accepted s rs) where
   }
 
 pub fed_file : (s : List ℕ) (rs : List Release) → releases_of s ≡ Releases rs
-    → Fed (limits.budget (length rs)) (opened (head_of s).table (head_of s).marked) rs (moments_of s rs)
+    → Fed (limits.budget (length rs)) (opened (head_read (head_of s)).table (head_read (head_of s)).marked) rs (moments_of s rs)
 fed_file s rs h = fed s rs (accepted s rs h)
 
 pub demand_3_files : Demand3Files
 unfolding Demand3Files
 demand_3_files s rs h =
     let a : Accepted s rs = accepted s rs h in
-    let d : State = opened (head_of s).table (head_of s).marked in
+    let d : State = opened (head_read (head_of s)).table (head_read (head_of s)).marked in
     let f : Fed (limits.budget (length rs)) d rs (moments_of s rs) = fed s rs a in
     record {
       opens = opens s rs a;

@@ -6,7 +6,7 @@ use Prim.Native.Nat.{ℕ}
 use native.Mathlib.Omega.{arith}
 use borrow.Author.Tests.{eq-eqb}
 use lib.Dec.{eqb}
-use Rattle.table.specs.Head.{head_of}
+use Rattle.table.specs.Head.{head_read, head_of}
 use Rattle.rules.specs.Instant.{at_g, occurred}
 use Rattle.rules.specs.Entries.{entries}
 use Rattle.rules.specs.Calls.{refusal, after_call}
@@ -39,4 +39,4 @@ answers_fit (Instant t set ∷ cs) d h a l =
 pub file_fits : (s : List ℕ) (rs : List Release) → releases_of s ≡ Releases rs → EntriesFit (record_entries (moments_of s rs))
 file_fits s rs h =
     let f = fed_file s rs h in
-    subst (λ (ms : List Moment). EntriesFit (record_entries ms)) f.gives (answers_fit f.calls _ (opened_fits (head_of s).table (head_of s).marked) f.all_served f.early)
+    subst (λ (ms : List Moment). EntriesFit (record_entries ms)) f.gives (answers_fit f.calls _ (opened_fits (head_read (head_of s)).table (head_read (head_of s)).marked) f.all_served f.early)

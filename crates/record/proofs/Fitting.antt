@@ -1,6 +1,6 @@
 -- What occurs at an instant fits its fields: so do the times and tasks that the state holds, from opening on, and each step keeps it. Assumes nothing.
 use Rattle.std.proofs.Common.{◌≡◌, ◌∷◌, ◌^◌, ◌<◌, ◌++◌}
-use Rattle.guarantees.specs.Types.{refl, subst, Bool, true, false, ⊎_elim, List, [], ℕ, zero, suc, Table, Jobs, WaitingReleases, MaybeTask, NoTask, Task, Processor, Idle, CopyingIn, Executing, Finished, CopyOut, NoCopyOut, CopyingOut, CopiedOut, CopyIn, Unchosen, NoneChosen, Copying, Loaded, Cancelled, Interval, Next, NoneNext, LoadedNext, PromotedNext, Outgoing, NoneOutgoing, AwaitsCopyOut, Phase, Between, Within, State, Closed, NoInterval, Span, Stage}
+use Rattle.guarantees.specs.Types.{refl, subst, Bool, true, false, ⊎_elim, List, [], ℕ, zero, suc, Table, Jobs, WaitingReleases, Option, JobEntry, None, Some, Processor, Idle, CopyingIn, Executing, Finished, CopyOut, NoCopyOut, CopyingOut, CopiedOut, CopyIn, Unchosen, NoneChosen, Copying, Loaded, Cancelled, Interval, Next, NoneNext, LoadedNext, PromotedNext, Outgoing, NoneOutgoing, AwaitsCopyOut, Phase, Between, Within, State, Closed, NoInterval, Span, Stage}
 use native.Mathlib.Omega.{arith}
 use lib.Dec.{eqb}
 use lib.ListN.{get_or, replicate}
@@ -14,7 +14,7 @@ use Rattle.rules.specs.Calls.{opened}
 use Rattle.guarantees.proofs.Highest.{Best, best}
 use Rattle.guarantees.proofs.Cases.{held_at, copyin_cases, copyout_cases, processor_cases, d_cases, e_cases, g_cases}
 use Rattle.entries.specs.RoundTrip.{TaskFits, JobFits, IntervalFits, EntryFits}
-use Rattle.record.specs.Types.{cond, RecordEntry, ReleaseSkipped, Done, NoJob, Job, Closing, Unclosed, BeforeReleases, AfterReleases}
+use Rattle.record.specs.Types.{cond, RecordEntry, ReleaseSkipped, Option, None, Some, Closing, Unclosed, BeforeReleases, AfterReleases}
 use Rattle.record.specs.Fits.{EntriesFit}
 
 -- ---- What fits
@@ -24,23 +24,23 @@ TimeFits u = u < 256 ^ 8
 
 abbrev ProcessorFits : Processor → Type 0
 ProcessorFits Idle = Unit {0}
-ProcessorFits (CopyingIn n until) = TaskFits (Task n)
-ProcessorFits (Executing n start until) = TaskFits (Task n) × TimeFits start
-ProcessorFits (Finished n start) = TaskFits (Task n) × TimeFits start
+ProcessorFits (CopyingIn n until) = TaskFits (Some n)
+ProcessorFits (Executing n start until) = TaskFits (Some n) × TimeFits start
+ProcessorFits (Finished n start) = TaskFits (Some n) × TimeFits start
 
 abbrev CopyOutFits : CopyOut → Type 0
 CopyOutFits NoCopyOut = Unit {0}
-CopyOutFits (CopyingOut n start until) = TaskFits (Task n) × TimeFits start
-CopyOutFits (CopiedOut n) = TaskFits (Task n)
+CopyOutFits (CopyingOut n start until) = TaskFits (Some n) × TimeFits start
+CopyOutFits (CopiedOut n) = TaskFits (Some n)
 
 abbrev NextFits : Next → Type 0
 NextFits NoneNext = Unit {0}
-NextFits (LoadedNext n) = TaskFits (Task n)
-NextFits (PromotedNext n) = TaskFits (Task n)
+NextFits (LoadedNext n) = TaskFits (Some n)
+NextFits (PromotedNext n) = TaskFits (Some n)
 
 abbrev OutgoingFits : Outgoing → Type 0
 OutgoingFits NoneOutgoing = Unit {0}
-OutgoingFits (AwaitsCopyOut n start) = TaskFits (Task n) × TimeFits start
+OutgoingFits (AwaitsCopyOut n start) = TaskFits (Some n) × TimeFits start
 
 abbrev CopyInFits : CopyIn → Type 0
 CopyInFits c = TaskFits (copyin_task c)
@@ -61,9 +61,9 @@ abbrev SpanFits : Closed → Type 0
 SpanFits NoInterval = Unit {0}
 SpanFits (Span e) = IntervalFits e
 
-unfoldable pub DoneFits : Done → Type 0
-DoneFits NoJob = Unit {0}
-DoneFits (Job e) = JobFits e
+unfoldable pub DoneFits : Option JobEntry → Type 0
+DoneFits None = Unit {0}
+DoneFits (Some e) = JobFits e
 
 abbrev ClosedFits : Closing → Type 0
 ClosedFits Unclosed = Unit {0}
@@ -82,10 +82,10 @@ unfolding EntriesFit
 both_fit [] ys h g = g
 both_fit (e ∷ xs) ys h g = (h.0, both_fit xs ys h.1 g)
 
-done_fits : (o : Done) → DoneFits o → EntriesFit (done_entries o)
+done_fits : (o : Option JobEntry) → DoneFits o → EntriesFit (done_entries o)
 unfolding DoneFits EntriesFit EntryFits
-done_fits NoJob h = tt
-done_fits (Job e) h = (h, tt)
+done_fits None h = tt
+done_fits (Some e) h = (h, tt)
 
 closed_fits : (c : Closing) (skips : List RecordEntry) → ClosedFits c → EntriesFit skips → EntriesFit (closed_entries c skips)
 unfolding EntriesFit EntryFits
@@ -106,9 +106,9 @@ skips_fit (suc k) set t h = both_fit (skipped_entries k set t) _ (skips_fit k se
 picked : (priority : List ℕ) (since : ℕ → ℕ) (s : ℕ) → TaskFits (highest priority since s)
 picked priority since s = go (highest priority since s) (best priority since s)
   where
-    go : (p : MaybeTask) → Best priority s p → TaskFits p
-    go NoTask b = unfold TaskFits in tt
-    go (Task n) b = unfold TaskFits in λ e. omega (arith, b.0)
+    go : (p : Option ℕ) → Best priority s p → TaskFits p
+    go None b = unfold TaskFits in tt
+    go (Some n) b = unfold TaskFits in λ e. omega (arith, b.0)
 
 -- ---- The steps
 
@@ -155,13 +155,13 @@ module _ (t : ℕ) (now : TimeFits t) where
   b_promoted d i (Loaded n) = unfold TaskFits in tt
   b_promoted d i (Cancelled n fate) = picked d.table.priority _ _
 
-  b_next : (c : CopyIn) (p : MaybeTask) → CopyInFits c → TaskFits p → NextFits (next_of c p)
-  b_next c (Task n) h k = k
-  b_next Unchosen NoTask h k = tt
-  b_next NoneChosen NoTask h k = tt
-  b_next (Copying n until) NoTask h k = tt
-  b_next (Loaded n) NoTask h k = h
-  b_next (Cancelled n fate) NoTask h k = tt
+  b_next : (c : CopyIn) (p : Option ℕ) → CopyInFits c → TaskFits p → NextFits (next_of c p)
+  b_next c (Some n) h k = k
+  b_next Unchosen None h k = tt
+  b_next NoneChosen None h k = tt
+  b_next (Copying n until) None h k = tt
+  b_next (Loaded n) None h k = h
+  b_next (Cancelled n fate) None h k = tt
 
   b_outgoing : (q : Processor) → ProcessorFits q → OutgoingFits (awaiting_copyout q)
   b_outgoing Idle h = tt
@@ -240,10 +240,10 @@ module _ (t : ℕ) (now : TimeFits t) where
       record { releases = h.releases; waits = h.waits; phase = (f.0, f.1, f.2, ⊎_elim (λ x. subst CopyInFits x.1 f.3) (λ x. subst CopyInFits x f.3) s) })
 
   -- e
-  e_choose : (d : State) (i : Interval) (q : MaybeTask) → TaskFits q → StateFits d → PhaseFits (Within i) → StateFits (choose d t i q)
+  e_choose : (d : State) (i : Interval) (q : Option ℕ) → TaskFits q → StateFits d → PhaseFits (Within i) → StateFits (choose d t i q)
   unfolding choose
-  e_choose d i NoTask k h f = record { releases = h.releases; waits = h.waits; phase = (f.0, f.1, f.2, k) }
-  e_choose d i (Task n) k h f = record { releases = h.releases; waits = h.waits; phase = (f.0, f.1, f.2, k) }
+  e_choose d i None k h f = record { releases = h.releases; waits = h.waits; phase = (f.0, f.1, f.2, k) }
+  e_choose d i (Some n) k h f = record { releases = h.releases; waits = h.waits; phase = (f.0, f.1, f.2, k) }
 
   e_fits : (d : State) → StateFits d → StateFits (step_e d t d.phase)
   e_fits d h =

@@ -9,9 +9,10 @@ use Rattle.sets.specs.Sets.{member, bit, count, size}
 use Rattle.entries.specs.Entries.{entry_bytes, each, record_entry_size}
 use Rattle.entries.proofs.Each.{each_both, each_one, entry_size}
 use Rattle.rules.specs.Entries.{done_entries, skipped_entries, closed_entries, entries}
-use Rattle.record.specs.Types.{RecordEntry, JobDone, IntervalEnded, ReleaseSkipped, Occurred, Done, NoJob, Job, Closing, Unclosed, BeforeReleases, AfterReleases}
+use Rattle.record.specs.Types.{RecordEntry, JobDone, IntervalEnded, ReleaseSkipped, Occurred, Option, JobEntry, None, Some, Closing, Unclosed, BeforeReleases, AfterReleases}
 use Rattle.run.specs.Run.{Moment, record_entries, record_bytes}
 use Rattle.record.specs.FileClaim.{is_job, jobs_done}
+use Rattle.std.specs.Prelude.{Ok}
 
 abbrev pub is_interval : Closing → ℕ
 is_interval Unclosed = 0
@@ -28,16 +29,16 @@ intervals_ended [] = 0
 intervals_ended (m ∷ ms) = is_interval m.occurred.closed + intervals_ended ms
 
 module _ (e : RecordEntry) where
-  length_one : length (each entry_bytes (e ∷ [])) ≡ record_entry_size e
+  length_one : length (each entry_bytes (e ∷ [])) ≡ record_entry_size (Ok e)
   length_one = ap length (each_one entry_bytes e) ∙ entry_size e
 
 length_both : (xs ys : List RecordEntry) → length (each entry_bytes (xs ++ ys)) ≡ length (each entry_bytes xs) + length (each entry_bytes ys)
 length_both xs ys = ap length (each_both entry_bytes xs ys) ∙ length-append (each entry_bytes xs) (each entry_bytes ys)
 
-length_done : (o : Done) → length (each entry_bytes (done_entries o)) ≡ 27 * is_job o
+length_done : (o : Option JobEntry) → length (each entry_bytes (done_entries o)) ≡ 27 * is_job o
 unfolding each
-length_done NoJob = refl
-length_done (Job e) = length_one (JobDone e)
+length_done None = refl
+length_done (Some e) = length_one (JobDone e)
 
 length_skips : (k set t : ℕ) → length (each entry_bytes (skipped_entries k set t)) ≡ 10 * count k (λ n. member n set)
 unfolding skipped_entries count each

@@ -12,7 +12,7 @@ use lib.ListN.{length}
 use Rattle.sets.specs.Sets.{member, insert, bit, size}
 use Rattle.sets.proofs.Laws.{by-test, clash, left, right, one_of, count_sum, count_one, none, inserted, insert_out, member_task}
 use Rattle.entries.specs.Limits as limits
-use Rattle.record.specs.Types.{Release, Before}
+use Rattle.record.specs.Types.{Release, Some}
 use Rattle.run.specs.Files.{rises}
 use Rattle.run.specs.Run.{released_from, released_at, released_after}
 use Rattle.record.specs.FileClaim.{of_task}
@@ -55,7 +55,7 @@ pub none_under : (t : ℕ) (rs : List Release) → Under t 0 rs
 none_under t [] = tt
 none_under t (r ∷ rs) = λ e k m. clash (member k 0) m (none k)
 
-pub rises_on : (l r : Release) → rises (Before l) r ≡ true → (l.time < r.time) ⊎ ((l.time ≡ r.time) × (l.task < r.task))
+pub rises_on : (l r : Release) → rises (Some l) r ≡ true → (l.time < r.time) ⊎ ((l.time ≡ r.time) × (l.task < r.task))
 unfolding rises
 rises_on l r h =
     let e : Bool = eqb l.time r.time in
@@ -63,11 +63,11 @@ rises_on l r h =
     ⊎_elim (λ x. inl (ltb-true l.time r.time x)) (λ x. inr (eqb-true l.time r.time (left e k x), ltb-true l.task r.task (right e k x)))
     (one_of (ltb l.time r.time) (e && k) h)
 
-on_time : (r : Release) (rs : List Release) → RisesTo (Before r) rs → NotBefore r.time rs
+on_time : (r : Release) (rs : List Release) → RisesTo (Some r) rs → NotBefore r.time rs
 on_time r [] h = tt
 on_time r (q ∷ qs) h = ⊎_elim (λ x. omega arith) (λ x. omega arith) (rises_on r q h)
 
-pub under_more : (t set : ℕ) (r : Release) (rs : List Release) → r.time ≡ t → ((k : ℕ) → member k set ≡ true → k < r.task) → RisesTo (Before r) rs
+pub under_more : (t set : ℕ) (r : Release) (rs : List Release) → r.time ≡ t → ((k : ℕ) → member k set ≡ true → k < r.task) → RisesTo (Some r) rs
     → Under t (insert r.task set) rs
 under_more t set r [] e h g = tt
 under_more t set r (q ∷ qs) e h g = λ x k m.

@@ -17,7 +17,7 @@ use Rattle.rules.specs.declared.Call.{Call}
 use Rattle.rules.specs.declared.Call.TheVariants.{Instant}
 use Rattle.dispatcher.specs.declared.Dispatcher.{Dispatcher}
 use Rattle.dispatcher.specs.Dispatcher.{state_of}
-use Rattle.record.specs.Types.{Release, Head, State, Never, Tick, Piece}
+use Rattle.record.specs.Types.{Release, Head, State, None, Some, Piece}
 use Rattle.run.specs.Listed.{releases_at}
 use Rattle.run.specs.Run.{Moment, next_time, record_entries, record_bytes, run, released_at, released_after}
 use Rattle.pieces.specs.Pieces.{Leads, Makes}
@@ -36,10 +36,10 @@ pub record Fed (d : State) (rs : List Release) : Type 0 where
   pub all_served : AllServed d calls
   pub early : AllEarly calls
 
-same : (a b : ℕ) → Tick a ≡ Tick b → a ≡ b
+same : (a b : ℕ) → Some a ≡ Some b → a ≡ b
 same a b e = cc
 
-module _ (d : State) (rs : List Release) (v : Fed d rs) (t : ℕ) (next : next_time d rs ≡ Tick t) where
+module _ (d : State) (rs : List Release) (v : Fed d rs) (t : ℕ) (next : next_time d rs ≡ Some t) where
   is_g : refusal d t (released_at t rs) ≡ 0 → after_call d (Instant t (released_at t rs)) ≡ at_g d t (released_at t rs)
   unfolding after_call
   is_g e = rw (e, after_call)
@@ -80,7 +80,7 @@ module _ (d : State) (rs : List Release) (v : Fed d rs) (t : ℕ) (next : next_t
 
 -- ---- what is left behind moments that were made
 
-pub over : (k : ℕ) (d : State) (rs : List Release) → next_time d rs ≡ Never → run k d rs ≡ []
+pub over : (k : ℕ) (d : State) (rs : List Release) → next_time d rs ≡ None → run k d rs ≡ []
 unfolding run
 over zero d rs e = refl
 over (suc k) d rs e = rw (e, run)
@@ -94,7 +94,7 @@ behind d rs (m ∷ ms) d' rs' h v =
     (subst (λ (a : Moment). Fed a.state (released_after m.time rs)) (sym h.1) (goes d rs v m.time h.0).1)
 
 -- no instant is at the last tick: where it stands, nothing is pending any more
-pub none_left : (d : State) (rs : List Release) → Fed d rs → Stands (2 ^ 64 - 1) (next_time d rs) → next_time d rs ≡ Never
+pub none_left : (d : State) (rs : List Release) → Fed d rs → Stands (2 ^ 64 - 1) (next_time d rs) → next_time d rs ≡ None
 none_left d rs v h = ⊎_elim (λ next. absurd (omega (arith, comes_early d rs v _ next))) (λ z. z.1) h.is
 
 -- ---- a piece of a run
@@ -121,7 +121,7 @@ module _ (s : List ℕ) (at : ℕ) (d : Dispatcher) {budget : ℕ} {out : List �
   pub served_on : Served s (record { state = state_of x.state; at = at + x.read })
   served_on = let f = fed_on in record { within = within; calls = f.calls; feeds = f.feeds; all_served = f.all_served; early = f.early }
 
-  none_next : x.ended ≡ true → next_time (state_of x.state) (releases_at s (at + x.read)) ≡ Never
+  none_next : x.ended ≡ true → next_time (state_of x.state) (releases_at s (at + x.read)) ≡ None
   none_next e =
       none_left (state_of x.state) (releases_at s (at + x.read)) fed_on
       (subst (λ (rs : List Release). Stands (2 ^ 64 - 1) (next_time (state_of x.state) rs)) (behind_part s at x.read) (m.ended_is e).1)

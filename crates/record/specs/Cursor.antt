@@ -5,7 +5,7 @@ use Rattle.entries.specs.Limits as limits
 use Rattle.table.specs.Head.{head_of}
 use Rattle.rules.specs.Calls.{opened, row}
 use Rattle.rules.specs.declared.Call.{Call}
-use Rattle.record.specs.Types.{Bool, true, false, List, [], ℕ, Head, NoRefusal, State, Piece}
+use Rattle.record.specs.Types.{Bool, true, false, List, [], ℕ, Head, Ok, State, Piece}
 use Rattle.run.specs.Listed.{releases_at}
 use Rattle.run.specs.Run.{record_bytes, run}
 use Rattle.dispatcher.specs.Dispatcher.{state_of}
@@ -95,5 +95,4 @@ pub record Runs (s : List ℕ) (c : Cursor) : Type 0 where
 -- an input's head was read and not refused
 pub record ReadWhole (s : List ℕ) (k : Head) : Type 0 where
   pub some : length s ≡ 0 → ⊥
-  pub tasks : k ≡ head_of s
-  pub none_refused : k.refusal ≡ NoRefusal
+  pub tasks : head_of s ≡ Ok k

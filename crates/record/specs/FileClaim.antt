@@ -1,10 +1,10 @@
 -- Demand 3 for files: the claim about the run of every file that is accepted. What stands between quotation marks is document 01; beside
 -- each quotation stands what it says of a run.
 use Rattle.std.specs.Prelude.{◌≡◌, ◌<◌, length, take, eqb, ◌∷◌, ◌++◌, ◌+◌}
-use Rattle.record.specs.Types.{true, cond, List, [], ℕ, Release, Head, NoRefusal, State, Done, NoJob, Job, Never, Tick, Occurred, Outcome}
+use Rattle.record.specs.Types.{true, cond, List, [], ℕ, Release, Head, State, Option, JobEntry, None, Some, Occurred, Outcome, Ok}
 use Rattle.sets.specs.Sets.{bit}
 use Rattle.entries.specs.Limits as limits
-use Rattle.table.specs.Head.{head_of}
+use Rattle.table.specs.Head.{head_read, head_of}
 use Rattle.rules.specs.Instant.{due, sooner}
 use Rattle.rules.specs.Calls.{opened, opening, row, serves, after_call}
 use Rattle.rules.specs.declared.Call.{Call}
@@ -26,9 +26,9 @@ use Rattle.record.specs.Writing.{WroteInNumbers, file}
 -- "Feeding a file's releases and all due times, with no mark call": each call is an instant at the sooner of the next release and the next
 -- due time, with the set released then, until no release is left and nothing is due
 unfoldable pub Feeds : State → List Release → List Call → Type 0
-Feeds d rs [] = (rs ≡ []) × (due d.phase ≡ Never)
+Feeds d rs [] = (rs ≡ []) × (due d.phase ≡ None)
 Feeds d rs (c ∷ cs) =
-    (t : ℕ) × (sooner (first_time rs) (due d.phase) ≡ Tick t) × (c ≡ Instant t (released_at t rs)) ×
+    (t : ℕ) × (sooner (first_time rs) (due d.phase) ≡ Some t) × (c ≡ Instant t (released_at t rs)) ×
     Feeds (after_call d c) (released_after t rs) cs
 
 -- what calls answer: the instants that are served, with what occurred and the state that they hand back
@@ -48,9 +48,9 @@ AllServed d (c ∷ cs) = ((row c).is_instant ≡ true) × ((row c).number d ≡ 
 
 -- ---- How many jobs a record has, and how many releases a file
 
-abbrev pub is_job : Done → ℕ
-is_job NoJob = 0
-is_job (Job e) = 1
+abbrev pub is_job : Option JobEntry → ℕ
+is_job None = 0
+is_job (Some e) = 1
 
 -- kind 16
 unfoldable pub jobs_done : List Moment → ℕ
@@ -96,20 +96,20 @@ pub record FedClaim (d : State) (rs : List Release) (ms : List Moment) (calls : 
 -- of a file's bytes and its releases
 pub record FileClaim (s : List ℕ) (rs : List Release) (d : State) : Type 0 where
   -- "It opens from the task entries alone."
-  pub opens : opening (take (head_of s).end s) ≡ record { state = d; refusal = NoRefusal }
+  pub opens : opening (take (head_read (head_of s)).end s) ≡ Ok d
   pub come_to_an_end : (calls : List Call) × Feeds d rs calls
   pub of_the_feed : (calls : List Call) → Feeds d rs calls → FedClaim d rs (moments_of s rs) calls
 
 -- for every input that is accepted
 unfoldable pub Demand3Files : Type 0
 Demand3Files = (s : List ℕ) (rs : List Release) → releases_of s ≡ Releases rs →
-    let k : Head = head_of s in FileClaim s rs (opened k.table k.marked)
+    let k : Head = head_read (head_of s) in FileClaim s rs (opened k.table k.marked)
 
 -- ---- The claim on a promise
 
 -- the claim for the run of an input, where it is accepted
 abbrev pub AcceptedWithClaim : List ℕ → Type 0
-AcceptedWithClaim s = (rs : List Release) → releases_of s ≡ Releases rs → FileClaim s rs (opened (head_of s).table (head_of s).marked)
+AcceptedWithClaim s = (rs : List Release) → releases_of s ≡ Releases rs → FileClaim s rs (opened (head_read (head_of s)).table (head_read (head_of s)).marked)
 
 -- what comes of an input and a lent slice, and the claim for the run of the input where it is accepted
 pub record WroteWithClaim (s before : List ℕ) (outcome : Outcome) (after : List ℕ) : Type 0 where

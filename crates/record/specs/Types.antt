@@ -1,10 +1,12 @@
 -- The names that the definitions share. Those that lower crates declare are passed on to the crates above.
-pub use Rattle.guarantees.specs.Types.{JobEntry, IntervalEntry, Table, Head, Refusal, NoRefusal, Alone, AtEntry, State, WaitingReleases, Stage, Interval, Phase, Between, Within, Closed, NoInterval, Span, Clock, Unset, At, Done, NoJob, Job, Closing, Unclosed, BeforeReleases, AfterReleases, Due, Never, Tick, Occurred, Answer, Refused, Served}
-pub use Rattle.run.specs.Types.{RecordEntry, JobDone, IntervalEnded, ReleaseSkipped, TaskParameters, Release, Spacing, Entry, Malformed, TaskEntry, ReleaseEntry, SpacingEntry}
+pub use Rattle.guarantees.specs.Types.{JobEntry, IntervalEntry, Table, Head, Refusal, Alone, AtEntry, State, WaitingReleases, Stage, Interval, Phase, Between, Within, Closed, NoInterval, Span, Clock, Unset, At, Option, None, Some, Closing, Unclosed, BeforeReleases, AfterReleases, Occurred, Answer, Err, Ok}
+pub use Rattle.run.specs.Types.{RecordEntry, JobDone, IntervalEnded, ReleaseSkipped, TaskParameters, Release, Spacing, Entry, TaskEntry, ReleaseEntry, SpacingEntry}
 pub use Rattle.pieces.specs.declared.Piece.{Piece}
-pub use Rattle.run.specs.declared.Last.{Last}
-pub use Rattle.run.specs.declared.Last.TheVariants.{NoneBefore, Before}
 pub use Rattle.rules.specs.Calls.{Step}
-pub use Rattle.record.specs.declared.Outcome.{Outcome}
-pub use Rattle.record.specs.declared.Outcome.TheVariants.{RefusedInput, TooShort, Recorded}
-pub use Rattle.std.specs.Prelude.{Bool, true, false, cond, not, ◌&&◌, ◌||◌, List, [], ◌∷◌, ◌++◌, ℕ, zero, suc, ◌+◌, ◌*◌}
+pub use Rattle.record.specs.declared.Unwritten.{Unwritten}
+pub use Rattle.record.specs.declared.Unwritten.TheVariants.{RefusedInput, TooShort}
+pub use Rattle.std.specs.Prelude.{Option, None, Some, Result, Ok, Err, Bool, true, false, cond, not, ◌&&◌, ◌||◌, List, [], ◌∷◌, ◌++◌, ℕ, zero, suc, ◌+◌, ◌*◌}
+
+-- what comes of an input and a lent slice: the length of what was written, or why nothing was
+abbrev pub Outcome : Type 0
+Outcome = Result ℕ Unwritten

@@ -4,10 +4,10 @@ ghost use Rattle.record.specs.Writing.{Wrote, written, file};
 ghost use Rattle.record.specs.FileClaim.{WroteWithClaim};
 ghost use Rattle.record.specs.Cursor.{Ran, Room, Runs, RoomAt, KeptAt, RestRoom, RestRan, start, run_bytes, budget_at};
 
-use crate::Outcome;
+use crate::Unwritten;
 use entries::{RELEASE_SIZE, limits};
 use pieces::Piece;
-use table::{Head, Refusal};
+use table::Head;
 
 // How many bytes of a run are made at a time where they are not made in their place.
 const SCRATCH: usize = 1024;
@@ -78,7 +78,7 @@ fn run_over(s: &[u8], head: Head, budget: usize, out: &mut [u8], keep: bool) -> 
 
 // The record of a run, in a slice that is long enough, or the length needed. Where there is room for the longest record of
 // so many releases, the run is made once.
-fn write_run(s: &[u8], head: Head, out: &mut [u8]) -> Outcome
+fn write_run(s: &[u8], head: Head, out: &mut [u8]) -> Result<usize, Unwritten>
     requires { Runs s.now (start head) }
     ensures { Wrote (written (run_bytes s.now (start head) (budget_at s.now (start head))) out.old)
         result out.new }
@@ -87,31 +87,26 @@ fn write_run(s: &[u8], head: Head, out: &mut [u8]) -> Outcome
     let budget = limits::INSTANTS_EACH * n + limits::INSTANTS_EACH;
     if limits::RECORD_EACH * n <= out.len() {
         let size = run_over(s, head, budget, out, true);
-        return Outcome::Recorded(size);
+        return Ok(size);
     }
     let needed = run_over(s, head, budget, out, false);
     if needed <= out.len() {
         let size = run_over(s, head, budget, out, true);
-        return Outcome::Recorded(size);
+        return Ok(size);
     }
-    Outcome::TooShort(needed)
+    Err(Unwritten::TooShort(needed))
 }
 
-fn write_file(s: &[u8], out: &mut [u8]) -> Outcome
+fn write_file(s: &[u8], out: &mut [u8]) -> Result<usize, Unwritten>
     ensures { Wrote (file s.now out.old) result out.new }
 {
-    let head = run::check_file(s);
-    let refusal = head.refusal;
-    match refusal {
-        Refusal::NoRefusal => write_run(s, head, out),
-        Refusal::Alone(_) => Outcome::RefusedInput(refusal),
-        Refusal::AtEntry(_, _) => Outcome::RefusedInput(refusal),
-    }
+    let head = run::check_file(s)?;
+    write_run(s, head, out)
 }
 
 // The record of an input in the front of `out`, and its length; a refusal of the input; or 13 with the length needed. Nothing
 // behind the record changes, and on a refusal nothing at all. Of the run of every input that is accepted demand 3 holds.
-pub fn write(s: &[u8], out: &mut [u8]) -> Outcome
+pub fn write(s: &[u8], out: &mut [u8]) -> Result<usize, Unwritten>
     ensures { WroteWithClaim s.now out.old result out.new }
 {
     write_file(s, out)

@@ -6,19 +6,19 @@ use native.Mathlib.Omega.{arith}
 use lib.ListN.{length}
 use Rattle.entries.specs.Entries.{record_entry_at, record_entry_size}
 use Rattle.entries.proofs.Places.{entry_within}
-use Rattle.record_lines.specs.Types.{RecordEntry, MalformedRecord, JobDone, IntervalEnded, ReleaseSkipped}
-use Rattle.lines.specs.Lines.{line_of}
-use Rattle.record_lines.specs.Lines.{entry_line, entry_size, lines_from, lines_behind}
+use Rattle.record_lines.specs.Types.{RecordEntry, Unreadable, JobDone, IntervalEnded, ReleaseSkipped}
+use Rattle.record_lines.specs.Lines.{read_line, entry_line, entry_size, lines_from, lines_behind}
+use Rattle.std.specs.Prelude.{Result, Ok, Err}
 
 pub size_fits : (s : List ℕ) (at : ℕ) → entry_size s at ≤ length s - at
 unfolding entry_size
 size_fits s at = entry_within s at
 
-no_line : (f : RecordEntry) → record_entry_size f ≡ 0 → line_of f ≡ []
-no_line (MalformedRecord n) e = refl
-no_line (JobDone x) e = absurd (omega arith)
-no_line (IntervalEnded x) e = absurd (omega arith)
-no_line (ReleaseSkipped x) e = absurd (omega arith)
+no_line : (f : Result RecordEntry Unreadable) → record_entry_size f ≡ 0 → read_line f ≡ []
+no_line (Err x) e = refl
+no_line (Ok (JobDone x)) e = absurd (omega arith)
+no_line (Ok (IntervalEnded x)) e = absurd (omega arith)
+no_line (Ok (ReleaseSkipped x)) e = absurd (omega arith)
 
 -- where no entry stands there is no line
 pub no_entry : (s : List ℕ) (at : ℕ) → entry_size s at ≡ 0 → entry_line s at ≡ []

@@ -1,13 +1,17 @@
 -- The lines of a record's bytes: a J, I or S line for each entry of kind 16, 17 or 18, in order.
-use Rattle.std.specs.Prelude.{◌≡◌, List, [], ◌++◌, ℕ, zero, suc, ◌+◌, ◌-◌, ◌≤◌, ◌<◌, length, drop}
+use Rattle.std.specs.Prelude.{◌≡◌, List, [], ◌++◌, ℕ, zero, suc, ◌+◌, ◌-◌, ◌≤◌, ◌<◌, length, drop, Result, Ok, Err}
 use Rattle.entries.specs.Entries.{record_entry_at, record_entry_size}
 use Rattle.lines.specs.Lines.{line_of}
 use Rattle.lines.specs.Text.{Prints}
-use Rattle.record_lines.specs.Types.{Text}
+use Rattle.record_lines.specs.Types.{Text, RecordEntry, Unreadable}
 
 -- the line of the entry at a place: no bytes where no whole entry stands
+abbrev pub read_line : Result RecordEntry Unreadable → List ℕ
+read_line (Ok e) = line_of e
+read_line (Err e) = []
+
 unfoldable pub entry_line : List ℕ → ℕ → List ℕ
-entry_line s at = line_of (record_entry_at s at)
+entry_line s at = read_line (record_entry_at s at)
 
 -- its length: 0 where no whole entry stands
 unfoldable pub entry_size : List ℕ → ℕ → ℕ

@@ -4,9 +4,9 @@
 ghost use Rattle.std.specs.Prelude.{◌≡◌};
 ghost use Rattle.lines.specs.Lines.{line_of};
 ghost use Rattle.lines.specs.Text.{Prints};
-ghost use Rattle.record_lines.specs.Lines.{LineAt, FilledWith};
+ghost use Rattle.record_lines.specs.Lines.{read_line, LineAt, FilledWith};
 
-use entries::RecordEntry;
+use entries::{RecordEntry, Unreadable};
 use lines::Text;
 
 // The line of an entry, and the place behind the entry.
@@ -23,15 +23,24 @@ pub struct Filled {
     pub next: usize,
 }
 
-// The line of an entry: none of one that is refused.
+// The line of an entry.
 fn line_of(e: RecordEntry) -> Text
     ensures { Prints result (line_of e) }
 {
     match e {
-        RecordEntry::MalformedRecord(_) => lines::no_line(),
         RecordEntry::JobDone(job) => lines::job_line(job),
         RecordEntry::IntervalEnded(interval) => lines::interval_line(interval),
         RecordEntry::ReleaseSkipped(release) => lines::skipped_line(release.task, release.time),
+    }
+}
+
+// None of what is no entry.
+fn read_line(entry: Result<RecordEntry, Unreadable>) -> Text
+    ensures { Prints result (read_line entry) }
+{
+    match entry {
+        Ok(whole) => line_of(whole),
+        Err(_) => lines::no_line(),
     }
 }
 
@@ -41,7 +50,7 @@ pub fn line_at(s: &[u8], at: usize) -> Line
 {
     let entry = entries::record_entry_at(s, at);
     let size = entries::record_entry_size(entry);
-    let text = line_of(entry);
+    let text = read_line(entry);
     Line {
         text,
         next: at + size,

@@ -4,68 +4,48 @@
 #![tactic(auto)]
 
 ghost use Rattle.std.specs.Prelude.{◌≤◌, length};
-ghost use Rattle.streams.specs.Fronts.{IsPrefixLen};
-ghost use Rattle.entries.specs.Limits.{instant_most};
-ghost use Rattle.run.specs.Cut.{file_most};
 
 use entries::limits;
-use streams::Got;
+use streams::Failed;
 use table::{Head, Refusal};
 
 // Room for the entries of many instants.
 const ENTRIES: usize = 16384;
 
-fn write_run(rt: HostRuntime, input: &[u8], head: Head, out: &mut [u8])
-    requires end_in_bounds { head.end ≤ length input.now }
-    requires instant_most_in_bounds { instant_most ≤ length out.old }
+fn write_run(rt: HostRuntime, input: &[u8], head: Head, out: &mut [u8]) -> Result<(), Failed>
+    requires { head.end ≤ length input.now }
 {
-    let table = head.table;
-    let mut d = dispatcher::opened(table, head.marked);
-    let mut at = head.end;
-    let mut left = limits::BUDGET_MOST;
-    while left != 0 {
-        let x = pieces::next_piece(&input[at..], d, left, out);
-        if !streams::write_front(rt, b"recorder", out, x.size) {
-            return;
+    let rest = &input[head.end..];
+    let d = dispatcher::opened(head.table, head.marked);
+    pieces::each_piece(rest, d, limits::BUDGET_MOST, out, |piece| {
+        streams::write(rt, piece)
+    })
+}
+
+fn say(rt: HostRuntime, refusal: Refusal) {
+    printing::tell_refusal(rt, b"recorder: the input is refused: ", refusal);
+}
+
+fn answer(rt: HostRuntime, input: &[u8], out: &mut [u8]) -> Result<(), Failed> {
+    match run::check_file(input) {
+        Ok(head) => write_run(rt, input, head, out),
+        Err(refusal) => {
+            say(rt, refusal);
+            Ok(())
         }
-        at += x.read;
-        left = x.left;
-        d = x.state;
     }
 }
 
-// Says on standard error why nothing is written.
-fn say(rt: HostRuntime, refusal: Refusal, out: &mut [u8]) {
-    let count = lines::put(lines::refused_input_line(refusal), out);
-    streams::tell(rt, b"recorder: the input is refused: ", &out[..count]);
-}
-
-fn answer(rt: HostRuntime, input: &[u8], out: &mut [u8])
-    requires { instant_most ≤ length out.old }
-{
-    let head = run::check_file(input);
-    let refusal = head.refusal;
-    match refusal {
-        Refusal::NoRefusal => write_run(rt, input, head, out),
-        Refusal::Alone(_) => say(rt, refusal, out),
-        Refusal::AtEntry(_, _) => say(rt, refusal, out),
-    }
-}
-
-// Reads as much of an input as there is room for, which is enough: run/specs/Cut, `ReadFromFront`. What stands behind it is not read.
-fn read(rt: HostRuntime, input: &mut [u8]) -> Got
-    requires { file_most ≤ length input.old }
-    ensures { IsPrefixLen result.count input.new }
-{
-    streams::fill(rt, b"recorder", input, 0)
+// As much of an input is read as there is room for, which is enough: run/specs/Cut, `ReadFromFront`. What stands behind it is not read.
+fn drive(rt: HostRuntime) -> Result<(), Failed> {
+    let mut input = [0u8; limits::FILE_MOST];
+    let mut out = [0u8; ENTRIES];
+    let count = streams::fill(rt, &mut input, 0)?;
+    answer(rt, &input[..count], &mut out)
 }
 
 fn main(rt: HostRuntime) {
-    let mut input = [0u8; limits::FILE_MOST];
-    let mut out = [0u8; ENTRIES];
-    let got = read(rt, &mut input);
-    if got.good {
-        let count = got.count;
-        answer(rt, &input[..count], &mut out);
+    if let Err(failed) = drive(rt) {
+        streams::report(rt, "recorder", failed);
     }
 }

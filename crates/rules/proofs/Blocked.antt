@@ -1,6 +1,6 @@
 -- The tasks that an interval can block, and the jobs that it blocks, over the registers.
 use Rattle.std.proofs.Common.{◌&&◌, ◌||◌, ◌∷◌, ◌^◌, ◌<◌, ◌≡◌}
-use Rattle.rules.specs.Types.{Bool, true, false, cond, List, [], ℕ, suc, refl, sym, ap, ◌∙◌, subst, MaybeTask, NoTask, Task, TasksAbove, Interval, Phase, Between, Within, State, Registers}
+use Rattle.rules.specs.Types.{Bool, true, false, cond, List, [], ℕ, suc, refl, sym, ap, ◌∙◌, subst, Option, None, Some, TasksAbove, Interval, Phase, Between, Within, State, Registers}
 use mathlib.Core.Logic.{◌↔◌}
 use borrow.Author.Tests.{ltb-true, lt-ltb, eqb-true}
 use lib.Dec.{eqb, ltb}
@@ -23,9 +23,9 @@ module _ (d : State) (k : ℕ) (small : d.table.present < 2 ^ 32) where
   from_set (Between next outgoing) e m = clash (member k 0) m (none k)
   from_set (Within i) e m = at_end (over i) refl m
     where
-      executed : (q : MaybeTask) → processor_task i.processor ≡ q → over i ≡ true → member k (higher d q d.table.present) ≡ true → CanBlock d k
-      executed NoTask f o m = clash (member k 0) m (none k)
-      executed (Task n) f o m =
+      executed : (q : Option ℕ) → processor_task i.processor ≡ q → over i ≡ true → member k (higher d q d.table.present) ≡ true → CanBlock d k
+      executed None f o m = clash (member k 0) m (none k)
+      executed (Some n) f o m =
           let x : (member k d.table.present && ltb (priority d k) (priority d n)) ≡ true =
           collect_out (λ j. member j d.table.present && ltb (priority d j) (priority d n)) k m in
           record {
@@ -38,7 +38,7 @@ module _ (d : State) (k : ℕ) (small : d.table.present < 2 ^ 32) where
             is_higher = ltb-true (priority d k) (priority d n) (right (member k d.table.present) (ltb (priority d k) (priority d n)) x);
           }
 
-      at_end : (b : Bool) → over i ≡ b → member k (higher d (cond b (processor_task i.processor) NoTask) d.table.present) ≡ true → CanBlock d k
+      at_end : (b : Bool) → over i ≡ b → member k (higher d (cond b (processor_task i.processor) None) d.table.present) ≡ true → CanBlock d k
       at_end true o m = executed (processor_task i.processor) refl o m
       at_end false o m = clash (member k 0) m (none k)
 
@@ -46,8 +46,8 @@ module _ (d : State) (k : ℕ) (small : d.table.present < 2 ^ 32) where
   unfolding blockable higher_than
   to_set c =
       ap (λ (p : Phase). member k (higher d (executed_in p) d.table.present)) c.is_open
-      ∙ ap (λ (b : Bool). member k (higher d (cond b (processor_task c.interval.processor) NoTask) d.table.present)) c.at_end
-      ∙ ap (λ (q : MaybeTask). member k (higher d q d.table.present)) c.executed
+      ∙ ap (λ (b : Bool). member k (higher d (cond b (processor_task c.interval.processor) None) d.table.present)) c.at_end
+      ∙ ap (λ (q : Option ℕ). member k (higher d q d.table.present)) c.executed
       ∙ collect_in (λ j. member j d.table.present && ltb (priority d j) (priority d c.task)) k (member_task k d.table.present small c.in_table)
       (both (member k d.table.present) (ltb (priority d k) (priority d c.task)) c.in_table (lt-ltb (priority d k) (priority d c.task) c.is_higher))
 
@@ -64,21 +64,21 @@ executed_is : (r : Registers) → is_over (phase_in r) ≡ true → executed_in 
 unfolding is_over interval_in
 executed_is r h =
     let e : phase_in r ≡ Within (interval_in r) = open_in r h in
-    ap executed_in e ∙ ap (λ (b : Bool). cond b (processor_task (processor_in r)) NoTask) (ap is_over (sym e) ∙ h)
+    ap executed_in e ∙ ap (λ (b : Bool). cond b (processor_task (processor_in r)) None) (ap is_over (sym e) ∙ h)
 
 module _ (m : Memory) (r : Registers) where
-  idle_task : eqb r.processor 0 ≡ true → processor_task (processor_in r) ≡ NoTask
+  idle_task : eqb r.processor 0 ≡ true → processor_task (processor_in r) ≡ None
   idle_task e = simp e
 
-  executed_task : eqb r.processor 0 ≡ false → processor_task (processor_in r) ≡ Task r.task
+  executed_task : eqb r.processor 0 ≡ false → processor_task (processor_in r) ≡ Some r.task
   executed_task e = sym (executes r.processor r.task r.start r.until e)
 
   -- the jobs that it blocks
 
-  nobody : (q : MaybeTask) → higher (state_in m r) q 0 ≡ 0
+  nobody : (q : Option ℕ) → higher (state_in m r) q 0 ≡ 0
   unfolding higher_than
-  nobody NoTask = refl
-  nobody (Task n) =
+  nobody None = refl
+  nobody (Some n) =
       let p : ℕ → Bool = λ k. member k 0 && ltb (priority (state_in m r) k) (priority (state_in m r) n) in
       empty (higher_than (state_in m r).table.priority n 0) (collect_small p) (λ k l. collected p k l ∙ ap (λ (b : Bool). b && ltb (priority (state_in m r) k) (priority (state_in m r) n)) (none k))
 
@@ -88,7 +88,7 @@ module _ (d : State) (i : Interval) (kind n present start until : ℕ)
     (p : d.phase ≡ Within i) (e : over i ≡ true) (q : i.processor ≡ as_processor kind n start until) where
   executed_there : executed_in d.phase ≡ processor_task (as_processor kind n start until)
   executed_there =
-      ap executed_in p ∙ ap (λ (b : Bool). cond b (processor_task i.processor) NoTask) e ∙ ap processor_task q
+      ap executed_in p ∙ ap (λ (b : Bool). cond b (processor_task i.processor) None) e ∙ ap processor_task q
 
   small_there : d.table.present ≡ present → present < 2 ^ 32 → d.table.present < 2 ^ 32
   small_there t l = subst (λ (x : ℕ). x < 2 ^ 32) (sym t) l
@@ -97,9 +97,9 @@ module _ (d : State) (i : Interval) (kind n present start until : ℕ)
   unfolding blockable
   idled_blocks k t l =
       is_blockable d (small_there t l)
-      (sym (ap (λ (x : MaybeTask). higher d x d.table.present) (executed_there ∙ idled)))
+      (sym (ap (λ (x : Option ℕ). higher d x d.table.present) (executed_there ∙ idled)))
     where
-      idled : processor_task (as_processor kind n start until) ≡ NoTask
+      idled : processor_task (as_processor kind n start until) ≡ None
       idled = simp k
 
   pub executed_blocks : {x : ℕ} {ranks : List ℕ} → eqb kind 0 ≡ false → d.table.present ≡ present → present < 2 ^ 32 → d.table.priority ≡ ranks
@@ -107,12 +107,12 @@ module _ (d : State) (i : Interval) (kind n present start until : ℕ)
   unfolding blockable
   executed_blocks k t l r h =
       is_blockable d (small_there t l)
-      (h ∙ sym (ap (λ (x : MaybeTask). higher d x d.table.present) (executed_there ∙ sym (executes kind n start until k)) ∙ rw (t, r)))
+      (h ∙ sym (ap (λ (x : Option ℕ). higher d x d.table.present) (executed_there ∙ sym (executes kind n start until k)) ∙ rw (t, r)))
 
 module _ (m : Memory) (r : Registers) where
   pub none_idle : eqb r.processor 0 ≡ true → 0 ≡ blocks (state_in m r) (interval_in r)
   unfolding blocks interval_in state_in
-  none_idle e = sym (ap (λ (q : MaybeTask). higher (state_in m r) q (awaiting_execution (copyin_in r) r.ready)) (idle_task m r e))
+  none_idle e = sym (ap (λ (q : Option ℕ). higher (state_in m r) q (awaiting_execution (copyin_in r) r.ready)) (idle_task m r e))
 
   pub none_wait : {waiting : ℕ} → waiting ≡ awaiting_execution (copyin_in r) r.ready → waiting ≡ 0 → 0 ≡ blocks (state_in m r) (interval_in r)
   unfolding blocks interval_in state_in
@@ -122,12 +122,12 @@ module _ (m : Memory) (r : Registers) where
       → x ≡ higher_than m.table.priority r.task waiting → x ≡ blocks (state_in m r) (interval_in r)
   unfolding blocks interval_in state_in
   some_blocks f w e =
-      e ∙ sym (ap (λ (q : MaybeTask). higher (state_in m r) q (awaiting_execution (copyin_in r) r.ready)) (executed_task m r f) ∙ rw w)
+      e ∙ sym (ap (λ (q : Option ℕ). higher (state_in m r) q (awaiting_execution (copyin_in r) r.ready)) (executed_task m r f) ∙ rw w)
 
   pub set_is : is_over (phase_in r) ≡ true → eqb r.processor 0 ≡ false
       → blockable (state_in m r) ≡ higher_than m.table.priority r.task m.table.present
   unfolding blockable state_in
-  set_is h f = ap (λ (q : MaybeTask). higher (state_in m r) q m.table.present) (executed_is r h ∙ executed_task m r f)
+  set_is h f = ap (λ (q : Option ℕ). higher (state_in m r) q m.table.present) (executed_is r h ∙ executed_task m r f)
 
 -- ---- counted
 
@@ -226,7 +226,7 @@ module _ (m : Memory) (r : Registers) (n : ℕ) (low : outranks (state_in m r) r
       ap (λ (i : ℕ). ltb (get_or m.table.priority i 0) (get_or m.table.priority r.task 0)) (eqb-true k n e)
       ∙ sym (ap (outranks (state_in m r) r.task) there) ∙ low
     where
-      there : as_task n ≡ Task n
+      there : as_task n ≡ Some n
       there = simp (lt-ltb n 32 (subst (λ (i : ℕ). i < 32) (eqb-true k n e) l))
 
   pub alone_blocks : {waiting : ℕ} → eqb r.processor 0 ≡ false → waiting ≡ awaiting_execution (copyin_in r) r.ready → waiting ≡ insert n 0

@@ -7,10 +7,10 @@ use borrow.Author.Tests.{eqb-true, eqb-false}
 use lib.Dec.{eqb}
 use lib.ListN.{length, get_or, set, length-set}
 use lib.Seq.{get_or-set_same, get_or-set_other, ext_get_or}
-use Rattle.sets.specs.Sets.{member, remove, lowest}
+use Rattle.sets.specs.Sets.{member}
 use Rattle.sets.proofs.Laws.{by-test, none}
 use Rattle.rules.specs.Instant.{stamped}
-use Rattle.rules.proofs.Members.{Left, Turn, passed, start, at_start, at_end, turn}
+use Rattle.rules.proofs.Members.{Left, Turn, passed, start, at_start, at_end}
 
 -- f at each task of a set, by its number and what it has, from task k on
 unfoldable pub each : (ℕ → ℕ → ℕ) → ℕ → ℕ → List ℕ → List ℕ
@@ -48,8 +48,8 @@ module _ {f : ℕ → ℕ → ℕ} {s : ℕ} {old : List ℕ} where
   pub store_start : s < 2 ^ 32 → Stored f s s old old
   store_start l = record { members = start l; long = refl; at = λ k m. rw (at_start s k) }
 
-  stored : {left n after v : ℕ} {new : List ℕ} → Turn s left n after → Stored f s left old new → v ≡ f n (get_or new n 0) → Stored f s after old (set new n v)
-  stored {left} {n} {after} {v} {new} t h q = record {
+  pub store : {left n after v : ℕ} {new : List ℕ} → Turn s left n after → Stored f s left old new → v ≡ f n (get_or new n 0) → Stored f s after old (set new n v)
+  store {left} {n} {after} {v} {new} t h q = record {
     members = t.next;
     long = length-set new n v ∙ h.long;
     at = λ k m.
@@ -59,9 +59,6 @@ module _ {f : ℕ → ℕ → ℕ} {s : ℕ} {old : List ℕ} where
         (λ e. let b : n < length new = omega (arith, eqb-true k n e) in rw (e, eqb-true k n e, get_or-set_same new n v 0 b, q, h.at n b, t.fresh))
         (λ e. rw (e, get_or-set_other new n k v 0 (eqb-false k n e)) (h.at k l)));
   }
-
-  pub store : {left n after v : ℕ} {new : List ℕ} → Stored f s left old new → (left ≡ 0 → ⊥) → n ≡ lowest left → after ≡ remove (lowest left) left → v ≡ f n (get_or new n 0) → Stored f s after old (set new n v)
-  store h some e g q = stored (turn h.members some e g) h q
 
   pub store_end : {left : ℕ} {new : List ℕ} → Stored f s left old new → left ≡ 0 → new ≡ each f s 0 old
   store_end {left} {new} h z =

@@ -1,6 +1,6 @@
 -- The registers with some of them others, read back.
 use Rattle.std.proofs.Common.{◌-◌, ◌≡◌}
-use Rattle.rules.specs.Types.{Bool, true, false, cond, ℕ, WaitingReleases, refl, ◌∙◌, MaybeTask, Processor, CopyOut, CopyIn, Cancelled, Within, Registers}
+use Rattle.rules.specs.Types.{Bool, true, false, cond, ℕ, WaitingReleases, refl, ◌∙◌, Option, Processor, CopyOut, CopyIn, Cancelled, Within, Registers}
 use borrow.Author.Tests.{eq-eqb, ne_eqb}
 use lib.Dec.{eqb}
 use Rattle.sets.specs.Sets.{union, intersection, difference, insert}
@@ -95,14 +95,14 @@ unfolding phase_in interval_in is_over
 ends_settled r x ne p o s =
     simp (ne_eqb _ _ ne, p, not_copying_out r.copyout r.outtask r.outstart r.outuntil (ne_eqb _ _ o), s)
 
-pub entry_by : (r : Registers) (t p fate : ℕ) (task copiedout chosen promoted : MaybeTask)
+pub entry_by : (r : Registers) (t p fate : ℕ) (task copiedout chosen promoted : Option ℕ)
     → task ≡ processor_task (processor_in r) → copiedout ≡ copyout_task (copyout_in r) → chosen ≡ copyin_task (copyin_in r) → fate ≡ copyin_fate (copyin_in r) → promoted ≡ as_task p
     → record { begin = r.begin; end = t; half = r.half; task = task; work = r.work; copiedout = copiedout; chosen = chosen; fate = fate; promoted = promoted }
     ≡ entry_with r.half t (interval_in r) (as_task p)
 unfolding interval_in entry_with
 entry_by r t p fate task copiedout chosen promoted a b c d e = simp (a, b, c, d, e)
 
-pub closed_by : (m : Memory) (r : Registers) (p : MaybeTask) (out ready work n : ℕ)
+pub closed_by : (m : Memory) (r : Registers) (p : Option ℕ) (out ready work n : ℕ)
     → as_outgoing out r.task r.start ≡ awaiting_copyout (processor_in r) → ready ≡ without_promoted r.ready p → as_next work n ≡ next_of (copyin_in r) p
     → state_in m (record {
       marked = r.marked;

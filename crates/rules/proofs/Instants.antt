@@ -1,7 +1,7 @@
 -- An instant over lent arrays, step behind step: what each of them leaves, read back, is what the rules say of the instant. Assumes nothing.
 use Rattle.std.proofs.Common.{◌≡◌}
 use mathlib.Core.Path.{ap₂}
-use Rattle.rules.specs.Types.{Bool, true, false, List, ℕ, refl, sym, ap, ◌∙◌, subst, Interval, Phase, Between, Within, State, Stage, NoJob, Closed, NoInterval, Span, IntervalEntry, Occurred}
+use Rattle.rules.specs.Types.{Bool, true, false, List, ℕ, refl, sym, ap, ◌∙◌, subst, Interval, Phase, Between, Within, State, Stage, None, Closed, NoInterval, Span, IntervalEntry, Occurred}
 use mathlib.Core.Bool.{false≢true, true≢false}
 use lib.ListN.{get_or}
 use Rattle.sets.proofs.Laws.{by-test}
@@ -23,7 +23,7 @@ stays_at s t (Between next outgoing) h = refl
 stays_at s t (Within i) h = rw (h, close_stage)
 
 closes_at : (d : State) (t : ℕ) (p : Phase) (i : Interval) → p ≡ Within i → is_over p ≡ true
-    → step_b (fresh_stage d) t p ≡ record { state = close d i; done = NoJob; closed = Span (interval_entry d t i) }
+    → step_b (fresh_stage d) t p ≡ record { state = close d i; done = None; closed = Span (interval_entry d t i) }
 unfolding is_over step_b close_stage
 closes_at d t p i e h = rw (e, subst (λ (q : Phase). is_over q ≡ true) e h, close_stage)
 
@@ -52,7 +52,7 @@ module _ (t : ℕ) (k : Kept) (b : Beside) {over : Bool} (h : OverAt k.codes ove
   closes_with p {blocked = blocked} {k' = k'} w f promotes counts entry closing =
       let r = registers_in k in
       let now : is_over (phase_in r) ≡ true = sym (h k.times k.sets) ∙ f in
-      let e : step_f (read k b) t ≡ record { state = close (read k b) (interval_in r); done = NoJob; closed = Span (interval_entry (read k b) t (interval_in r)) } =
+      let e : step_f (read k b) t ≡ record { state = close (read k b) (interval_in r); done = None; closed = Span (interval_entry (read k b) t (interval_in r)) } =
       closes_at (read k b) t (phase_in r) (interval_in r) (open_in r now) now in
       let promoted_is = promotes k.times b.columns b.by_task.blocked b.by_task.waits now in
       let x = closing (rests now) (with_counts b blocked) w in

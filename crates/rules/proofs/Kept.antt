@@ -1,6 +1,6 @@
 -- The registers where they are kept: a law about arrays of known lengths is one about their numbers.
 use Rattle.std.proofs.Common.{◌∷◌, ◌-◌, ◌<◌, ◌≤◌, ◌≡◌, ◌⊎◌}
-use Rattle.rules.specs.Types.{Bool, true, false, not, cond, List, [], ℕ, zero, suc, refl, sym, ap, ◌∙◌, subst, inl, inr, ⊎_elim, State, Registers, Jobs, NoJob, Job}
+use Rattle.rules.specs.Types.{Bool, true, false, not, cond, List, [], ℕ, zero, suc, refl, sym, ap, ◌∙◌, subst, inl, inr, ⊎_elim, State, Registers, Jobs, None, Some}
 use native.Mathlib.Omega.{arith}
 use mathlib.Core.Bool.{true≢false}
 use borrow.Author.Tests.{eqb-true, eqb-false, ne_eqb, lt-ltb, le-ltb}
@@ -288,7 +288,7 @@ ends_by false true c e = (refl, (refl, e))
 -- a copy-out ends: the job that is done, and where none ends, none
 pub job_done : {release blocked : ℕ} (k : Kept) (b : Beside) (t : ℕ) → copyout_ends t k.times k.codes ≡ true
     → release ≡ get_or b.by_task.release (get_or k.codes 5 0) 0 → blocked ≡ get_or b.by_task.blocked (get_or k.codes 5 0) 0
-    → Job (record { task = get_or k.codes 5 0; release = release; start = get_or k.times 3 0; completion = t; blocked = blocked })
+    → Some (record { task = get_or k.codes 5 0; release = release; start = get_or k.times 3 0; completion = t; blocked = blocked })
     ≡ (step_a (read k b) t (read k b).phase).done
 unfolding state_in
 job_done k b t h er eb =
@@ -302,13 +302,13 @@ not_ends_by true b c e = inl refl
 not_ends_by false false c e = inr (refl, inl refl)
 not_ends_by false true c e = inr (refl, inr (refl, e))
 
-pub no_job_done : (k : Kept) (b : Beside) (t : ℕ) → copyout_ends t k.times k.codes ≡ false → NoJob ≡ (step_a (read k b) t (read k b).phase).done
+pub no_job_done : (k : Kept) (b : Beside) (t : ℕ) → copyout_ends t k.times k.codes ≡ false → None ≡ (step_a (read k b) t (read k b).phase).done
 unfolding state_in
 no_job_done k b t h =
     let r = registers_in k in
     ⊎_elim
     (λ e. none_completed (memory_in k b) r t (eqb-true r.copyin 6 e))
-    (λ e. is_completed (memory_in k b) r t NoJob (eqb-false r.copyin 6 e.0)
+    (λ e. is_completed (memory_in k b) r t None (eqb-false r.copyin 6 e.0)
     (⊎_elim
     (λ f. nothing_completed _ t r.copyout r.outtask r.outstart r.outuntil f)
     (λ f. not_yet_completed _ t r.copyout r.outtask r.outstart r.outuntil (eqb-true r.copyout 1 f.0) (eqb-false r.outuntil t f.1))

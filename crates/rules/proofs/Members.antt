@@ -1,11 +1,13 @@
--- Loops that go from member to member of a set, by `lowest` and `rest`: what is left of the set, and what one turn changes.
-use Rattle.std.proofs.Common.{◌&&◌, ◌||◌, ◌-◌, ◌^◌, ◌≤◌, ◌<◌, ◌≡◌}
+-- Loops over the members of a set: what is left of the set, and what one turn changes.
+use Rattle.std.proofs.Common.{◌&&◌, ◌||◌, ◌^◌, ◌≤◌, ◌<◌, ◌≡◌}
 use Rattle.rules.specs.Types.{Bool, true, false, not, ℕ, refl, sym, ◌∙◌}
 use native.Mathlib.Omega.{arith}
 use native.Mathlib.Nat.{lt_of_lt_of_le}
 use borrow.Author.Tests.{ltb-true, ltb-false, eqb-true, eq-eqb, ne_eqb}
 use lib.Dec.{eqb, ltb}
-use Rattle.sets.specs.Sets.{member, remove, lowest}
+use mathlib.Core.List.{[], ◌∷◌}
+use Rattle.sets.specs.Sets.{member, remove, lowest, members_below}
+use Rattle.sets.proofs.Listing.{next_of, none_left}
 use Rattle.sets.proofs.Laws.{by-test, clash, removed, remove_small, remove_out, remove_other, none, none_past, lowest_most, lowest_member, lowest_first, lowest_least, lowest_task}
 
 -- what a loop has left: from the lowest task left on, the tasks of the set
@@ -97,12 +99,16 @@ module _ (set left : ℕ) (h : Left set left) (some : left ≡ 0 → ⊥) where
 pub turn : {set left n after : ℕ} → Left set left → (left ≡ 0 → ⊥) → n ≡ lowest left → after ≡ remove (lowest left) left → Turn set left n after
 turn {set} {left} h some e f = rw (f, e) (goes set left h some)
 
-pub is_task_left : {set left n : ℕ} → Left set left → (left ≡ 0 → ⊥) → n ≡ lowest left → n < 32
-is_task_left h some e = (turn h some e refl).task
+-- ---- what the iterator over a set says of such a loop
 
--- the measure of such a loop: what lies above the lowest task left
-pub falls : {set left n after : ℕ} → Left set left → (left ≡ 0 → ⊥) → n ≡ lowest left → after ≡ remove (lowest left) left → 32 - lowest after < 32 - lowest left
-falls h some e f = let t = turn h some e f in omega (arith, t.rises, t.lowest_left, t.task)
+abbrev pub Gave : ℕ → ℕ → ℕ → Type 0
+Gave left n after = (members_below 32 left ≡ n ∷ members_below 32 after) × (after < 2 ^ 32)
+
+pub onward : {set : ℕ} (left n after : ℕ) → Left set left → Gave left n after → Turn set left n after
+onward left n after h g = let t = next_of left n after h.small g.1 g.0 in turn h t.some t.is_lowest t.is_rest
+
+pub ended : {set : ℕ} (left : ℕ) → Left set left → members_below 32 left ≡ [] → left ≡ 0
+ended left h e = none_left left h.small e
 
 -- ---- a loop that gathers those that meet a test
 

@@ -1,6 +1,6 @@
 -- What stands in numbers, by its kind, where the code tests fewer kinds than there are.
 use Rattle.std.proofs.Common.{◌-◌, ◌≤◌, ◌<◌, ◌≡◌}
-use Rattle.rules.specs.Types.{List, true, false, not, ℕ, ap, ◌∙◌, Table, Jobs, Registers, Done, CopyingIn, Executing, Finished, CopyingOut, Outgoing, Task, NoTask, NoneNext, NoJob, Job}
+use Rattle.rules.specs.Types.{List, false, ℕ, Table, Jobs, Registers, Option, JobEntry, CopyingIn, Executing, Finished, CopyingOut, Some, None, NoneNext}
 use native.Mathlib.Omega.{arith}
 use borrow.Author.Tests.{eqb-true, eqb-false, eq-eqb, ne_eqb}
 use lib.Dec.{eqb}
@@ -9,7 +9,7 @@ use Rattle.table.specs.Table.{copyin_length, execution_length, copyout_length}
 use Rattle.sets.specs.Sets.{insert}
 use Rattle.sets.proofs.Laws.{by-test}
 use Rattle.rules.specs.With.{later}
-use Rattle.rules.specs.Instant.{processor_at, copyout_at, copyin_at, completed, step_a, resting, copying_out, settled, awaiting_execution, processor_task, copyout_task, copyin_task, copyin_fate, next_of, wanted, begin_processor, begin_copyout}
+use Rattle.rules.specs.Instant.{processor_at, copyout_at, copyin_at, completed, step_a, copying_out, awaiting_execution, processor_task, copyout_task, copyin_task, copyin_fate, next_of, begin_processor, begin_copyout}
 use Rattle.rules.specs.Registers.{as_processor, as_copyout, as_copyin, as_next, as_outgoing, copyout_in, phase_in, interval_in, Memory, state_in}
 
 -- ---- a
@@ -78,24 +78,24 @@ fate_so_far kind n until x l e =
 
 pub job_completed : (j : Jobs) (t kind n start until release blocked : ℕ)
     → kind ≡ 1 → until ≡ t → release ≡ get_or j.release n 0 → blocked ≡ get_or j.blocked n 0
-    → Job (record { task = n; release = release; start = start; completion = t; blocked = blocked }) ≡ completed j t (as_copyout kind n start until)
+    → Some (record { task = n; release = release; start = start; completion = t; blocked = blocked }) ≡ completed j t (as_copyout kind n start until)
 unfolding completed
 job_completed j t kind n start until release blocked k e x y = simp (k, eq-eqb _ _ e, x, y)
 
-pub not_yet_completed : (j : Jobs) (t kind n start until : ℕ) → kind ≡ 1 → (until ≡ t → ⊥) → NoJob ≡ completed j t (as_copyout kind n start until)
+pub not_yet_completed : (j : Jobs) (t kind n start until : ℕ) → kind ≡ 1 → (until ≡ t → ⊥) → None ≡ completed j t (as_copyout kind n start until)
 unfolding completed
 not_yet_completed j t kind n start until k ne = simp (k, ne_eqb _ _ ne)
 
-pub nothing_completed : (j : Jobs) (t kind n start until : ℕ) → eqb kind 1 ≡ false → NoJob ≡ completed j t (as_copyout kind n start until)
+pub nothing_completed : (j : Jobs) (t kind n start until : ℕ) → eqb kind 1 ≡ false → None ≡ completed j t (as_copyout kind n start until)
 unfolding completed
 nothing_completed j t kind n start until f = by-test (eqb kind 0) (λ e. simp e) (λ e. simp (e, f))
 
 pub none_completed : (m : Memory) (r : Registers) (t : ℕ)
-    → r.copyin ≡ 6 → NoJob ≡ (step_a (state_in m r) t (phase_in r)).done
+    → r.copyin ≡ 6 → None ≡ (step_a (state_in m r) t (phase_in r)).done
 unfolding state_in phase_in interval_in step_a
 none_completed m r t e = simp (eq-eqb _ _ e)
 
-pub is_completed : (m : Memory) (r : Registers) (t : ℕ) (x : Done)
+pub is_completed : (m : Memory) (r : Registers) (t : ℕ) (x : Option JobEntry)
     → (r.copyin ≡ 6 → ⊥)
     → x ≡ completed (record { pending = r.pending; ready = r.ready; release = m.arrays.release; blocked = m.arrays.blocked }) t (copyout_in r)
     → x ≡ (step_a (state_in m r) t (phase_in r)).done
@@ -103,20 +103,6 @@ unfolding state_in phase_in interval_in step_a
 is_completed m r t x ne e = simp (ne_eqb _ _ ne, e)
 
 -- ---- b
-
-pub rests : (kind n start until : ℕ) → eqb kind 1 ≡ false → not (eqb kind 2) ≡ resting (as_processor kind n start until)
-rests kind n start until f =
-    by-test (eqb kind 0)
-    (λ e. simp (eqb-true kind 0 e))
-    (λ e. by-test (eqb kind 2) (λ g. simp (e, f, g)) (λ g. simp (e, f, g)))
-
-pub settles : (kind n until : ℕ) → eqb kind 0 ≡ false → not (eqb kind 2) ≡ settled (as_copyin kind n until)
-settles kind n until e =
-    by-test (eqb kind 1)
-    (λ f. simp (eqb-true kind 1 f))
-    (λ f. by-test (eqb kind 2)
-    (λ g. simp (e, f, g))
-    (λ g. by-test (eqb kind 3) (λ h. simp (e, f, g, h)) (λ h. simp (e, f, g, h))))
 
 pub not_copying_out : (kind n start until : ℕ) → eqb kind 1 ≡ false → copying_out (as_copyout kind n start until) ≡ false
 not_copying_out kind n start until f = by-test (eqb kind 0) (λ e. simp e) (λ e. simp (e, f))
@@ -132,18 +118,18 @@ waits kind n until ready h =
     (λ f. simp (e, f))
     (λ f. by-test (eqb kind 2) (λ g. simp (e, f, g)) (λ g. simp (e, f, g, h))))
 
-pub executes : (kind n start until : ℕ) → eqb kind 0 ≡ false → Task n ≡ processor_task (as_processor kind n start until)
+pub executes : (kind n start until : ℕ) → eqb kind 0 ≡ false → Some n ≡ processor_task (as_processor kind n start until)
 executes kind n start until e =
     by-test (eqb kind 1) (λ f. simp (e, f)) (λ f. by-test (eqb kind 2) (λ g. simp (e, f, g)) (λ g. simp (e, f, g)))
 
-pub copies_out : (kind n start until : ℕ) → eqb kind 0 ≡ false → Task n ≡ copyout_task (as_copyout kind n start until)
+pub copies_out : (kind n start until : ℕ) → eqb kind 0 ≡ false → Some n ≡ copyout_task (as_copyout kind n start until)
 copies_out kind n start until e = by-test (eqb kind 1) (λ f. simp (e, f)) (λ f. simp (e, f))
 
-pub copies_in : (kind n until : ℕ) → eqb kind 0 ≡ false → eqb kind 1 ≡ false → Task n ≡ copyin_task (as_copyin kind n until)
+pub copies_in : (kind n until : ℕ) → eqb kind 0 ≡ false → eqb kind 1 ≡ false → Some n ≡ copyin_task (as_copyin kind n until)
 copies_in kind n until e f =
     by-test (eqb kind 2) (λ g. simp (e, f, g)) (λ g. by-test (eqb kind 3) (λ h. simp (e, f, g, h)) (λ h. simp (e, f, g, h)))
 
-pub none_next : (kind n until : ℕ) → eqb kind 3 ≡ false → NoneNext ≡ next_of (as_copyin kind n until) NoTask
+pub none_next : (kind n until : ℕ) → eqb kind 3 ≡ false → NoneNext ≡ next_of (as_copyin kind n until) None
 none_next kind n until h =
     by-test (eqb kind 0)
     (λ e. simp e)
@@ -152,26 +138,6 @@ none_next kind n until h =
     (λ f. by-test (eqb kind 2) (λ g. simp (e, f, g)) (λ g. simp (e, f, g, h))))
 
 -- ---- g
-
-pub wanted_next : (work n ready : ℕ) (o : Outgoing) → eqb work 0 ≡ false → true ≡ wanted (as_next work n) o ready
-wanted_next work n ready o e = by-test (eqb work 1) (λ f. simp (e, f)) (λ f. simp (e, f))
-
-module _ (work n kind m start ready : ℕ) where
-  pub wanted_outgoing : eqb kind 0 ≡ false → true ≡ wanted (as_next work n) (as_outgoing kind m start) ready
-  wanted_outgoing f = by-test (eqb work 0) (λ e. simp (e, f)) (wanted_next work n ready (as_outgoing kind m start))
-
-  pub wanted_ready : eqb ready 0 ≡ false → true ≡ wanted (as_next work n) (as_outgoing kind m start) ready
-  wanted_ready g =
-      by-test (eqb work 0)
-      (λ e. by-test (eqb kind 0) (λ f. simp (e, f, g)) wanted_outgoing)
-      (wanted_next work n ready (as_outgoing kind m start))
-
-  -- with no job ready and none to copy out
-  pub wanted_by_next : ready ≡ 0 → kind ≡ 0 → not (eqb work 0) ≡ wanted (as_next work n) (as_outgoing kind m start) ready
-  wanted_by_next g f =
-      by-test (eqb work 0)
-      (λ e. simp (e, f, g))
-      (λ e. ap not e ∙ wanted_next work n ready (as_outgoing kind m start) e)
 
 pub loaded_begins : (table : Table) (columns : List ℕ) (t work n length until : ℕ)
     → work ≡ 1 → length ≡ execution_length columns n → until ≡ later t length → table.columns ≡ columns

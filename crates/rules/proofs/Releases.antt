@@ -1,6 +1,6 @@
 -- Steps c and d: what gives way to the releases that are taken, and that without releases nothing changes.
 use Rattle.std.proofs.Common.{◌&&◌, ◌||◌, ◌^◌, ◌<◌, ◌≡◌}
-use Rattle.rules.specs.Types.{Bool, true, false, cond, not, List, ℕ, zero, suc, refl, sym, ap, ◌∙◌, MaybeTask, NoTask, CopyIn, Unchosen, NoneChosen, Copying, Loaded, Cancelled, Interval, Phase, Between, Within, State, Registers}
+use Rattle.rules.specs.Types.{Bool, true, false, cond, not, List, ℕ, zero, suc, refl, sym, ap, ◌∙◌, Option, None, CopyIn, Unchosen, NoneChosen, Copying, Loaded, Cancelled, Interval, Phase, Between, Within, State, Registers}
 use mathlib.Core.Path.{ap₂}
 use mathlib.Core.Bool.{true≢false}
 use borrow.Author.Tests.{eqb-true}
@@ -34,7 +34,7 @@ stays d taken r h =
     neither false b e = (refl, e)
 
 -- where it holds one, this gives way, or does not
-pub cancels : {by : MaybeTask} {b : Bool} (d : State) (taken : ℕ) (r : Registers)
+pub cancels : {by : Option ℕ} {b : Bool} (d : State) (taken : ℕ) (r : Registers)
     → is_held r.copyin ≡ true → by ≡ highest_of d (intersection taken d.marked) → b ≡ outranks d r.intask by
     → step_d d taken (phase_in r) ≡ cancel d (interval_in r) r.intask (cond (eqb r.copyin 3) 3 2) b
 unfolding cancel_by step_d interval_in phase_in
@@ -53,12 +53,12 @@ steps d t taken deferred e f = rw (f, e)
 
 -- ---- no release
 
-none_below : (k : ℕ) (priority : List ℕ) (since : ℕ → ℕ) → highest_below k priority since 0 ≡ NoTask
+none_below : (k : ℕ) (priority : List ℕ) (since : ℕ → ℕ) → highest_below k priority since 0 ≡ None
 unfolding highest_below
 none_below zero priority since = refl
 none_below (suc k) priority since = rw (none k, none_below k priority since)
 
-highest_none : (d : State) → highest_of d 0 ≡ NoTask
+highest_none : (d : State) → highest_of d 0 ≡ None
 unfolding highest
 highest_none d = none_below 32 d.table.priority (λ k. get_or d.jobs.release k 0)
 

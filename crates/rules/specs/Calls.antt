@@ -1,10 +1,10 @@
 -- The dispatcher by instants, over its state: opening from the head, an instant and a mark call, each with its refusals in their
 -- order. A refused call hands the state back as it was.
-use Rattle.rules.specs.Types.{Bool, true, false, cond, not, List, ℕ, Table, Clock, Unset, At, NoneNext, NoneOutgoing, Between, State, Call, Instant, Mark, Marks, Due, Never, Tick, Answer, Refused, Served, MarkAnswer, MarkRefused, MarkServed, Refusal, Head}
-use Rattle.std.specs.Prelude.{ltb, leb, eqb, replicate, ◌&&◌}
+use Rattle.rules.specs.Types.{Bool, true, false, cond, not, List, ℕ, Table, Clock, Unset, At, NoneNext, NoneOutgoing, Between, State, Call, Instant, Mark, Marks, Option, None, Some, Answer, Err, Ok, MarkAnswer, Refusal, Head}
+use Rattle.std.specs.Prelude.{ltb, leb, eqb, replicate, ◌&&◌, Result, Ok, Err}
 use Rattle.sets.specs.Sets.{member, union, intersection, difference, insert}
 use Rattle.entries.specs.Limits as limits
-use Rattle.table.specs.Head.{head_alone}
+use Rattle.table.specs.Head.{no_table, head_alone}
 use Rattle.rules.specs.Instant.{at_g, occurred, due}
 
 -- ---- What a call hands back: the next state, and what it says
@@ -16,10 +16,6 @@ pub record Step : Type 0 where
 pub record MarkStep : Type 0 where
   pub state : State
   pub answer : MarkAnswer
-
-pub record Opening : Type 0 where
-  pub state : State
-  pub refusal : Refusal
 
 -- ---- Opening, from a head alone: its refusals are those of the head
 
@@ -35,9 +31,17 @@ opened table marked = record {
   phase = Between NoneNext NoneOutgoing;
 }
 
+abbrev pub opened_from : Result Head Refusal → Result State Refusal
+opened_from (Ok k) = Ok (opened k.table k.marked)
+opened_from (Err r) = Err r
+
+unfoldable pub opening : List ℕ → Result State Refusal
+opening s = opened_from (head_alone s)
+
 -- a head that is refused has no task: so has what stands for the state where no dispatcher opens
-unfoldable pub opening : List ℕ → Opening
-opening s = let k : Head = head_alone s in record { state = opened k.table k.marked; refusal = k.refusal }
+abbrev pub state_opened : Result State Refusal → State
+state_opened (Ok d) = d
+state_opened (Err r) = opened no_table 0
 
 -- ---- An instant: 16, 10, 14, 15; 0 is none.
 
@@ -49,9 +53,9 @@ abbrev pub not_after : Clock → ℕ → Bool
 not_after Unset t = false
 not_after (At last) t = leb t last
 
-abbrev pub before_now : Due → ℕ → Bool
-before_now Never t = false
-before_now (Tick u) t = ltb u t
+abbrev pub before_now : Option ℕ → ℕ → Bool
+before_now None t = false
+before_now (Some u) t = ltb u t
 
 unfoldable pub refusal : State → ℕ → ℕ → ℕ
 refusal d t set =
@@ -62,12 +66,12 @@ refusal d t set =
 
 -- a call that meets no row is served
 unfoldable pub served : State → ℕ → ℕ → Step
-served d t set = record { state = at_g d t set; answer = Served (occurred d t set) }
+served d t set = record { state = at_g d t set; answer = Ok (occurred d t set) }
 
 unfoldable pub instant : State → ℕ → ℕ → Step
 instant d t set =
     let r : ℕ = refusal d t set in
-    cond (eqb r 0) (served d t set) (record { state = d; answer = Refused r })
+    cond (eqb r 0) (served d t set) (record { state = d; answer = Err r })
 
 -- ---- A mark call: 16, 6, 17; 0 is none. "A mark cannot change while a release waits, under refusal 17."
 
@@ -99,7 +103,7 @@ with_mark d n m = with_marks d (insert n 0) m
 unfoldable pub mark : State → ℕ → ℕ → MarkStep
 mark d n m =
     let r : ℕ = mark_refusal d n m in
-    cond (eqb r 0) (record { state = with_mark d n m; answer = MarkServed }) (record { state = d; answer = MarkRefused r })
+    cond (eqb r 0) (record { state = with_mark d n m; answer = Ok tt }) (record { state = d; answer = Err r })
 
 -- ---- 10/13, "Marks for a whole desk": "If any named task is unknown, the mark is bad, or any has a job pending or a release waiting,
 -- nothing changes, under 16, 6 and 17 in that order."
@@ -113,7 +117,7 @@ marks_refusal d set m =
 unfoldable pub marks : State → ℕ → ℕ → MarkStep
 marks d set m =
     let r : ℕ = marks_refusal d set m in
-    cond (eqb r 0) (record { state = with_marks d set m; answer = MarkServed }) (record { state = d; answer = MarkRefused r })
+    cond (eqb r 0) (record { state = with_marks d set m; answer = Ok tt }) (record { state = d; answer = Err r })
 
 -- ---- A call of any kind
 

@@ -1,12 +1,12 @@
 -- The entries that an instant leaves in a record, in the order in which things occur: kind 16 at step a, kind 17 at the interval's end,
 -- kind 18 at step c by rising task number. Bytes and printed lines are made of them one by one.
 use Rattle.std.specs.Prelude.{◌∷◌, ◌++◌}
-use Rattle.rules.specs.Types.{cond, List, [], ℕ, zero, suc, RecordEntry, JobDone, IntervalEnded, ReleaseSkipped, Done, NoJob, Job, Closing, Unclosed, BeforeReleases, AfterReleases, Occurred}
+use Rattle.rules.specs.Types.{cond, List, [], ℕ, zero, suc, RecordEntry, JobDone, IntervalEnded, ReleaseSkipped, Option, JobEntry, None, Some, Closing, Unclosed, BeforeReleases, AfterReleases, Occurred}
 use Rattle.sets.specs.Sets.{member}
 
-abbrev pub done_entries : Done → List RecordEntry
-done_entries NoJob = []
-done_entries (Job e) = JobDone e ∷ []
+abbrev pub done_entries : Option JobEntry → List RecordEntry
+done_entries None = []
+done_entries (Some e) = JobDone e ∷ []
 
 unfoldable pub skipped_entries : ℕ → ℕ → ℕ → List RecordEntry
 skipped_entries zero set t = []

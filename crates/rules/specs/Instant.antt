@@ -1,5 +1,5 @@
 -- What happens at one instant, steps a to g, in this order. Where it applies a definition names its rule of R1 to R6.
-use Rattle.rules.specs.Types.{Bool, true, false, cond, not, List, [], ℕ, suc, min, Table, Jobs, WaitingReleases, MaybeTask, NoTask, Task, Processor, Idle, CopyingIn, Executing, Finished, CopyOut, NoCopyOut, CopyingOut, CopiedOut, CopyIn, Unchosen, NoneChosen, Copying, Loaded, Cancelled, Interval, Next, NoneNext, LoadedNext, PromotedNext, Outgoing, NoneOutgoing, AwaitsCopyOut, Phase, Between, Within, State, JobEntry, IntervalEntry, Done, NoJob, Job, Closed, NoInterval, Span, Closing, Unclosed, BeforeReleases, AfterReleases, Due, Never, Tick, Occurred, Stage, ReleaseFates}
+use Rattle.rules.specs.Types.{Bool, true, false, cond, not, List, [], ℕ, suc, min, Table, Jobs, WaitingReleases, Option, None, Some, Processor, Idle, CopyingIn, Executing, Finished, CopyOut, NoCopyOut, CopyingOut, CopiedOut, CopyIn, Unchosen, NoneChosen, Copying, Loaded, Cancelled, Interval, Next, NoneNext, LoadedNext, PromotedNext, Outgoing, NoneOutgoing, AwaitsCopyOut, Phase, Between, Within, State, JobEntry, IntervalEntry, Closed, NoInterval, Span, Closing, Unclosed, BeforeReleases, AfterReleases, Occurred, Stage, ReleaseFates}
 use Rattle.std.specs.Prelude.{eqb, ltb, get_or, ◌&&◌, ◌∷◌, ◌+◌, ◌-◌}
 use Rattle.table.specs.Table.{copyin_length, execution_length, copyout_length, spacing}
 use Rattle.sets.specs.Sets.{member, collect, union, intersection, difference, insert, remove}
@@ -8,7 +8,7 @@ use Rattle.rules.specs.Order.{highest_of, outranks, higher}
 
 -- a state in which no step has done anything yet
 abbrev pub fresh_stage : State → Stage
-fresh_stage d = record { state = d; done = NoJob; closed = NoInterval }
+fresh_stage d = record { state = d; done = None; closed = NoInterval }
 
 -- ---- a. Phases that end now end. A copy-out's end completes its job.
 
@@ -46,23 +46,23 @@ abbrev pub job_entry : Jobs → ℕ → ℕ → ℕ → JobEntry
 job_entry j n start t = record { task = n; release = get_or j.release n 0; start = start; completion = t; blocked = get_or j.blocked n 0 }
 
 -- the job whose copy-out ends now
-unfoldable pub completed : Jobs → ℕ → CopyOut → Done
-completed j t NoCopyOut = NoJob
-completed j t (CopyingOut n start until) = cond (eqb until t) (Job (job_entry j n start t)) NoJob
-completed j t (CopiedOut n) = NoJob
+unfoldable pub completed : Jobs → ℕ → CopyOut → Option JobEntry
+completed j t NoCopyOut = None
+completed j t (CopyingOut n start until) = cond (eqb until t) (Some (job_entry j n start t)) None
+completed j t (CopiedOut n) = None
 
-abbrev pub after_done : ℕ → Done → ℕ
-after_done s NoJob = s
-after_done s (Job e) = remove e.task s
+abbrev pub after_done : ℕ → Option JobEntry → ℕ
+after_done s None = s
+after_done s (Some e) = remove e.task s
 
 -- a job is pending until its copy-out ends
-unfoldable pub without_done : Jobs → Done → Jobs
+unfoldable pub without_done : Jobs → Option JobEntry → Jobs
 without_done j done = record { pending = after_done j.pending done; ready = j.ready; release = j.release; blocked = j.blocked }
 
 unfoldable pub step_a : State → ℕ → Phase → Stage
 step_a d t (Between next outgoing) = fresh_stage d
 step_a d t (Within i) =
-    let done : Done = completed d.jobs t i.copyout in
+    let done : Option JobEntry = completed d.jobs t i.copyout in
     record {
       state = with_phase (with_jobs d (without_done d.jobs done)) (Within (ended d.table t i));
       done = done;
@@ -99,23 +99,23 @@ unfoldable pub is_over : Phase → Bool
 is_over (Between next outgoing) = false
 is_over (Within i) = over i
 
-abbrev pub processor_task : Processor → MaybeTask
-processor_task Idle = NoTask
-processor_task (CopyingIn n until) = Task n
-processor_task (Executing n start until) = Task n
-processor_task (Finished n start) = Task n
+abbrev pub processor_task : Processor → Option ℕ
+processor_task Idle = None
+processor_task (CopyingIn n until) = Some n
+processor_task (Executing n start until) = Some n
+processor_task (Finished n start) = Some n
 
-abbrev pub copyout_task : CopyOut → MaybeTask
-copyout_task NoCopyOut = NoTask
-copyout_task (CopyingOut n start until) = Task n
-copyout_task (CopiedOut n) = Task n
+abbrev pub copyout_task : CopyOut → Option ℕ
+copyout_task NoCopyOut = None
+copyout_task (CopyingOut n start until) = Some n
+copyout_task (CopiedOut n) = Some n
 
-abbrev pub copyin_task : CopyIn → MaybeTask
-copyin_task Unchosen = NoTask
-copyin_task NoneChosen = NoTask
-copyin_task (Copying n until) = Task n
-copyin_task (Loaded n) = Task n
-copyin_task (Cancelled n fate) = Task n
+abbrev pub copyin_task : CopyIn → Option ℕ
+copyin_task Unchosen = None
+copyin_task NoneChosen = None
+copyin_task (Copying n until) = Some n
+copyin_task (Loaded n) = Some n
+copyin_task (Cancelled n fate) = Some n
 
 -- 0 none, 1 done, 2 cancelled, 3 thrown out
 abbrev pub copyin_fate : CopyIn → ℕ
@@ -127,25 +127,25 @@ copyin_fate (Cancelled n fate) = fate
 
 -- R4: where the copy-in was cancelled or thrown out, or none was chosen, the highest-priority marked job released
 -- in the interval and ready is promoted
-unfoldable pub promoted : State → Interval → CopyIn → MaybeTask
-promoted d i Unchosen = NoTask
+unfoldable pub promoted : State → Interval → CopyIn → Option ℕ
+promoted d i Unchosen = None
 promoted d i NoneChosen = highest_of d (intersection i.candidates d.jobs.ready)
-promoted d i (Copying n until) = NoTask
-promoted d i (Loaded n) = NoTask
+promoted d i (Copying n until) = None
+promoted d i (Loaded n) = None
 promoted d i (Cancelled n fate) = highest_of d (intersection i.candidates d.jobs.ready)
 
-abbrev pub without_promoted : ℕ → MaybeTask → ℕ
-without_promoted s NoTask = s
-without_promoted s (Task n) = remove n s
+abbrev pub without_promoted : ℕ → Option ℕ → ℕ
+without_promoted s None = s
+without_promoted s (Some n) = remove n s
 
 -- R5: the next interval executes the promoted job, else the loaded one, else none
-abbrev pub next_of : CopyIn → MaybeTask → Next
-next_of c (Task n) = PromotedNext n
-next_of Unchosen NoTask = NoneNext
-next_of NoneChosen NoTask = NoneNext
-next_of (Copying n until) NoTask = NoneNext
-next_of (Loaded n) NoTask = LoadedNext n
-next_of (Cancelled n fate) NoTask = NoneNext
+abbrev pub next_of : CopyIn → Option ℕ → Next
+next_of c (Some n) = PromotedNext n
+next_of Unchosen None = NoneNext
+next_of NoneChosen None = NoneNext
+next_of (Copying n until) None = NoneNext
+next_of (Loaded n) None = LoadedNext n
+next_of (Cancelled n fate) None = NoneNext
 
 -- R2: the job that was executed is copied out in the next interval
 abbrev pub awaiting_copyout : Processor → Outgoing
@@ -172,7 +172,7 @@ counted s k [] = []
 counted s k (x ∷ xs) = cond (member k s) (min (x + 1) 255) x ∷ counted s (suc k) xs
 
 -- the state after an interval that ends, where the blocked intervals are counted already
-unfoldable pub closed_with : State → Interval → MaybeTask → State
+unfoldable pub closed_with : State → Interval → Option ℕ → State
 closed_with d i p =
     with_phase
     (with_jobs d (record {
@@ -188,7 +188,7 @@ unfolding counted closed_with
 close d i = closed_with (with_blocked d (counted (blocks d i) 0 d.jobs.blocked)) i (promoted d i i.copyin)
 
 -- what is recorded of an interval that ends: its half, its end and the task promoted
-unfoldable pub entry_with : ℕ → ℕ → Interval → MaybeTask → IntervalEntry
+unfoldable pub entry_with : ℕ → ℕ → Interval → Option ℕ → IntervalEntry
 entry_with half t i p = record {
   begin = i.begin;
   end = t;
@@ -218,15 +218,15 @@ step_b s t (Within i) = close_stage s t i (over i)
 
 -- 8/13: "the task's last release taken or set waiting", by its original time: that of the waiting one where one waits, else that of its
 -- last job
-unfoldable pub previous_release : State → ℕ → Due
+unfoldable pub previous_release : State → ℕ → Option ℕ
 previous_release d n =
-    cond (member n d.waiting.tasks) (Tick (get_or d.waiting.times n 0))
-    (cond (member n d.waiting.before) (Tick (get_or d.jobs.release n 0)) Never)
+    cond (member n d.waiting.tasks) (Some (get_or d.waiting.times n 0))
+    (cond (member n d.waiting.before) (Some (get_or d.jobs.release n 0)) None)
 
 -- "sooner than the spacing after" it; "a release exactly one spacing later passes"
-abbrev pub comes_sooner : ℕ → ℕ → Due → Bool
-comes_sooner t spacing Never = false
-comes_sooner t spacing (Tick last) = ltb (t - last) spacing
+abbrev pub comes_sooner : ℕ → ℕ → Option ℕ → Bool
+comes_sooner t spacing None = false
+comes_sooner t spacing (Some last) = ltb (t - last) spacing
 
 -- of a set, the tasks whose release comes too soon: it "is skipped", before anything else is asked of it. "A task without one is not
 -- tested."
@@ -344,9 +344,9 @@ step_d d taken (Within i) = cancel_by d taken i i.copyin
 -- ---- e. If an interval is open, the engine is free and the choice has not been made, it is made: the highest-priority ready job
 -- begins copy-in, or none does (R2). It is made once an interval.
 
-unfoldable pub choose : State → ℕ → Interval → MaybeTask → State
-choose d t i NoTask = with_phase d (Within (with_copyin i NoneChosen))
-choose d t i (Task n) =
+unfoldable pub choose : State → ℕ → Interval → Option ℕ → State
+choose d t i None = with_phase d (Within (with_copyin i NoneChosen))
+choose d t i (Some n) =
     with_phase (with_ready d (remove n d.jobs.ready))
     (Within (with_copyin i (Copying n (later t (copyin_length d.table.columns n)))))
 
@@ -439,31 +439,31 @@ step_g d t taken (Between next outgoing) =
 
 -- ---- The next due time: when the next phase ends
 
-unfoldable pub sooner : Due → Due → Due
-sooner Never b = b
-sooner (Tick a) Never = Tick a
-sooner (Tick a) (Tick b) = Tick (min a b)
+unfoldable pub sooner : Option ℕ → Option ℕ → Option ℕ
+sooner None b = b
+sooner (Some a) None = Some a
+sooner (Some a) (Some b) = Some (min a b)
 
-abbrev pub processor_due : Processor → Due
-processor_due Idle = Never
-processor_due (CopyingIn n until) = Tick until
-processor_due (Executing n start until) = Tick until
-processor_due (Finished n start) = Never
+abbrev pub processor_due : Processor → Option ℕ
+processor_due Idle = None
+processor_due (CopyingIn n until) = Some until
+processor_due (Executing n start until) = Some until
+processor_due (Finished n start) = None
 
-abbrev pub copyout_due : CopyOut → Due
-copyout_due NoCopyOut = Never
-copyout_due (CopyingOut n start until) = Tick until
-copyout_due (CopiedOut n) = Never
+abbrev pub copyout_due : CopyOut → Option ℕ
+copyout_due NoCopyOut = None
+copyout_due (CopyingOut n start until) = Some until
+copyout_due (CopiedOut n) = None
 
-abbrev pub copyin_due : CopyIn → Due
-copyin_due Unchosen = Never
-copyin_due NoneChosen = Never
-copyin_due (Copying n until) = Tick until
-copyin_due (Loaded n) = Never
-copyin_due (Cancelled n fate) = Never
+abbrev pub copyin_due : CopyIn → Option ℕ
+copyin_due Unchosen = None
+copyin_due NoneChosen = None
+copyin_due (Copying n until) = Some until
+copyin_due (Loaded n) = None
+copyin_due (Cancelled n fate) = None
 
-unfoldable pub due : Phase → Due
-due (Between next outgoing) = Never
+unfoldable pub due : Phase → Option ℕ
+due (Between next outgoing) = None
 due (Within i) = sooner (processor_due i.processor) (sooner (copyout_due i.copyout) (copyin_due i.copyin))
 
 -- ---- The instant: the state after the steps up to each letter

@@ -1,5 +1,6 @@
 pub mod State
 pub mod Named
+pub mod Refusals
 pub mod Types
 pub mod With
 pub mod Order

@@ -1,11 +1,11 @@
 -- The numbers of a dispatcher by name (specs/Named), and what stands beside them, read back as the state that the rules speak of.
-use Rattle.rules.specs.Types.{Bool, cond, List, ℕ, Table, Clock, MaybeTask, NoTask, Task, Processor, Idle, CopyingIn, Executing, Finished, CopyOut, NoCopyOut, CopyingOut, CopiedOut, CopyIn, Unchosen, NoneChosen, Copying, Loaded, Cancelled, Interval, Next, NoneNext, LoadedNext, PromotedNext, Outgoing, NoneOutgoing, AwaitsCopyOut, Phase, Between, Within, State, WaitingReleases, Registers}
+use Rattle.rules.specs.Types.{Bool, cond, List, ℕ, Table, Clock, Option, None, Some, Processor, Idle, CopyingIn, Executing, Finished, CopyOut, NoCopyOut, CopyingOut, CopiedOut, CopyIn, Unchosen, NoneChosen, Copying, Loaded, Cancelled, Interval, Next, NoneNext, LoadedNext, PromotedNext, Outgoing, NoneOutgoing, AwaitsCopyOut, Phase, Between, Within, State, WaitingReleases, Registers}
 use Rattle.std.specs.Prelude.{eqb, ltb, ◌||◌, ◌-◌}
 use Rattle.entries.specs.Limits as limits
 
 -- what is no task number stands for no task
-abbrev pub as_task : ℕ → MaybeTask
-as_task n = cond (ltb n limits.tasks) (Task n) NoTask
+abbrev pub as_task : ℕ → Option ℕ
+as_task n = cond (ltb n limits.tasks) (Some n) None
 
 -- ---- In an open interval
 

@@ -1,7 +1,7 @@
 -- The state of the dispatcher, as the rules speak of it.
-use Rattle.std.specs.Prelude.{List, ℕ}
 use Rattle.table.specs.declared.Table.{Table}
-use Rattle.rules.specs.declared.Done.{Done}
+use Rattle.std.specs.Prelude.{Option, None, Some, List, ℕ}
+use Rattle.entries.specs.declared.JobEntry.{JobEntry}
 use Rattle.entries.specs.declared.IntervalEntry.{IntervalEntry}
 
 -- the time of the last instant
@@ -89,5 +89,5 @@ pub data Closed : Type 0 where
 -- within an instant: the state after some of the steps, with what they did
 pub record Stage : Type 0 where
   pub state : State
-  pub done : Done
+  pub done : Option JobEntry
   pub closed : Closed

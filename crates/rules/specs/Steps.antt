@@ -1,6 +1,6 @@
 -- What each step over lent arrays promises: the rules' step of the state that was read before, whatever stands in the arrays that it is
 -- not lent.
-use Rattle.rules.specs.Types.{Bool, true, false, cond, List, ℕ, MaybeTask, Table, TasksAbove, Cancelled, Interval, Within, Next, Outgoing, State, Stage, Closed, Job, Due, Never, Tick, JobEntry, IntervalEntry}
+use Rattle.rules.specs.Types.{Bool, true, false, cond, List, ℕ, Option, Table, TasksAbove, Cancelled, Interval, Within, Next, Outgoing, State, Stage, Closed, Some, None, JobEntry, IntervalEntry}
 use Rattle.std.specs.Prelude.{◌↔◌, eqb, ltb, get_or, set, ◌&&◌, ◌-◌, ◌^◌, ◌<◌, ◌≤◌, ◌≡◌, ◌⊎◌}
 use Rattle.sets.specs.Sets.{member, collect}
 use Rattle.table.specs.Table.{spacing}
@@ -40,7 +40,7 @@ abbrev pub CompletedJob : ℕ → List ℕ → List ℕ → List ℕ → List �
 CompletedJob t times codes release blocked x =
     (sets priority columns waits : List ℕ) → copyout_ends t times codes ≡ true
     → let d : State = read (kept times sets codes) (beside priority columns (by_task release blocked waits)) in
-    Job x ≡ (step_a d t d.phase).done
+    Some x ≡ (step_a d t d.phase).done
 
 -- step a of what is left once its job is no longer pending is that of what was there
 pub record CopiesOut (t : ℕ) (k k' : Kept) (b : Beside) : Type 0 where
@@ -100,13 +100,13 @@ PromotedAt priority release sets codes x =
     → as_task x ≡ promoted (read k (beside priority columns (by_task release blocked waits)))
     (interval_in (registers_in k)) (copyin_in (registers_in k))
 
-abbrev pub ProcessorTask : ℕ → ℕ → MaybeTask → Type 0
+abbrev pub ProcessorTask : ℕ → ℕ → Option ℕ → Type 0
 ProcessorTask kind n x = (start until : ℕ) → x ≡ processor_task (as_processor kind n start until)
 
-abbrev pub CopyOutTask : ℕ → ℕ → MaybeTask → Type 0
+abbrev pub CopyOutTask : ℕ → ℕ → Option ℕ → Type 0
 CopyOutTask kind n x = (start until : ℕ) → x ≡ copyout_task (as_copyout kind n start until)
 
-abbrev pub CopyInTask : ℕ → ℕ → MaybeTask → Type 0
+abbrev pub CopyInTask : ℕ → ℕ → Option ℕ → Type 0
 CopyInTask kind n x = (until : ℕ) → x ≡ copyin_task (as_copyin kind n until)
 
 abbrev pub CopyInFate : ℕ → ℕ → Type 0
@@ -206,13 +206,6 @@ GivesWayAt taken priority release sets codes sets' codes' =
     (times columns : List ℕ)
     → StepInOrder (λ d. step_d d taken d.phase) priority release columns (kept times sets codes) (kept times sets' codes')
 
-pub record SetsFit (sets : List ℕ) : Type 0 where
-  pub pending_fits : get_or sets 1 0 < 2 ^ 32
-  pub ready_fits : get_or sets 2 0 < 2 ^ 32
-  pub candidates_fit : get_or sets 3 0 < 2 ^ 32
-  pub waiting_fits : get_or sets 5 0 < 2 ^ 32
-  pub before_fits : get_or sets 7 0 < 2 ^ 32
-
 abbrev pub TakesAt : ℕ → ℕ → ℕ → List ℕ → List ℕ → List ℕ → ByTask → List ℕ → List ℕ → ByTask → Type 0
 TakesAt t taken deferred priority sets codes o sets' codes' o' =
     (times columns : List ℕ) → Whole (kept times sets codes)
@@ -272,17 +265,14 @@ BegunAt t taken priority release columns k k' = StepInOrder (λ d. step_g d t ta
 -- ---- The next due time: as a plain number, and whether there is one
 
 -- a number stands for a due time: it is that tick, or it is the last tick and nothing is due
-pub record Stands (x : ℕ) (p : Due) : Type 0 where
-  pub is : (p ≡ Tick x) ⊎ ((x ≡ 2 ^ 64 - 1) × (p ≡ Never))
+pub record Stands (x : ℕ) (p : Option ℕ) : Type 0 where
+  pub is : (p ≡ Some x) ⊎ ((x ≡ 2 ^ 64 - 1) × (p ≡ None))
   pub small : x ≤ 2 ^ 64 - 1
 
-abbrev pub TickStands : ℕ → ℕ → Type 0
-TickStands t x = Stands x (Tick t)
-
-abbrev pub copyout_at_due : List ℕ → List ℕ → Due
+abbrev pub copyout_at_due : List ℕ → List ℕ → Option ℕ
 copyout_at_due times codes = copyout_due (as_copyout (get_or codes 4 0) (get_or codes 5 0) (get_or times 3 0) (get_or times 4 0))
 
-abbrev pub copyin_at_due : List ℕ → List ℕ → Due
+abbrev pub copyin_at_due : List ℕ → List ℕ → Option ℕ
 copyin_at_due times codes = copyin_due (as_copyin (get_or codes 6 0) (get_or codes 7 0) (get_or times 5 0))
 
 abbrev pub CopyOutTick : List ℕ → List ℕ → ℕ → Type 0
@@ -294,9 +284,9 @@ EngineTick times codes x = Stands x (sooner (copyout_at_due times codes) (copyin
 abbrev pub DueTick : List ℕ → List ℕ → ℕ → Type 0
 DueTick times codes x = (sets : List ℕ) → Stands x (due (phase_in (registers_in (kept times sets codes))))
 
-pub record IsDue (x : Bool) (d : Due) : Type 0 where
-  pub some : x ≡ true → d ≡ Never → ⊥
-  pub none : x ≡ false → d ≡ Never
+pub record IsDue (x : Bool) (d : Option ℕ) : Type 0 where
+  pub some : x ≡ true → d ≡ None → ⊥
+  pub none : x ≡ false → d ≡ None
 
 abbrev pub SomeDue : List ℕ → Bool → Type 0
 SomeDue codes x = (times sets : List ℕ) → IsDue x (due (phase_in (registers_in (kept times sets codes))))

@@ -1,6 +1,6 @@
 -- 9/13, "Look first, then act": the ticket that stands beside a state; an enquiry, which shows what an instant would do and changes
 -- nothing; and a commit, which does it by the ticket. What stands between quotation marks is document 02.
-use Rattle.rules.specs.Types.{cond, ℕ, State, Call, Instant, Answer, Refused}
+use Rattle.rules.specs.Types.{cond, ℕ, State, Call, Instant, Answer, Err}
 use Rattle.std.specs.Prelude.{◌+◌, ◌%◌, ◌^◌, eqb}
 use Rattle.rules.specs.Calls.{refusal, instant, row, after_call}
 
@@ -43,4 +43,4 @@ abbrev pub commit_refusal : Ticketed → ℕ → ℕ → ℕ → ℕ
 commit_refusal d k t set = cond (eqb k d.ticket) (refusal d.state t set) 20
 
 abbrev pub commit : Ticketed → ℕ → ℕ → ℕ → TicketedStep
-commit d k t set = cond (eqb k d.ticket) (instant_step d t set) (record { left = d; answer = Refused 20 })
+commit d k t set = cond (eqb k d.ticket) (instant_step d t set) (record { left = d; answer = Err 20 })

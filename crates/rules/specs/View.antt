@@ -1,6 +1,6 @@
 -- What goes on now, read off the state: what the processor and the engine do, with whom and until when. The waveform shows the first
 -- four, and a driver commands its hardware by all of it.
-use Rattle.rules.specs.Types.{cond, ℕ, MaybeTask, NoTask, Task, Processor, Idle, CopyingIn, Executing, Finished, CopyOut, NoCopyOut, CopyingOut, CopiedOut, CopyIn, Unchosen, NoneChosen, Copying, Loaded, Cancelled, Phase, Between, Within, State, View}
+use Rattle.rules.specs.Types.{cond, ℕ, Option, None, Some, Processor, Idle, CopyingIn, Executing, Finished, CopyOut, NoCopyOut, CopyingOut, CopiedOut, CopyIn, Unchosen, NoneChosen, Copying, Loaded, Cancelled, Phase, Between, Within, State, View}
 use Rattle.std.specs.Prelude.{eqb}
 use Rattle.entries.specs.Entries.{task_byte}
 
@@ -8,38 +8,38 @@ use Rattle.entries.specs.Entries.{task_byte}
 
 -- "the task on the processor (nobody once its work has ended)": from its interval's begin, its own copy-in included, until its
 -- execution's end
-abbrev pub on_processor : Processor → MaybeTask
-on_processor Idle = NoTask
-on_processor (CopyingIn n until) = Task n
-on_processor (Executing n start until) = Task n
-on_processor (Finished n start) = NoTask
+abbrev pub on_processor : Processor → Option ℕ
+on_processor Idle = None
+on_processor (CopyingIn n until) = Some n
+on_processor (Executing n start until) = Some n
+on_processor (Finished n start) = None
 
 -- "the task being copied in by the engine": one that is cancelled or has ended is not being copied
-abbrev pub copied_in : CopyIn → MaybeTask
-copied_in Unchosen = NoTask
-copied_in NoneChosen = NoTask
-copied_in (Copying n until) = Task n
-copied_in (Loaded n) = NoTask
-copied_in (Cancelled n fate) = NoTask
+abbrev pub copied_in : CopyIn → Option ℕ
+copied_in Unchosen = None
+copied_in NoneChosen = None
+copied_in (Copying n until) = Some n
+copied_in (Loaded n) = None
+copied_in (Cancelled n fate) = None
 
 -- "and the task being copied out"
-abbrev pub copied_out : CopyOut → MaybeTask
-copied_out NoCopyOut = NoTask
-copied_out (CopyingOut n start until) = Task n
-copied_out (CopiedOut n) = NoTask
+abbrev pub copied_out : CopyOut → Option ℕ
+copied_out NoCopyOut = None
+copied_out (CopyingOut n start until) = Some n
+copied_out (CopiedOut n) = None
 
 -- "half 0 shows before the first interval, and idle time keeps the last half"
 abbrev pub shown_half : ℕ → ℕ
 shown_half half = cond (eqb half 1) 1 0
 
 pub record Values : Type 0 where
-  pub processor : MaybeTask
-  pub copyin : MaybeTask
-  pub copyout : MaybeTask
+  pub processor : Option ℕ
+  pub copyin : Option ℕ
+  pub copyout : Option ℕ
   pub half : ℕ
 
 abbrev pub values_in : Phase → ℕ → Values
-values_in (Between next outgoing) half = record { processor = NoTask; copyin = NoTask; copyout = NoTask; half = shown_half half }
+values_in (Between next outgoing) half = record { processor = None; copyin = None; copyout = None; half = shown_half half }
 values_in (Within i) half = record {
   processor = on_processor i.processor;
   copyin = copied_in i.copyin;
@@ -83,9 +83,9 @@ viewed_in d (Between next outgoing) = record {
   marked = d.marked;
   opened = 0;
   work = 0;
-  processor = task_byte NoTask;
-  copyin = task_byte NoTask;
-  copyout = task_byte NoTask;
+  processor = task_byte None;
+  copyin = task_byte None;
+  copyout = task_byte None;
   half = (values d).half;
 }
 viewed_in d (Within i) = record {

@@ -8,6 +8,7 @@ pub mod codes;
 mod lent;
 mod next_due;
 mod order;
+mod refusal;
 mod spacing;
 mod step_a;
 mod step_b;
@@ -21,6 +22,7 @@ pub use blocking::{blockable, count_blocked};
 use entries::{IntervalEntry, JobEntry};
 pub use lent::stamp;
 pub use next_due::{due_tick, least, some_due};
+pub use refusal::CallRefusal;
 pub use spacing::too_soon;
 pub use step_a::{completed_job, copied_out, copyout_ends, others_end};
 pub use step_b::{close, interval_entry, is_over, promoted};
@@ -28,12 +30,6 @@ pub use step_c::{held_over, released};
 pub use step_d::take_releases;
 pub use step_e::choose;
 pub use step_g::begin_interval;
-
-#[derive(Clone, Copy)]
-pub enum Done {
-    NoJob,
-    Job(JobEntry),
-}
 
 // The interval that closed at an instant: before its releases (step b) or after them (step f).
 #[derive(Clone, Copy)]
@@ -86,30 +82,11 @@ pub struct View {
     pub half: u8,
 }
 
-// When the next phase ends.
-#[derive(Clone, Copy)]
-pub enum Due {
-    Never,
-    Tick(u64),
-}
-
-// What occurred at a served instant.
+// What occurred at a served instant: `done` is the job that was, if any, and `due` when the next phase ends, if one is under way.
 #[derive(Clone, Copy)]
 pub struct Occurred {
-    pub done: Done,
+    pub done: Option<JobEntry>,
     pub closed: Closing,
     pub skipped: u32,
-    pub due: Due,
-}
-
-#[derive(Clone, Copy)]
-pub enum Answer {
-    Refused(u8),
-    Served(Occurred),
-}
-
-#[derive(Clone, Copy)]
-pub enum MarkAnswer {
-    MarkRefused(u8),
-    MarkServed,
+    pub due: Option<u64>,
 }

@@ -1,6 +1,6 @@
 // The next due time: when the next phase ends. As a plain number it is cheaper than the enum: the last tick stands for none.
 ghost use Rattle.std.specs.Prelude.{◌≡◌, min};
-ghost use Rattle.rules.specs.Steps.{TickStands, CopyOutTick, EngineTick, DueTick, SomeDue};
+ghost use Rattle.rules.specs.Steps.{CopyOutTick, EngineTick, DueTick, SomeDue};
 
 use crate::{at, codes};
 
@@ -8,24 +8,14 @@ use crate::{at, codes};
 pub fn least(a: u64, b: u64) -> u64
     ensures { result ≡ min a b }
 {
-    if a <= b {
-        return a;
-    }
-    b
-}
-
-// A time that is handed in by value is a tick that a clock has.
-fn tick(t: u64) -> u64
-    ensures { TickStands t result }
-{
-    t
+    a.min(b)
 }
 
 fn copyout_tick(times: &at::Times, codes: &at::Codes) -> u64
     ensures { CopyOutTick times.now codes.now result }
 {
     if codes[at::COPYOUT] == codes::COPYING_OUT {
-        return tick(times[at::OUTUNTIL]);
+        return times[at::OUTUNTIL];
     }
     u64::MAX
 }
@@ -35,7 +25,7 @@ fn engine_tick(times: &at::Times, codes: &at::Codes) -> u64
 {
     let due = copyout_tick(times, codes);
     if codes[at::COPYIN] == codes::COPYING {
-        return least(due, tick(times[at::INUNTIL]));
+        return least(due, times[at::INUNTIL]);
     }
     due
 }
@@ -48,11 +38,8 @@ pub fn due_tick(times: &at::Times, codes: &at::Codes) -> u64
     }
     let due = engine_tick(times, codes);
     let kind = codes[at::PROCESSOR];
-    if kind == codes::EXECUTING {
-        return least(due, tick(times[at::UNTIL]));
-    }
-    if kind == codes::COPYING_IN {
-        return least(due, tick(times[at::UNTIL]));
+    if kind == codes::EXECUTING || kind == codes::COPYING_IN {
+        return least(due, times[at::UNTIL]);
     }
     due
 }
@@ -65,15 +52,9 @@ pub fn some_due(codes: &at::Codes) -> bool
     if copyin == codes::NO_INTERVAL {
         return false;
     }
-    if copyin == codes::COPYING {
-        return true;
-    }
-    if codes[at::COPYOUT] == codes::COPYING_OUT {
+    if copyin == codes::COPYING || codes[at::COPYOUT] == codes::COPYING_OUT {
         return true;
     }
     let kind = codes[at::PROCESSOR];
-    if kind == codes::EXECUTING {
-        return true;
-    }
-    kind == codes::COPYING_IN
+    kind == codes::EXECUTING || kind == codes::COPYING_IN
 }

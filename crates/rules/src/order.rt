@@ -4,22 +4,15 @@ ghost use Rattle.rules.specs.Order as order;
 ghost use Rattle.rules.specs.Registers.{as_task};
 ghost use Rattle.rules.specs.Steps.{Outranks, Above, CountsMarked};
 
-use crate::arrays::{byte_of, time_of};
+use crate::arrays::value_of;
 use crate::codes::NO_TASK;
-
-// A byte as a wider number.
-fn wide(x: u8) -> u32
-    ensures { (result ≡ x) × (result < 256) }
-{
-    x as u32
-}
 
 // Whether task `n` of priority `p` goes before task `best` of priority `least`. Times are looked at only where the priorities are equal.
 fn goes_before(p: u32, n: u8, least: u32, best: u8, release: &[u64; 32]) -> bool
     ensures { result ≡ cond (eqb p least) (ltb (get_or release.now n 0) (get_or release.now best 0)) (ltb p least) }
 {
     if p == least {
-        return time_of(release, n) < time_of(release, best);
+        return value_of(release, n, 0) < value_of(release, best, 0);
     }
     p < least
 }
@@ -32,16 +25,13 @@ pub fn first(priority: &[u8; 32], release: &[u64; 32], set: u32) -> u8
         return NO_TASK;
     }
     let mut best = sets::lowest(set);
-    let mut least = wide(priority[best as usize]);
-    let mut left = sets::rest(set);
-    while left != 0 {
-        let n = sets::lowest(left);
-        let p = wide(priority[n as usize]);
+    let mut least = u32::from(priority[usize::from(best)]);
+    for n in sets::members(sets::rest(set)) {
+        let p = u32::from(priority[usize::from(n)]);
         if goes_before(p, n, least, best, release) {
             least = p;
             best = n;
         }
-        left = sets::rest(left);
     }
     best
 }
@@ -50,10 +40,7 @@ pub fn first(priority: &[u8; 32], release: &[u64; 32], set: u32) -> u8
 pub fn outranks(priority: &[u8; 32], by: u8, n: u8) -> bool
     ensures { Outranks priority.now by n result }
 {
-    if by < NO_TASK {
-        return byte_of(priority, by) < byte_of(priority, n);
-    }
-    false
+    by < NO_TASK && value_of(priority, by, 0) < value_of(priority, n, 0)
 }
 
 // Of each task, 1 where it has a higher priority than task `n`, else 0. All 32 are compared at once, which is faster than to go from member
@@ -61,14 +48,10 @@ pub fn outranks(priority: &[u8; 32], by: u8, n: u8) -> bool
 pub fn higher(priority: &[u8; 32], n: u8) -> [u8; 32]
     ensures { Above priority.now n result }
 {
-    let limit = byte_of(priority, n);
+    let limit = value_of(priority, n, 0);
     let mut found = [0u8; 32];
-    let mut k: u8 = 0;
-    while k < NO_TASK {
-        if priority[k as usize] < limit {
-            found[k as usize] = 1;
-        }
-        k += 1;
+    for (k, other) in priority.iter().enumerate() {
+        found[k] = u8::from(*other < limit);
     }
     found
 }
@@ -77,36 +60,20 @@ pub fn higher(priority: &[u8; 32], n: u8) -> [u8; 32]
 fn risen(count: u8, marked: u8, member: bool) -> u8
     ensures { result ≡ cond (member && eqb marked 1) (min (count + 1) 255) count }
 {
-    if member {
-        if marked == 1 {
-            if count < 255 {
-                return count + 1;
-            }
-        }
+    if member && marked == 1 {
+        return count.saturating_add(1);
     }
     count
-}
-
-// That there are so many counts is told where they are lent as a slice. Nothing is left of this in the program.
-fn counts_seen(counts: &[u8]) {}
-
-fn all_counts(counts: &[u8; 32])
-    ensures { length counts.now ≡ 32 }
-{
-    counts_seen(counts);
 }
 
 // That for each task. All 32 are made at once, without a branch.
 pub fn count_all(set: u32, marks: &[u8; 32], counts: &mut [u8; 32])
     ensures { CountsMarked set marks.now counts.old counts.new }
 {
-    all_counts(counts);
     let mut next = [0u8; 32];
-    let mut k: u8 = 0;
-    while k < NO_TASK {
-        let i = k as usize;
+    for k in 0..NO_TASK {
+        let i = usize::from(k);
         next[i] = risen(counts[i], marks[i], sets::contains(set, k));
-        k += 1;
     }
     *counts = next;
 }

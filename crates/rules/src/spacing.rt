@@ -1,21 +1,20 @@
 // c. 8/13: the releases that come sooner than the spacing after their task's last release taken or set waiting, by original time.
-ghost use Rattle.std.specs.Prelude.{◌≡◌};
-ghost use Rattle.rules.specs.Types.{Tick};
+ghost use Rattle.std.specs.Prelude.{◌≡◌, Some};
 ghost use Rattle.rules.specs.Instant as instant;
 ghost use Rattle.rules.specs.Steps.{SoonAt, TooSoonAt};
 
-use crate::arrays::time_of;
+use crate::arrays::value_of;
 use crate::at;
 use table::Columns;
 
 // Whether a release comes sooner than the spacing after the last one; exactly one spacing later passes.
 fn comes_sooner(t: u64, spacing: u32, last: u64) -> bool
-    ensures { result ≡ instant.comes_sooner t spacing (Tick last) }
+    ensures { result ≡ instant.comes_sooner t spacing (Some last) }
 {
     if t < last {
         return 0 < spacing;
     }
-    t - last < spacing as u64
+    t - last < u64::from(spacing)
 }
 
 // Whether that of task `n` does: by the one that waits, else by the task's last job, where there was one.
@@ -31,10 +30,10 @@ fn is_too_soon(
 {
     let spacing = table::spacing(columns, n);
     if sets::contains(sets[at::WAITING], n) {
-        return comes_sooner(t, spacing, time_of(waits, n));
+        return comes_sooner(t, spacing, value_of(waits, n, 0));
     }
     if sets::contains(sets[at::BEFORE], n) {
-        return comes_sooner(t, spacing, time_of(release, n));
+        return comes_sooner(t, spacing, value_of(release, n, 0));
     }
     false
 }
@@ -50,14 +49,12 @@ pub fn too_soon(
 ) -> u32
     ensures { TooSoonAt t set sets.now columns.now release.now waits.now result }
 {
-    let mut left = sets::intersection(set, sets[at::SPACED]);
+    let spaced = sets::intersection(set, sets[at::SPACED]);
     let mut soon: u32 = 0;
-    while left != 0 {
-        let n = sets::lowest(left);
+    for n in sets::members(spaced) {
         if is_too_soon(t, n, sets, columns, release, waits) {
             soon = sets::insert(soon, n);
         }
-        left = sets::rest(left);
     }
     soon
 }

@@ -3,7 +3,7 @@ ghost use Rattle.std.specs.Prelude.{◌≡◌, get_or};
 ghost use Rattle.rules.specs.Kept.{copyout_ends};
 ghost use Rattle.rules.specs.Steps.{CompletedJob, CopiedOutAt, CopyInSet, ProcessorTo, OthersEndAt};
 
-use crate::arrays::{byte_of, time_of};
+use crate::arrays::value_of;
 use crate::times::later;
 use crate::{at, codes};
 use entries::JobEntry;
@@ -12,13 +12,9 @@ use table::Columns;
 pub fn copyout_ends(t: u64, times: &at::Times, codes: &at::Codes) -> bool
     ensures { result ≡ copyout_ends t times.now codes.now }
 {
-    if codes[at::COPYIN] == codes::NO_INTERVAL {
-        return false;
-    }
-    if codes[at::COPYOUT] != codes::COPYING_OUT {
-        return false;
-    }
-    times[at::OUTUNTIL] == t
+    codes[at::COPYIN] != codes::NO_INTERVAL
+        && codes[at::COPYOUT] == codes::COPYING_OUT
+        && times[at::OUTUNTIL] == t
 }
 
 // The job whose copy-out ends now.
@@ -34,10 +30,10 @@ pub fn completed_job(
     let task = codes[at::OUTTASK];
     JobEntry {
         task,
-        release: time_of(release, task),
+        release: value_of(release, task, 0),
         start: times[at::OUTSTART],
         completion: t,
-        blocked: byte_of(blocked, task),
+        blocked: value_of(blocked, task, 0),
     }
 }
 

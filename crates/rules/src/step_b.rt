@@ -7,25 +7,19 @@ ghost use Rattle.rules.specs.Steps.{Resting, Settled, OverAt, PromotedAt, Proces
 
 use crate::order::first;
 use crate::{at, codes};
-use entries::{IntervalEntry, MaybeTask};
+use entries::IntervalEntry;
 
 fn resting(kind: u8) -> bool
     ensures { Resting kind result }
 {
-    if kind == codes::COPYING_IN {
-        return false;
-    }
-    kind != codes::EXECUTING
+    kind != codes::COPYING_IN && kind != codes::EXECUTING
 }
 
 // The choice has been made, and its copy is not under way.
 fn settled(kind: u8) -> bool
     ensures { Settled kind result }
 {
-    if kind == codes::UNCHOSEN {
-        return false;
-    }
-    kind != codes::COPYING
+    kind != codes::UNCHOSEN && kind != codes::COPYING
 }
 
 // R6: an interval is open and both units are at their ends.
@@ -33,18 +27,10 @@ pub fn is_over(codes: &at::Codes) -> bool
     ensures { OverAt codes.now result }
 {
     let copyin = codes[at::COPYIN];
-    let kind = codes[at::PROCESSOR];
-    let copyout = codes[at::COPYOUT];
     if copyin == codes::NO_INTERVAL {
         return false;
     }
-    if !settled(copyin) {
-        return false;
-    }
-    if !resting(kind) {
-        return false;
-    }
-    copyout != codes::COPYING_OUT
+    settled(copyin) && resting(codes[at::PROCESSOR]) && codes[at::COPYOUT] != codes::COPYING_OUT
 }
 
 // R4, at an interval's end: where the copy-in was cancelled or thrown out, or none was chosen, the highest marked job released
@@ -62,43 +48,43 @@ pub fn promoted(sets: &at::Sets, codes: &at::Codes, priority: &[u8; 32], release
     )
 }
 
-fn task_of(n: u8) -> MaybeTask
+fn task_of(n: u8) -> Option<u8>
     ensures { result ≡ as_task n }
 {
     if n < codes::NO_TASK {
-        return MaybeTask::Task(n);
+        return Some(n);
     }
-    MaybeTask::NoTask
+    None
 }
 
-fn processor_task(kind: u8, n: u8) -> MaybeTask
+fn processor_task(kind: u8, n: u8) -> Option<u8>
     ensures { ProcessorTask kind n result }
 {
     if kind == codes::IDLE {
-        return MaybeTask::NoTask;
+        return None;
     }
-    MaybeTask::Task(n)
+    Some(n)
 }
 
-fn copyout_task(kind: u8, n: u8) -> MaybeTask
+fn copyout_task(kind: u8, n: u8) -> Option<u8>
     ensures { CopyOutTask kind n result }
 {
     if kind == codes::NO_COPYOUT {
-        return MaybeTask::NoTask;
+        return None;
     }
-    MaybeTask::Task(n)
+    Some(n)
 }
 
-fn copyin_task(kind: u8, n: u8) -> MaybeTask
+fn copyin_task(kind: u8, n: u8) -> Option<u8>
     ensures { CopyInTask kind n result }
 {
     if kind == codes::UNCHOSEN {
-        return MaybeTask::NoTask;
+        return None;
     }
     if kind == codes::NONE_CHOSEN {
-        return MaybeTask::NoTask;
+        return None;
     }
-    MaybeTask::Task(n)
+    Some(n)
 }
 
 fn copyin_fate(kind: u8) -> u8

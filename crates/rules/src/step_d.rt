@@ -1,10 +1,10 @@
 // d. If a marked release was taken whose priority is higher than that of a copy-in under way on the engine, this copy-in is
 // cancelled and its job is ready again (R3). It also throws out a lower-priority copy-in that the engine has already finished in the
 // open interval.
-ghost use Rattle.std.specs.Prelude.{◌≡◌, ◌<◌, ◌^◌};
+ghost use Rattle.std.specs.Prelude.{◌≡◌};
 ghost use Rattle.rules.specs.Registers.{is_held};
 ghost use Rattle.rules.specs.Kept.{by_task};
-ghost use Rattle.rules.specs.Steps.{GivenWay, GivesWayAt, SetsFit, TakesAt};
+ghost use Rattle.rules.specs.Steps.{GivenWay, GivesWayAt, TakesAt};
 
 use crate::arrays::{defer, take};
 use crate::order::{first, outranks};
@@ -14,10 +14,7 @@ use crate::{ReleaseFates, at, codes};
 fn holds(kind: u8) -> bool
     ensures { result ≡ is_held kind }
 {
-    if kind == codes::COPYING {
-        return true;
-    }
-    kind == codes::LOADED
+    kind == codes::COPYING || kind == codes::LOADED
 }
 
 // What such a copy-in is once it has given way.
@@ -53,22 +50,6 @@ fn give_way(
     }
 }
 
-// What is handed in by value fits its type; what stands in a lent array is not known to.
-fn fits(x: u32)
-    ensures { x < 2 ^ 32 }
-{}
-
-// Nothing is left of this in the program.
-fn sets_fit(sets: &at::Sets)
-    ensures { SetsFit sets.now }
-{
-    fits(sets[at::PENDING]);
-    fits(sets[at::READY]);
-    fits(sets[at::CANDIDATES]);
-    fits(sets[at::WAITING]);
-    fits(sets[at::BEFORE]);
-}
-
 // Steps c and d, by what becomes of the releases: some are taken, and some wait. Most instants of a run have no release, and then
 // nothing changes. The jobs that are taken are pending and ready, and the marked ones candidates in the open interval; where none is open,
 // nothing reads the candidates.
@@ -89,7 +70,6 @@ pub fn take_releases(
     let taken = r.taken;
     let deferred = r.deferred;
     if sets::union(taken, deferred) == 0 {
-        sets_fit(sets);
         return;
     }
     let waiting = sets[at::WAITING];

@@ -15,13 +15,7 @@ fn is_wanted(sets: &at::Sets, codes: &at::Codes) -> bool
     let ready = sets[at::READY];
     let copyout = codes[at::COPYOUT];
     let work = codes[at::WORK];
-    if ready != 0 {
-        return true;
-    }
-    if copyout != codes::NO_COPYOUT {
-        return true;
-    }
-    work != codes::NO_WORK
+    ready != 0 || copyout != codes::NO_COPYOUT || work != codes::NO_WORK
 }
 
 // R5: the processor copies in and then executes the promoted job; else it executes the loaded one; else it idles.

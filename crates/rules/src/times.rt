@@ -6,10 +6,5 @@ ghost use Rattle.rules.specs.With as state;
 pub fn later(t: u64, n: u32) -> u64
     ensures { result ≡ state.later t n }
 {
-    let ticks = n as u64;
-    if t <= u64::MAX - ticks {
-        t + ticks
-    } else {
-        u64::MAX
-    }
+    t.saturating_add(u64::from(n))
 }

@@ -16,20 +16,21 @@ use Rattle.rules.specs.Kept.{Kept, Beside, read, Becomes}
 use Rattle.rules.specs.Steps.{Stands, TestedAt, TooSoonAt, HeldOverAt}
 use Rattle.rules.specs.declared.ReleaseFates.{ReleaseFates}
 use Rattle.rules.proofs.Instants.{step_e_f, Left, left, occurred_by, once_here}
-use Rattle.run.specs.Types.{State, Stage, Done, NoJob, Job, Closed, NoInterval, Span, Closing, Unclosed, BeforeReleases, AfterReleases, Occurred, JobEntry, IntervalEntry, RecordEntry, JobDone, IntervalEnded, Batch}
+use Rattle.run.specs.Types.{State, Stage, Option, None, Some, Closed, NoInterval, Span, Closing, Unclosed, BeforeReleases, AfterReleases, Occurred, JobEntry, IntervalEntry, RecordEntry, JobDone, IntervalEnded, Batch}
 use Rattle.run.specs.Listed.{releases_at}
 use Rattle.run.specs.Run.{first_time}
 use Rattle.run.specs.Putting.{Puts}
 use Rattle.run.specs.Advance.{Gathered, span_entries, CopyOutPut, TestPut, Steps, Advances}
 use Rattle.run.proofs.Slices.{skips_most, none, both}
+use Rattle.std.specs.Prelude.{Ok}
 
 -- ---- the job that is done, with its entry
 
-pub put_job : {done : Done} {e : JobEntry} {place : ℕ} {out out' : List ℕ} → Job e ≡ done → Puts 0 (JobDone e ∷ []) out place out' → Puts 0 (done_entries done) out place out'
-put_job {place = place} {out} {out'} h p = subst (λ (z : Done). Puts 0 (done_entries z) out place out') h p
+pub put_job : {done : Option JobEntry} {e : JobEntry} {place : ℕ} {out out' : List ℕ} → Some e ≡ done → Puts 0 (JobDone e ∷ []) out place out' → Puts 0 (done_entries done) out place out'
+put_job {place = place} {out} {out'} h p = subst (λ (z : Option JobEntry). Puts 0 (done_entries z) out place out') h p
 
-pub put_no_job : {done : Done} (out : List ℕ) → NoJob ≡ done → Puts 0 (done_entries done) out 0 out
-put_no_job out h = subst (λ (z : Done). Puts 0 (done_entries z) out 0 out) h (none 0 out)
+pub put_no_job : {done : Option JobEntry} (out : List ℕ) → None ≡ done → Puts 0 (done_entries done) out 0 out
+put_no_job out h = subst (λ (z : Option JobEntry). Puts 0 (done_entries z) out 0 out) h (none 0 out)
 
 -- ---- the test of an interval's end, with its entry
 
@@ -129,13 +130,13 @@ module _ (rest : List ℕ) (t : ℕ) (g : Batch) (size : ℕ) (k : Kept) (b : Be
 -- ---- what a step leaves at most
 
 module _ (e : RecordEntry) where
-  one_most : (n : ℕ) → record_entry_size e ≤ n → length (each entry_bytes (e ∷ [])) ≤ n
+  one_most : (n : ℕ) → record_entry_size (Ok e) ≤ n → length (each entry_bytes (e ∷ [])) ≤ n
   one_most n l = omega (arith, ap length (each_one entry_bytes e), entry_size e)
 
-done_most : (o : Done) → length (each entry_bytes (done_entries o)) ≤ 27
+done_most : (o : Option JobEntry) → length (each entry_bytes (done_entries o)) ≤ 27
 unfolding each
-done_most NoJob = omega arith
-done_most (Job e) = one_most (JobDone e) 27 (omega arith)
+done_most None = omega arith
+done_most (Some e) = one_most (JobDone e) 27 (omega arith)
 
 span_most : (c : Closed) → length (each entry_bytes (span_entries c)) ≤ 24
 unfolding each

@@ -19,6 +19,7 @@ use Rattle.entries.proofs.Each.{each_both, each_one, entry_size}
 use Rattle.rules.specs.Entries.{skipped_entries}
 use Rattle.run.specs.Types.{Release, RecordEntry, ReleaseSkipped}
 use Rattle.run.specs.Putting.{put_at, put_all, Puts}
+use Rattle.std.specs.Prelude.{Ok}
 
 -- ---- one after the other
 
@@ -35,7 +36,7 @@ pub none : (at : ℕ) (s : List ℕ) → Puts at [] s at s
 unfolding put_all each
 none at s = record { place_is = sym (add-zero at); holds = refl }
 
-pub one : (at : ℕ) (e : RecordEntry) (s : List ℕ) {t : List ℕ} → t ≡ put_at at (entry_bytes e) s → Puts at (e ∷ []) s (at + record_entry_size e) t
+pub one : (at : ℕ) (e : RecordEntry) (s : List ℕ) {t : List ℕ} → t ≡ put_at at (entry_bytes e) s → Puts at (e ∷ []) s (at + record_entry_size (Ok e)) t
 unfolding put_all
 one at e s {t} h = record { place_is = ap (λ (k : ℕ). at + k) (sym (entry_size e) ∙ ap length (sym (each_one entry_bytes e))); holds = h }
 

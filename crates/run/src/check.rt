@@ -1,78 +1,77 @@
 // An input, checked entry by entry: its head, then of the entries behind it 2, 1, then 3 of a task or a spacing and 8, 10, 9, 11 of a
 // release.
 ghost use Rattle.std.specs.Prelude.{◌≡◌, length};
+ghost use Rattle.std.specs.Result.{result_err};
+ghost use Rattle.table.specs.Refusals.{number_found};
 ghost use Rattle.run.specs.Files as files;
 
-use crate::Last;
 use entries::{Entry, RELEASE_SIZE, Release, limits};
-use table::{Head, Refusal};
+use table::{Fault, Head, Refusal};
 
 // Rising strictly by time and then task number.
-fn rises(last: Last, r: Release) -> bool
+fn rises(last: Option<Release>, r: Release) -> bool
     ensures { result ≡ files.rises last r }
 {
     match last {
-        Last::NoneBefore => true,
-        Last::Before(l) => {
-            if l.time < r.time {
-                return true;
-            }
-            if l.time == r.time {
-                return l.task < r.task;
-            }
-            false
-        }
+        None => true,
+        Some(l) => (l.time, l.task) < (r.time, r.task),
     }
 }
 
-// 8, 10, 9, 11, in this order; 0 is none.
-fn release_refusal(present: u32, last: Last, count: usize, r: Release) -> u8
-    ensures { result ≡ files.release_refusal present last count r }
+// 8, 10, 9, 11, in this order.
+fn release_refusal(
+    present: u32,
+    last: Option<Release>,
+    count: usize,
+    r: Release,
+) -> Result<(), Fault>
+    ensures { number_found result ≡ files.release_refusal present last count r }
 {
     if !sets::contains(present, r.task) {
-        return 8;
+        return Err(Fault::UnknownTask);
     }
     if limits::LAST_RELEASE < r.time {
-        return 10;
+        return Err(Fault::TooLate);
     }
     if !rises(last, r) {
-        return 9;
+        return Err(Fault::NotRising);
     }
     if limits::RELEASES <= count {
-        return 11;
+        return Err(Fault::TooMany);
     }
-    0
+    Ok(())
 }
 
 // The first refusal of the entries from `start` on.
-fn check_releases(s: &[u8], start: usize, present: u32) -> Refusal
-    ensures { result ≡ files.refusal_of
-        (files.releases_from (length s.now) s.now start present Last.NoneBefore 0) }
+fn check_releases(s: &[u8], start: usize, present: u32) -> Result<(), Refusal>
+    ensures { result_err result ≡ files.refusal_of
+        (files.releases_from (length s.now) s.now start present None 0) }
 {
     let mut at = start;
-    let mut last = Last::NoneBefore;
+    let mut last = None;
     let mut count: usize = 0;
     'entries: loop {
         if s.len() <= at {
-            break 'entries Refusal::NoRefusal;
+            break 'entries Ok(());
         }
-        let entry = entries::entry_at(s, at);
-        match entry {
-            Entry::Malformed(n) => {
-                break 'entries Refusal::AtEntry(n, at);
+        let entry = match entries::entry_at(s, at) {
+            Ok(entry) => entry,
+            Err(unreadable) => {
+                break 'entries Err(Refusal::AtEntry(unreadable.number(), at));
             }
+        };
+        match entry {
             Entry::TaskEntry(_) => {
-                break 'entries Refusal::AtEntry(3, at);
+                break 'entries Err(Refusal::AtEntry(3, at));
             }
             Entry::SpacingEntry(_) => {
-                break 'entries Refusal::AtEntry(3, at);
+                break 'entries Err(Refusal::AtEntry(3, at));
             }
             Entry::ReleaseEntry(r) => {
-                let n = release_refusal(present, last, count, r);
-                if n != 0 {
-                    break 'entries Refusal::AtEntry(n, at);
+                if let Err(fault) = release_refusal(present, last, count, r) {
+                    break 'entries Err(fault.at(at));
                 }
-                last = Last::Before(r);
+                last = Some(r);
                 count += 1;
                 at += RELEASE_SIZE;
             }
@@ -81,32 +80,21 @@ fn check_releases(s: &[u8], start: usize, present: u32) -> Refusal
 }
 
 // The releases behind a head that is not refused: the head, or their first refusal.
-pub fn check_behind(s: &[u8], head: Head) -> Head
+pub fn check_behind(s: &[u8], head: Head) -> Result<Head, Refusal>
     ensures { result ≡ files.head_unless head
         (files.refusal_of (files.releases_from (length s.now) s.now
-        head.end head.table.present Last.NoneBefore 0)) }
+        head.end head.table.present None 0)) }
 {
-    let table = head.table;
-    let refusal = check_releases(s, head.end, table.present);
-    match refusal {
-        Refusal::NoRefusal => head,
-        Refusal::Alone(_) => table::refused(refusal),
-        Refusal::AtEntry(_, _) => table::refused(refusal),
-    }
+    check_releases(s, head.end, head.table.present)?;
+    Ok(head)
 }
 
 // The head of an input that is accepted, or the first refusal of its entries.
-pub fn check_file(s: &[u8]) -> Head
+pub fn check_file(s: &[u8]) -> Result<Head, Refusal>
     ensures { result ≡ files.file_head s.now }
 {
-    if s.len() == 0 {
-        return table::refused(Refusal::Alone(12));
+    if s.is_empty() {
+        return Err(Refusal::Alone(12));
     }
-    let head = heads::head_of(s);
-    let refusal = head.refusal;
-    match refusal {
-        Refusal::NoRefusal => check_behind(s, head),
-        Refusal::Alone(_) => table::refused(refusal),
-        Refusal::AtEntry(_, _) => table::refused(refusal),
-    }
+    check_behind(s, heads::head_of(s)?)
 }

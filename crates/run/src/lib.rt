@@ -7,15 +7,7 @@ mod putting;
 mod releases;
 
 pub use check::{check_behind, check_file};
-use entries::Release;
 pub use instant::advance;
-
-// The release before the one that is checked.
-#[derive(Clone, Copy)]
-pub enum Last {
-    NoneBefore,
-    Before(Release),
-}
 
 // A run advanced by one instant: the instant's time, how many bytes of the releases were read, and how many bytes the instant leaves in
 // the record. The last tick stands for no instant: the run has come to its end.

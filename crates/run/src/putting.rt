@@ -38,17 +38,14 @@ fn skipped_at(out: &mut [u8], at: usize, task: u8, time: u64) -> usize
     at + SKIPPED_SIZE
 }
 
-// The skipped releases by rising task number. The loop goes from member to member.
+// The skipped releases by rising task number.
 pub fn skips_at(out: &mut [u8], start: usize, set: u32, time: u64) -> usize
     requires { start ≤ 100 }
     ensures { Puts start (skipped_entries 32 set time) out.old result out.new }
 {
     let mut at = start;
-    let mut left = set;
-    while left != 0 {
-        let n = sets::lowest(left);
+    for n in sets::members(set) {
         at = skipped_at(out, at, n, time);
-        left = sets::rest(left);
     }
     at
 }

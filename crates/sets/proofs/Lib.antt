@@ -1,2 +1,3 @@
 pub mod Laws
+pub mod Listing
 pub mod Masks

@@ -1,5 +1,5 @@
 -- Sets of tasks as numbers: bit n stands for task n.
-use Rattle.std.specs.Prelude.{Bool, cond, not, ◌&&◌, ◌||◌, ℕ, zero, suc, ◌+◌, ◌/◌, ◌%◌, ◌^◌, eqb}
+use Rattle.std.specs.Prelude.{Bool, cond, not, ◌&&◌, ◌||◌, List, [], ◌∷◌, ◌++◌, ℕ, zero, suc, ◌+◌, ◌/◌, ◌%◌, ◌^◌, eqb}
 
 unfoldable pub member : ℕ → ℕ → Bool
 member n s = eqb ((s / 2 ^ n) % 2) 1
@@ -52,3 +52,10 @@ lowest_in (suc k) s = cond (member 0 s) 0 (suc (lowest_in k (s / 2)))
 unfoldable pub lowest : ℕ → ℕ
 unfolding lowest_in
 lowest s = lowest_in 32 s
+
+-- ---- One by one
+
+-- the members below k, lowest first
+unfoldable pub members_below : ℕ → ℕ → List ℕ
+members_below zero s = []
+members_below (suc k) s = members_below k s ++ cond (member k s) (k ∷ []) []

@@ -1,7 +1,9 @@
 // Sets of tasks as 32-bit numbers: bit n stands for task n. A task number of 32 or more is in no set.
 #![tactic(auto)]
 
-ghost use Rattle.std.specs.Prelude.{◌≡◌};
+ghost use Rattle.std.specs.Prelude.{◌≡◌, ◌<◌, ◌^◌};
+ghost use Rattle.std.specs.Iterator.{YieldsFirst, item_count};
+ghost use Rattle.sets.specs.Members.{members_left};
 ghost use Rattle.sets.specs.Sets as sets;
 
 // Whether task `n` is in `set`.
@@ -61,4 +63,34 @@ pub fn rest(set: u32) -> u32
         return 0;
     }
     set & (set - 1)
+}
+
+// What is left of a set on the way from member to member.
+#[derive(Drop)]
+pub struct EachMember {
+    left: u32,
+}
+
+// The members of `set`, lowest first.
+pub fn members(set: u32) -> EachMember
+    ensures { result.left ≡ set }
+{
+    EachMember { left: set }
+}
+
+impl Iterator for EachMember {
+    type Item = u8;
+
+    ghost next_gives = { λ before n after. YieldsFirst members_left before n after × (after.left < 2 ^ 32) };
+
+    ghost remaining = { item_count members_left };
+
+    fn next(&mut self) -> Option<u8> {
+        let set = self.left;
+        if set == 0 {
+            return None;
+        }
+        self.left = rest(set);
+        Some(lowest(set))
+    }
 }

@@ -1,46 +1,41 @@
 -- What stands at the front of a slice: bytes that are moved there one by one, and bytes that stay.
-use Rattle.std.proofs.Common.{◌≡◌, sym, ap, ◌∙◌, List, ◌∷◌, ◌++◌, ℕ, suc, ◌+◌, ◌-◌, ◌≤◌, ◌<◌, min, arith, add-one, add_comm, length, get_or, take, drop, length-append, length-take, length-drop, drop-cons}
-use Rattle.std.proofs.Math.ListN.{set}
-use Rattle.std.proofs.Math.Seq.{slice, length-take-le, take-suc, take-length, set_at, append_snoc, get_or-append-add, get_or-drop, get_or-take, take-take}
+use Rattle.std.proofs.Common.{zero-add, ◌≡◌, refl, sym, ap, ◌∙◌, Bool, true, false, List, ◌++◌, ℕ, ◌-◌, ◌≤◌, min, arith, length, take, drop, length-take, length-drop}
+use lib.Dec.{leb}
+use borrow.Author.Tests.{leb-true, leb-false}
+use Rattle.std.proofs.Math.ListN.{drop_of_length-le}
+use Rattle.std.proofs.Math.Seq.{slice, length-take-le, take-take}
+use Rattle.std.specs.List.{copy_within}
+use Rattle.std.proofs.lemmas.List.{take_min, drop-take}
 use Rattle.streams.specs.Fronts.{Keeps}
 
 -- ---- What is moved
 
--- the first i of some bytes laid over the front
-abbrev pub over : ℕ → List ℕ → List ℕ → List ℕ
-over i d s = take i d ++ drop i s
+-- from a place past the end on there is nothing, as from the end on
+from_end : (xs : List ℕ) (from start : ℕ) → start ≡ min from (length xs) → drop start xs ≡ drop from xs
+from_end xs from start e = go (leb from (length xs)) refl
+  where
+    go : (b : Bool) → leb from (length xs) ≡ b → drop start xs ≡ drop from xs
+    go true h = ap (λ (k : ℕ). drop k xs) (omega (arith, e, leb-true from (length xs) h))
+    go false h = drop_of_length-le xs {i = start} (omega (arith, e, leb-false from (length xs) h)) ∙ sym (drop_of_length-le xs {i = from} (omega (arith, leb-false from (length xs) h)))
 
-pub length_over : (i : ℕ) (d s : List ℕ) → i ≤ length d → i ≤ length s → length (over i d s) ≡ length s
-length_over i d s h k = length-append (take i d) (drop i s) ∙ omega (arith, length-take-le i d h, length-drop i s)
+-- the bytes between two places, as a part of a slice and by taking and dropping
+part : (from end start stop : ℕ) (s : List ℕ) → stop ≡ min end (length s) → start ≡ min from stop
+    → take (stop - start) (drop start s) ≡ slice from end s
+part from end start stop s e f =
+    sym (drop-take start (stop - start) s)
+    ∙ ap (λ (k : ℕ). drop start (take k s)) (omega (arith, f) ∙ e)
+    ∙ ap (λ (xs : List ℕ). drop start xs) (take_min end s)
+    ∙ from_end (take end s) from start (f ∙ ap (min from) (e ∙ sym (length-take end s)))
 
-pub length_slice : (from end : ℕ) (s : List ℕ) → length (slice from end s) ≡ min end (length s) - from
-length_slice from end s = length-drop from (take end s) ∙ ap (λ (n : ℕ). n - from) (length-take end s)
-
--- what stands from the place i on is as it was
-unmoved : (i from : ℕ) (d s : List ℕ) → i ≤ length d → get_or (over i d s) (from + i) 0 ≡ get_or s (from + i) 0
-unmoved i from d s h =
-    ap (λ (k : ℕ). get_or (over i d s) k 0) (add_comm from i ∙ ap (λ (k : ℕ). k + from) (sym (length-take-le i d h)))
-    ∙ get_or-append-add (take i d) (drop i s) from 0 ∙ get_or-drop i s from 0 ∙ ap (λ (k : ℕ). get_or s k 0) (add_comm i from)
-
--- one byte more
-pub moved : (i from end : ℕ) (s : List ℕ) → i < length (slice from end s)
-    → set (over i (slice from end s) s) i (get_or (over i (slice from end s) s) (from + i) 0) ≡ over (i + 1) (slice from end s) s
-moved i from end s h =
-    let d : List ℕ = slice from end s in
-    let n = length_slice from end s in
-    let v : ℕ = get_or (over i d s) (from + i) 0 in
-    let same : v ≡ get_or d i 0 = unmoved i from d s (omega arith) ∙ sym (get_or-drop from (take end s) i 0 ∙ get_or-take end s (from + i) 0 (omega arith)) in
-    ap (λ (r : List ℕ). set (take i d ++ r) i v) (drop-cons s i 0 (omega arith))
-    ∙ set_at (take i d) (get_or s i 0) (drop (suc i) s) v i (length-take-le i d (omega arith))
-    ∙ ap (λ (x : ℕ). take i d ++ x ∷ drop (suc i) s) same
-    ∙ sym (append_snoc (take i d) (get_or d i 0) (drop (suc i) s))
-    ∙ ap (λ (r : List ℕ). r ++ drop (suc i) s) (sym (take-suc d i 0 h))
-    ∙ ap (λ (k : ℕ). take k d ++ drop k s) (sym (add-one i))
-
-pub all_moved : (n from end : ℕ) (s t : List ℕ) → n ≡ length (slice from end s) → t ≡ over n (slice from end s) s → Keeps from end s n t
-all_moved n from end s t e h =
-    let l = length_slice from end s in
-    record { counts = e; within = (omega (arith, e, l), omega (arith, e, l)); holds = h ∙ ap (λ (r : List ℕ). r ++ drop n s) (ap (λ (k : ℕ). take k (slice from end s)) e ∙ take-length (slice from end s)) }
+pub kept : (from end start stop : ℕ) (s t : List ℕ) → stop ≡ min end (length s) → start ≡ min from stop
+    → t ≡ copy_within s start stop 0 → Keeps from end s (stop - start) t
+kept from end start stop s t e f h =
+    let p = part from end start stop s e f in
+    record {
+      counts = sym (length-take-le (stop - start) (drop start s) (omega (arith, e, f, length-drop start s))) ∙ ap length p;
+      within = (omega (arith, e, f), omega (arith, e, f));
+      holds = h ∙ ap (λ (k : ℕ). take (stop - start) (drop start s) ++ drop k s) (zero-add (stop - start)) ∙ ap (λ (r : List ℕ). r ++ drop (stop - start) s) p;
+    }
 
 -- ---- What stays
 

@@ -1,5 +1,8 @@
-// Standard input and output of the programs. A call that fails is told apart from one that moved fewer bytes: it is said in one line on
-// standard error, behind the program's name, and the caller is told to stop.
+// Standard input and output of the programs. A call that fails is told apart from one that moved fewer bytes: it is an error, with which a
+// program stops, and which its `main` says in one line on standard error.
+//
+// The functions take the runtime itself: the reader that a bound `Input` gives has a buffer, and reads further than it is asked, while the
+// place where standard input stands counts (`twice`).
 #![tactic(auto)]
 
 mod failures;
@@ -7,82 +10,63 @@ mod places;
 mod sized;
 mod source;
 
-ghost use Rattle.std.specs.Prelude.{◌≡◌, true, false, ◌<◌, min, length};
+ghost use Rattle.std.specs.Prelude.{◌≡◌, ◌<◌, min, length, IfOk, IfErr, IsOk};
 ghost use Rattle.streams.specs.Fronts.{ReadsBehind, Keeps};
 
-pub use failures::tell;
-use failures::{Stream, fail};
-pub use sized::{Sized, read_sized};
+pub use failures::{Failed, ReadFailed, Stream, report, tell};
+pub use places::Place;
+pub use sized::read_sized;
 pub use source::{Source, go_back, put_aside, read_again, twice};
 use std::io::Print;
 
-// How many bytes a read put at the front of what it was lent, and whether it came to the end of what was asked for without a failure.
-#[derive(Clone, Copy)]
-pub struct Got {
-    pub count: usize,
-    pub good: bool,
-}
-
-fn least(a: usize, b: usize) -> usize
-    ensures { result ≡ min a b }
-{
-    if a < b { a } else { b }
-}
-
 // One read of standard input behind the first `done` bytes of `to`, which stay, counted with them. No more bytes and no failure is the end
 // of the input; a read that fails put none.
-pub fn read_behind(rt: HostRuntime, name: &[u8], to: &mut [u8], done: usize) -> Got
-    ensures reads_behind { ReadsBehind done to.old result.count to.new }
-    ensures count_value { result.good ≡ false → result.count ≡ min done (length to.old) }
+pub fn read_behind(rt: HostRuntime, to: &mut [u8], done: usize) -> Result<usize, ReadFailed>
+    ensures reads_behind { IfOk result (λ count. ReadsBehind done to.old count to.new) }
+    ensures failed_behind { IfErr result (λ e. ReadsBehind done to.old e.count to.new) }
+    ensures failed_puts_none { IfErr result (λ e. e.count ≡ min done (length to.old)) }
 {
     let mut input = rt.stdin();
-    source::read_behind(rt, name, Stream::Input, &mut input, to, done)
+    source::read_behind(Stream::Input, &mut input, to, done)
 }
 
 // Reads behind the first `done` bytes of `to`, which stay, until it is full or the input ends, counted with them. Where a read fails, what
 // came before it is no input, and does not fill `to`.
-pub fn fill(rt: HostRuntime, name: &[u8], to: &mut [u8], done: usize) -> Got
-    ensures reads_behind { ReadsBehind done to.old result.count to.new }
-    ensures count_in_bounds { result.good ≡ false → result.count < length to.new }
+pub fn fill(rt: HostRuntime, to: &mut [u8], done: usize) -> Result<usize, ReadFailed>
+    ensures reads_behind { IfOk result (λ count. ReadsBehind done to.old count to.new) }
+    ensures failed_behind { IfErr result (λ e. ReadsBehind done to.old e.count to.new) }
+    ensures failed_not_full { IfErr result (λ e. e.count < length to.new) }
 {
     let mut input = rt.stdin();
-    source::fill(rt, name, Stream::Input, &mut input, to, done)
+    source::fill(Stream::Input, &mut input, to, done)
 }
 
 // Moves the bytes from `from` up to `end` to the front, and answers how many there are.
 pub fn keep(input: &mut [u8], from: usize, end: usize) -> usize
     ensures { Keeps from end input.old result input.new }
 {
-    let stop = least(end, input.len());
-    let n = stop - least(from, stop);
-    let mut i = 0;
-    while i < n {
-        input[i] = input[from + i];
-        i += 1;
-    }
-    n
+    let stop = end.min(input.len());
+    let start = from.min(stop);
+    input.copy_within(start..stop, 0);
+    stop - start
 }
 
-// Writes all of `bytes`, and answers whether that was possible: always, where there is nothing to write.
-pub fn write(rt: HostRuntime, name: &[u8], bytes: &[u8]) -> bool
-    ensures { length bytes.now ≡ 0 → result ≡ true }
+// Writes all of `bytes`: always possible, where there is nothing to write.
+pub fn write(rt: HostRuntime, bytes: &[u8]) -> Result<(), Failed>
+    ensures { length bytes.now ≡ 0 → IsOk result }
 {
-    if bytes.len() == 0 {
-        return true;
+    if bytes.is_empty() {
+        return Ok(());
     }
-    match rt.stdout().write_all(bytes) {
-        Ok(()) => true,
-        Err(error) => {
-            fail(rt, name, Stream::Output, error);
-            false
-        }
-    }
+    rt.stdout().write_all(bytes).map_err(|error| Failed {
+        stream: Stream::Output,
+        error,
+    })
 }
 
-// Writes the first `count` of `bytes`, or all where there are fewer, and answers whether that was possible.
-pub fn write_front(rt: HostRuntime, name: &[u8], bytes: &[u8], count: usize) -> bool
-    ensures { min count (length bytes.now) ≡ 0 → result ≡ true }
+// Writes the first `count` of `bytes`, or all where there are fewer.
+pub fn write_front(rt: HostRuntime, bytes: &[u8], count: usize) -> Result<(), Failed>
+    ensures { min count (length bytes.now) ≡ 0 → IsOk result }
 {
-    let n = least(count, bytes.len());
-    write(rt, name, &bytes[..n])
+    write(rt, &bytes[..count.min(bytes.len())])
 }

@@ -29,10 +29,7 @@ fn place_of_input(rt: HostRuntime) -> io::Result<u64> {
     let mut text = [0u8; 64];
     let mut file = File::open(&rt, "/proc/self/fdinfo/0")?;
     let count = file.read(&mut text)?;
-    match number_in(&text[..count]) {
-        Some(at) => Ok(at),
-        None => Err(io::Error::from(ErrorKind::NotSeekable)),
-    }
+    number_in(&text[..count]).ok_or(io::Error::from(ErrorKind::NotSeekable))
 }
 
 // Standard input opened once more, where it is a file: its own place stays as it is. A pipe that nobody writes would be waited for.
@@ -67,18 +64,13 @@ fn any_unnamed(rt: HostRuntime) -> io::Result<File> {
 
 // A new file that has no name any more. A name that is taken already is no failure while others can be tried.
 pub fn temporary(rt: HostRuntime) -> io::Result<Place> {
-    let mut made = any_unnamed(rt);
     for _ in 1..TRIES {
-        match made {
+        match any_unnamed(rt) {
             Ok(file) => return Ok(Place { at: 0, file }),
-            Err(error) => {
-                if error.kind() != ErrorKind::AlreadyExists {
-                    return Err(error);
-                }
-            }
+            Err(error) if error.kind() == ErrorKind::AlreadyExists => {}
+            Err(error) => return Err(error),
         }
-        made = any_unnamed(rt);
     }
-    let file = made?;
+    let file = any_unnamed(rt)?;
     Ok(Place { at: 0, file })
 }

@@ -1,89 +1,45 @@
 // Bytes behind their length, which is told in 4 bytes, lowest first.
-ghost use Rattle.std.specs.Prelude.{◌≡◌, true, false, ◌≤◌, ◌<◌, length};
+ghost use Rattle.std.specs.Prelude.{◌≡◌, ◌≤◌, ◌<◌, length, IfOk, IfSome, IfErr};
 
-use crate::{Got, fill, least};
-
-// How many of the bytes were kept, whether all of them were there, and whether no read failed.
-#[derive(Clone, Copy)]
-pub struct Sized {
-    pub kept: usize,
-    pub whole: bool,
-    pub good: bool,
-}
-
-// Whether all bytes were there, and whether no read failed.
-#[derive(Clone, Copy)]
-struct Skipped {
-    whole: bool,
-    good: bool,
-}
+use crate::{Failed, ReadFailed, fill};
 
 // Reads up to `count` bytes to the front of `to`, fewer only where the input ends or a read fails.
-fn read(rt: HostRuntime, name: &[u8], to: &mut [u8], count: usize) -> Got
+fn read(rt: HostRuntime, to: &mut [u8], count: usize) -> Result<usize, ReadFailed>
     requires { count ≤ length to.old }
-    ensures count_le_count { result.count ≤ count }
-    ensures count_lt_count { result.good ≡ false → result.count < count }
+    ensures within { IfOk result (λ n. n ≤ count) }
+    ensures failed_not_all { IfErr result (λ e. e.count < count) }
 {
-    fill(rt, name, &mut to[..count], 0)
+    fill(rt, &mut to[..count], 0)
 }
 
-// Reads `count` bytes and drops them, and answers whether they were there and no read failed.
-fn skip(rt: HostRuntime, name: &[u8], space: &mut [u8], count: usize) -> Skipped
-    ensures { result.whole ≡ true → result.good ≡ true }
-{
+// Reads `count` bytes and drops them, and answers whether they were there.
+fn skip(rt: HostRuntime, space: &mut [u8], count: usize) -> Result<bool, Failed> {
     let mut left = count;
+    // by what is left, since each read says how many bytes it took
     while left > 0 {
-        let most = least(left, space.len());
-        let got = read(rt, name, space, most);
-        if got.count == 0 {
-            return Skipped {
-                whole: false,
-                good: got.good,
-            };
+        let most = left.min(space.len());
+        let got = read(rt, space, most)?;
+        if got == 0 {
+            return Ok(false);
         }
-        if !got.good {
-            return Skipped {
-                whole: false,
-                good: false,
-            };
-        }
-        left -= got.count;
+        left -= got;
     }
-    Skipped {
-        whole: true,
-        good: true,
-    }
+    Ok(true)
 }
 
-// Reads a length and as many bytes. Those for which there is room are kept at the front of `to`; the rest only has to be there, and is
-// dropped by way of `space`.
-pub fn read_sized(rt: HostRuntime, name: &[u8], to: &mut [u8], space: &mut [u8]) -> Sized
-    ensures kept_in_bounds { result.kept ≤ length to.old }
-    ensures good_value { result.whole ≡ true → result.good ≡ true }
+// Reads a length and as many bytes, and answers how many of them were kept, or none where the input is cut short. Those for which there is
+// room are kept at the front of `to`; the rest only has to be there, and is dropped by way of `space`.
+pub fn read_sized(rt: HostRuntime, to: &mut [u8], space: &mut [u8]) -> Result<Option<usize>, Failed>
+    ensures { IfOk result (λ whole. IfSome whole (λ kept. kept ≤ length to.old)) }
 {
     let mut first = [0u8; 4];
-    let told = fill(rt, name, &mut first, 0);
-    if told.count < 4 {
-        return Sized {
-            kept: 0,
-            whole: false,
-            good: told.good,
-        };
+    if fill(rt, &mut first, 0)? < 4 {
+        return Ok(None);
     }
     let size = words::get_u32(&first, 0) as usize;
-    let kept = least(size, to.len());
-    let got = read(rt, name, to, kept);
-    if got.count < kept {
-        return Sized {
-            kept: 0,
-            whole: false,
-            good: got.good,
-        };
+    let kept = size.min(to.len());
+    if read(rt, to, kept)? < kept {
+        return Ok(None);
     }
-    let rest = skip(rt, name, space, size - kept);
-    Sized {
-        kept,
-        whole: rest.whole,
-        good: rest.good,
-    }
+    Ok(skip(rt, space, size - kept)?.then_some(kept))
 }

@@ -1,150 +1,128 @@
 // Where bytes are read from: standard input as it comes, or the place from which on it can be read again. Where standard input is a pipe,
 // that is the start of a temporary file, into which the program puts what it reads.
-ghost use Rattle.std.specs.Prelude.{◌≡◌, true, false, ◌<◌, min, length};
+ghost use Rattle.std.specs.Prelude.{◌≡◌, ◌<◌, min, length, IfOk, IfErr, IsOk};
 ghost use Rattle.streams.specs.Fronts.{IsPrefixLen, ReadsBehind};
+ghost use Rattle.streams.specs.Sources.{IsInput};
 
-use crate::failures::{Stream, fail};
 use crate::places::Place;
-use crate::{Got, least, places};
+use crate::{Failed, ReadFailed, Stream, places};
 use std::fs::File;
+use std::io;
 use std::io::{Read, Seek, SeekFrom, Write};
 
-// The file and the place, and whether it is another file than standard input.
+// Standard input itself from a place on, or another file from its start on.
 #[derive(Drop)]
-pub struct Source {
-    pub at: u64,
-    pub apart: bool,
-    pub file: File,
+pub enum Source {
+    Input(Place),
+    Apart(Place),
 }
 
-fn stream_of(apart: bool) -> Stream {
-    if apart { Stream::Apart } else { Stream::Input }
-}
-
-// One read. A read that fails put none.
-fn read_once<R: Read>(
-    rt: HostRuntime,
-    name: &[u8],
-    stream: Stream,
-    reader: &mut R,
-    to: &mut [u8],
-) -> Got
-    ensures prefix_len { IsPrefixLen result.count to.new }
-    ensures count_value { result.good ≡ false → result.count ≡ 0 }
-{
-    match reader.read(to) {
-        Ok(count) => Got { count, good: true },
-        Err(error) => {
-            fail(rt, name, stream, error);
-            Got {
-                count: 0,
-                good: false,
-            }
+impl Source {
+    fn place(&self) -> &Place {
+        match self {
+            Source::Input(place) => place,
+            Source::Apart(place) => place,
         }
+    }
+
+    fn stream(&self) -> Stream {
+        match self {
+            Source::Input(_) => Stream::Input,
+            Source::Apart(_) => Stream::Apart,
+        }
+    }
+
+    fn failed(&self, error: io::Error) -> Failed {
+        let stream = self.stream();
+        Failed { stream, error }
     }
 }
 
+// One read. A read that fails put none.
 pub fn read_behind<R: Read>(
-    rt: HostRuntime,
-    name: &[u8],
     stream: Stream,
     reader: &mut R,
     to: &mut [u8],
     done: usize,
-) -> Got
-    ensures reads_behind { ReadsBehind done to.old result.count to.new }
-    ensures count_value { result.good ≡ false → result.count ≡ min done (length to.old) }
+) -> Result<usize, ReadFailed>
+    ensures reads_behind { IfOk result (λ count. ReadsBehind done to.old count to.new) }
+    ensures failed_behind { IfErr result (λ e. ReadsBehind done to.old e.count to.new) }
+    ensures failed_puts_none { IfErr result (λ e. e.count ≡ min done (length to.old)) }
 {
-    let from = least(done, to.len());
-    let got = read_once(rt, name, stream, reader, &mut to[from..]);
-    Got {
-        count: from + got.count,
-        good: got.good,
+    let from = done.min(to.len());
+    match reader.read(&mut to[from..]) {
+        Ok(count) => Ok(from + count),
+        Err(error) => Err(ReadFailed {
+            count: from,
+            failed: Failed { stream, error },
+        }),
     }
 }
 
 pub fn fill<R: Read>(
-    rt: HostRuntime,
-    name: &[u8],
     stream: Stream,
     reader: &mut R,
     to: &mut [u8],
     done: usize,
-) -> Got
-    ensures reads_behind { ReadsBehind done to.old result.count to.new }
-    ensures count_in_bounds { result.good ≡ false → result.count < length to.new }
+) -> Result<usize, ReadFailed>
+    ensures reads_behind { IfOk result (λ count. ReadsBehind done to.old count to.new) }
+    ensures failed_behind { IfErr result (λ e. ReadsBehind done to.old e.count to.new) }
+    ensures failed_not_full { IfErr result (λ e. e.count < length to.new) }
 {
-    let mut count = least(done, to.len());
-    let mut good = true;
+    let mut count = done.min(to.len());
     while count < to.len() {
-        let got = read_behind(rt, name, stream, reader, to, count);
-        if got.count == count {
-            good = got.good;
+        let more = read_behind(stream, reader, to, count)?;
+        if more == count {
             break;
         }
-        count = got.count;
+        count = more;
     }
-    Got { count, good }
+    Ok(count)
 }
 
-// Where what standard input has from now on can be read again: at its own place, or in an empty temporary file. Where there is neither,
-// that is said.
-pub fn twice(rt: HostRuntime, name: &[u8]) -> Option<Source> {
-    if let Ok(Place { at, file }) = places::of_input(rt) {
-        return Some(Source {
-            at,
-            apart: false,
-            file,
-        });
+// Where what standard input has from now on can be read again: at its own place, or in an empty temporary file.
+pub fn twice(rt: HostRuntime) -> Result<Source, Failed> {
+    if let Ok(place) = places::of_input(rt) {
+        return Ok(Source::Input(place));
     }
     match places::temporary(rt) {
-        Ok(Place { at, file }) => Some(Source {
-            at,
-            apart: true,
-            file,
+        Ok(place) => Ok(Source::Apart(place)),
+        Err(error) => Err(Failed {
+            stream: Stream::Apart,
+            error,
         }),
-        Err(error) => {
-            fail(rt, name, Stream::Apart, error);
-            None
-        }
     }
 }
 
-// Puts what was read of standard input behind what is there already, where it is to be read again elsewhere, and answers whether that was
-// possible.
-pub fn put_aside(rt: HostRuntime, name: &[u8], source: &Source, bytes: &[u8]) -> bool
-    ensures { source.now.apart ≡ false → result ≡ true }
+// Puts what was read of standard input behind what is there already, where it is to be read again elsewhere.
+pub fn put_aside(source: &Source, bytes: &[u8]) -> Result<(), Failed>
+    ensures { IsInput source.now → IsOk result }
 {
-    if !source.apart {
-        return true;
-    }
-    let mut file = &source.file;
-    match file.write_all(bytes) {
-        Ok(()) => true,
-        Err(error) => {
-            fail(rt, name, stream_of(source.apart), error);
-            false
+    match source {
+        Source::Input(_) => Ok(()),
+        Source::Apart(place) => {
+            let mut file = &place.file;
+            file.write_all(bytes).map_err(|error| source.failed(error))
         }
     }
 }
 
-// Goes back to the source's place, and answers whether that was possible.
-pub fn go_back(rt: HostRuntime, name: &[u8], source: &Source) -> bool {
-    let mut file = &source.file;
-    match file.seek(SeekFrom::Start(source.at)) {
-        Ok(_) => true,
-        Err(error) => {
-            fail(rt, name, stream_of(source.apart), error);
-            false
-        }
+// Goes back to the source's place.
+pub fn go_back(source: &Source) -> Result<(), Failed> {
+    let place = source.place();
+    let mut file = &place.file;
+    match file.seek(SeekFrom::Start(place.at)) {
+        Ok(_) => Ok(()),
+        Err(error) => Err(source.failed(error)),
     }
 }
 
 // Reads on from there, until `to` is full or the bytes end.
-pub fn read_again(rt: HostRuntime, name: &[u8], source: &Source, to: &mut [u8]) -> Got
-    ensures prefix_len { IsPrefixLen result.count to.new }
-    ensures count_in_bounds { result.good ≡ false → result.count < length to.new }
+pub fn read_again(source: &Source, to: &mut [u8]) -> Result<usize, ReadFailed>
+    ensures prefix_len { IfOk result (λ count. IsPrefixLen count to.new) }
+    ensures failed_prefix_len { IfErr result (λ e. IsPrefixLen e.count to.new) }
+    ensures failed_not_full { IfErr result (λ e. e.count < length to.new) }
 {
-    let mut file = &source.file;
-    fill(rt, name, stream_of(source.apart), &mut file, to, 0)
+    let mut file = &source.place().file;
+    fill(source.stream(), &mut file, to, 0)
 }

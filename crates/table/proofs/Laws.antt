@@ -8,13 +8,18 @@ use native.Mathlib.Omega.{arith}
 use borrow.Author.Tests.{eqb-false, leb-true, le-leb, leb-false, lt-leb, ltb-false}
 use lib.Dec.{eqb, leb, ltb}
 use lib.ListN.{length}
+use Rattle.std.proofs.Common.{Result}
 use Rattle.sets.specs.Sets.{member}
 use Rattle.sets.proofs.Laws.{by-test, clash, either_right}
 use Rattle.words.specs.Words.{number_at}
 use Rattle.entries.specs.Entries.{is_release, entry_at, entry_size, task_at, release_at, spacing_at}
 use Rattle.entries.specs.Limits as limits
-use Rattle.table.specs.Types.{TaskParameters, Spacing, Entry, Malformed, TaskEntry, ReleaseEntry, SpacingEntry, Table, Head}
-use Rattle.table.specs.Head.{no_table, behind_head, number_refused, mark_or_length_refusal, after_spacings, task_refusal, ticks_refused, spacing_refusal, entry_refusal, with_entry, marked_with, refused_at, read_to, head_from, head_of}
+use Rattle.table.specs.Types.{TaskParameters, Spacing, Entry, TaskEntry, ReleaseEntry, SpacingEntry, Table, Fault, OutOfPlace, TaskNumber, Mark, Length, UnknownTask, NotRising, TooLate, TooMany, SpacingFault, Refusal, Head}
+use Rattle.table.specs.Refusals.{fault_number}
+use Rattle.table.specs.Head.{no_table, behind_head, number_refused, mark_or_length_refusal, after_spacings, task_refusal, ticks_refused, spacing_refusal, entry_refusal, with_entry, marked_with, refused_at, read_to, head_read, head_from, head_of}
+use Rattle.std.specs.Prelude.{Ok, Err}
+use Rattle.entries.specs.declared.Unreadable.{Unreadable}
+use Rattle.entries.specs.declared.Unreadable.TheVariants.{CutShort, OtherKind}
 
 -- ---- a turn of the reading
 
@@ -32,7 +37,7 @@ module _ (s : List ℕ) (at : ℕ) where
   before_release l h = rw (lt-leb (length s) at l, h)
 
 -- an entry that is taken is whole, and not of no length
-pub record Stands (n : ℕ) (x : Entry) : Type 0 where
+pub record Stands (n : ℕ) (x : Result Entry Unreadable) : Type 0 where
   pub some : 0 < entry_size x
   pub within : entry_size x ≤ n
   pub short : entry_size x ≤ 16
@@ -42,29 +47,29 @@ module _ (s : List ℕ) (at : ℕ) (t : Table) where
   unfolding entry_at entry_refusal
   entry_whole =
       let kind : ℕ = number_at 1 s at in
-      either (eqb kind 1) (cond (leb 16 left) (TaskEntry (task_at s at)) (Malformed 1)) _ (fits 16 (TaskEntry (task_at s at)) refl (omega arith) (omega arith))
-      (either (eqb kind 2) (cond (leb 10 left) (ReleaseEntry (release_at s at)) (Malformed 1)) _ (fits 10 (ReleaseEntry (release_at s at)) refl (omega arith) (omega arith))
-      (either (eqb kind 3) (cond (leb 6 left) (SpacingEntry (spacing_at s at)) (Malformed 1)) (Malformed 2) (fits 6 (SpacingEntry (spacing_at s at)) refl (omega arith) (omega arith))
+      either (eqb kind 1) (cond (leb 16 left) (Ok (TaskEntry (task_at s at))) (Err CutShort)) _ (fits 16 (Ok (TaskEntry (task_at s at))) refl (omega arith) (omega arith))
+      (either (eqb kind 2) (cond (leb 10 left) (Ok (ReleaseEntry (release_at s at))) (Err CutShort)) _ (fits 10 (Ok (ReleaseEntry (release_at s at))) refl (omega arith) (omega arith))
+      (either (eqb kind 3) (cond (leb 6 left) (Ok (SpacingEntry (spacing_at s at))) (Err CutShort)) (Err OtherKind) (fits 6 (Ok (SpacingEntry (spacing_at s at))) refl (omega arith) (omega arith))
       (λ e. absurd (omega arith))))
     where
       left : ℕ
       left = length s - at
 
-      Taken : Entry → Type 0
+      Taken : Result Entry Unreadable → Type 0
       Taken x = entry_refusal t x ≡ 0 → Stands left x
 
-      either : (b : Bool) (x y : Entry) → Taken x → Taken y → Taken (cond b x y)
+      either : (b : Bool) (x y : Result Entry Unreadable) → Taken x → Taken y → Taken (cond b x y)
       either true x y h g = h
       either false x y h g = g
 
-      fits : (k : ℕ) (x : Entry) → entry_size x ≡ k → 0 < k → k ≤ 16 → Taken (cond (leb k left) x (Malformed 1))
+      fits : (k : ℕ) (x : Result Entry Unreadable) → entry_size x ≡ k → 0 < k → k ≤ 16 → Taken (cond (leb k left) x (Err CutShort))
       fits k x e l m =
           by-test (leb k left)
           (λ b. rw b (λ r. record { some = omega arith; within = omega (arith, leb-true k left b); short = omega arith }))
           (λ b. rw b (λ r. absurd (omega arith)))
 
-  pub is_whole : (x : Entry) → entry_at s at ≡ x → entry_refusal t x ≡ 0 → Stands (length s - at) x
-  is_whole x e r = subst (λ (y : Entry). Stands (length s - at) y) e (entry_whole (ap (entry_refusal t) e ∙ r))
+  pub is_whole : (x : Result Entry Unreadable) → entry_at s at ≡ x → entry_refusal t x ≡ 0 → Stands (length s - at) x
+  is_whole x e r = subst (λ (y : Result Entry Unreadable). Stands (length s - at) y) e (entry_whole (ap (entry_refusal t) e ∙ r))
 
 module _ (s : List ℕ) (at : ℕ) (t : Table) (m : ℕ) where
   pub at_end : (k : ℕ) → behind_head s at ≡ true → head_from k s at t m ≡ read_to t m at
@@ -72,7 +77,7 @@ module _ (s : List ℕ) (at : ℕ) (t : Table) (m : ℕ) where
   at_end zero h = refl
   at_end (suc k) h = rw (h, head_from)
 
-  module _ (k : ℕ) (more : behind_head s at ≡ false) (x : Entry) (e : entry_at s at ≡ x) where
+  module _ (k : ℕ) (more : behind_head s at ≡ false) (x : Result Entry Unreadable) (e : entry_at s at ≡ x) where
     pub refuses : (n : ℕ) → entry_refusal t x ≡ n → (n ≡ 0 → ⊥) → head_from (suc k) s at t m ≡ refused_at n at
     unfolding head_from
     refuses zero r h = absurd (h refl)
@@ -80,7 +85,7 @@ module _ (s : List ℕ) (at : ℕ) (t : Table) (m : ℕ) where
 
     pub takes : entry_refusal t x ≡ 0 → head_from (suc k) s at t m ≡ head_from k s (at + entry_size x) (with_entry t x) (marked_with m x)
     unfolding head_from
-    takes r = rw (more, head_from, e, r) (ap (λ (y : Entry). head_from k s (at + entry_size y) (with_entry t y) (marked_with m y)) e)
+    takes r = rw (more, head_from, e, r) (ap (λ (y : Result Entry Unreadable). head_from k s (at + entry_size y) (with_entry t y) (marked_with m y)) e)
 
 -- what is left to read, read from here, gives what the whole gives
 pub record Rest (s : List ℕ) (at : ℕ) (t : Table) (m : ℕ) : Type 0 where
@@ -89,7 +94,7 @@ pub record Rest (s : List ℕ) (at : ℕ) (t : Table) (m : ℕ) : Type 0 where
   pub same : head_from fuel s at t m ≡ head_of s
 
 module _ (s : List ℕ) (at : ℕ) (t : Table) (m : ℕ) (rest : Rest s at t m) (l : at < length s) where
-  pub turn : (x : Head) → ((k : ℕ) → head_from (suc k) s at t m ≡ x) → x ≡ head_of s
+  pub turn : (x : Result Head Refusal) → ((k : ℕ) → head_from (suc k) s at t m ≡ x) → x ≡ head_of s
   turn x h = go rest.fuel rest.enough rest.same
     where
       go : (k : ℕ) → length s - at ≤ k → head_from k s at t m ≡ head_of s → x ≡ head_of s
@@ -151,10 +156,10 @@ spacing_taken t x e =
 
 -- what holds of a place and the table read up to it, and goes on from an entry that is taken to the next, holds where reading ends
 module _ (s : List ℕ) (Holds : ℕ → Table → Type 0)
-    (on : (at : ℕ) (t : Table) (x : Entry) → entry_at s at ≡ x → entry_refusal t x ≡ 0 → Holds at t → Holds (at + entry_size x) (with_entry t x))
+    (on : (at : ℕ) (t : Table) (x : Result Entry Unreadable) → entry_at s at ≡ x → entry_refusal t x ≡ 0 → Holds at t → Holds (at + entry_size x) (with_entry t x))
   where
-    abbrev Ends : Head → Type 0
-    Ends x = (x.end ≡ 0) ⊎ Holds x.end x.table
+    abbrev Ends : Result Head Refusal → Type 0
+    Ends x = ((head_read x).end ≡ 0) ⊎ Holds (head_read x).end (head_read x).table
 
     pub ends : (k at : ℕ) (t : Table) (m : ℕ) → Holds at t → Ends (head_from k s at t m)
     ends zero at t m h = unfold head_from in inr h
@@ -163,7 +168,7 @@ module _ (s : List ℕ) (Holds : ℕ → Table → Type 0)
         (λ b. subst Ends (sym (at_end s at t m (suc k) b)) (inr h))
         (λ b. go b (entry_refusal t x) refl (λ r. ends k (at + entry_size x) (with_entry t x) (marked_with m x) (on at t x refl r h)))
       where
-        x : Entry
+        x : Result Entry Unreadable
         x = entry_at s at
 
         go : behind_head s at ≡ false → (n : ℕ) → entry_refusal t x ≡ n
@@ -171,8 +176,21 @@ module _ (s : List ℕ) (Holds : ℕ → Table → Type 0)
         go b zero r more = subst Ends (sym (takes s at t m k b x refl r)) (more r)
         go b (suc n) r more = subst Ends (sym (refuses s at t m k b x refl (suc n) r (omega arith))) (inl refl)
 
-pub head_within : (s : List ℕ) → (head_of s).end ≤ length s
+pub head_within : (s : List ℕ) → (head_read (head_of s)).end ≤ length s
 unfolding head_of
 head_within s =
     ⊎_elim (λ e. omega arith) (λ h. h)
     (ends s (λ at t. at ≤ length s) (λ at t x e r h. let w = is_whole s at t x e r in omega (arith, w.some, w.within)) (length s) 0 no_table 0 (omega arith))
+
+-- ---- what is wrong with an entry has a number
+
+pub fault_some : (f : Fault) → fault_number f ≡ 0 → ⊥
+fault_some OutOfPlace e = omega arith
+fault_some TaskNumber e = omega arith
+fault_some Mark e = omega arith
+fault_some Length e = omega arith
+fault_some UnknownTask e = omega arith
+fault_some NotRising e = omega arith
+fault_some TooLate e = omega arith
+fault_some TooMany e = omega arith
+fault_some SpacingFault e = omega arith

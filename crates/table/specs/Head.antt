@@ -1,12 +1,14 @@
 -- The head of an input: the part before its releases, which a file, opening and the reader of records have alike. Its entries are checked
 -- one by one, 2, 1, then 3, 4, 6, 7 of a task and 8, 19 of a spacing (8/13); 5 is kept free (6/13). It ends at the input's end or at the
 -- first release entry, be that whole or cut short: what comes there is for whoever reads on.
-use Rattle.std.specs.Prelude.{Bool, true, false, cond, not, ◌||◌, List, ℕ, zero, suc, ◌+◌, ◌*◌, eqb, ltb, leb, length, set, replicate}
+use Rattle.std.specs.Prelude.{Bool, true, false, cond, not, ◌||◌, List, ℕ, zero, suc, ◌+◌, ◌*◌, eqb, ltb, leb, length, set, replicate, Result, Ok, Err}
 use Rattle.sets.specs.Sets.{member, insert}
 use Rattle.entries.specs.Entries.{is_release, entry_at, entry_size}
+use Rattle.entries.specs.Unreadable.{unreadable_number}
 use Rattle.entries.specs.Limits as limits
 use Rattle.table.specs.Table.{with_lengths}
-use Rattle.table.specs.Types.{TaskParameters, Spacing, Entry, Malformed, TaskEntry, ReleaseEntry, SpacingEntry, Table, Refusal, NoRefusal, Alone, AtEntry, Head}
+use Rattle.table.specs.Types.{TaskParameters, Spacing, Entry, TaskEntry, ReleaseEntry, SpacingEntry, Table, Refusal, Alone, AtEntry, Head}
+use Rattle.entries.specs.declared.Unreadable.{Unreadable}
 
 -- the table with no task
 abbrev pub no_table : Table
@@ -71,43 +73,44 @@ with_spacing t x = record {
 -- ---- An entry of the head
 
 -- by its kind; 2 of what is none. 0 is none
-unfoldable pub entry_refusal : Table → Entry → ℕ
-entry_refusal t (Malformed n) = n
-entry_refusal t (TaskEntry p) = task_refusal t.present t.spaced p
-entry_refusal t (ReleaseEntry r) = 2
-entry_refusal t (SpacingEntry x) = spacing_refusal t.present t.spaced x
+unfoldable pub entry_refusal : Table → Result Entry Unreadable → ℕ
+entry_refusal t (Err e) = unreadable_number e
+entry_refusal t (Ok (TaskEntry p)) = task_refusal t.present t.spaced p
+entry_refusal t (Ok (ReleaseEntry r)) = 2
+entry_refusal t (Ok (SpacingEntry x)) = spacing_refusal t.present t.spaced x
 
 -- the table with it, and the marked tasks
-unfoldable pub with_entry : Table → Entry → Table
-with_entry t (Malformed n) = t
-with_entry t (TaskEntry p) = with_task t p
-with_entry t (ReleaseEntry r) = t
-with_entry t (SpacingEntry x) = with_spacing t x
+unfoldable pub with_entry : Table → Result Entry Unreadable → Table
+with_entry t (Err e) = t
+with_entry t (Ok (TaskEntry p)) = with_task t p
+with_entry t (Ok (ReleaseEntry r)) = t
+with_entry t (Ok (SpacingEntry x)) = with_spacing t x
 
-unfoldable pub marked_with : ℕ → Entry → ℕ
-marked_with marked (Malformed n) = marked
-marked_with marked (TaskEntry p) = with_marked marked p
-marked_with marked (ReleaseEntry r) = marked
-marked_with marked (SpacingEntry x) = marked
+unfoldable pub marked_with : ℕ → Result Entry Unreadable → ℕ
+marked_with marked (Err e) = marked
+marked_with marked (Ok (TaskEntry p)) = with_marked marked p
+marked_with marked (Ok (ReleaseEntry r)) = marked
+marked_with marked (Ok (SpacingEntry x)) = marked
 
 -- ---- The head
 
+abbrev pub refused_at : ℕ → ℕ → Result Head Refusal
+refused_at n at = Err (AtEntry n at)
+
+abbrev pub read_to : Table → ℕ → ℕ → Result Head Refusal
+read_to t marked at = Ok (record { table = t; marked = marked; end = at })
+
 -- a head that is refused tells nothing but why
-abbrev pub refused : Refusal → Head
-refused r = record { table = no_table; marked = 0; end = 0; refusal = r }
-
-abbrev pub refused_at : ℕ → ℕ → Head
-refused_at n at = refused (AtEntry n at)
-
-abbrev pub read_to : Table → ℕ → ℕ → Head
-read_to t marked at = record { table = t; marked = marked; end = at; refusal = NoRefusal }
+abbrev pub head_read : Result Head Refusal → Head
+head_read (Ok k) = k
+head_read (Err r) = record { table = no_table; marked = 0; end = 0 }
 
 -- the end of the input, or a release
 unfoldable pub behind_head : List ℕ → ℕ → Bool
 behind_head s at = leb (length s) at || is_release s at
 
 -- the entries from a place on, at most k of them
-unfoldable pub head_from : ℕ → List ℕ → ℕ → Table → ℕ → Head
+unfoldable pub head_from : ℕ → List ℕ → ℕ → Table → ℕ → Result Head Refusal
 head_from zero s at t marked = read_to t marked at
 head_from (suc k) s at t marked =
     elim (behind_head s at) [
@@ -119,15 +122,14 @@ head_from (suc k) s at t marked =
     ]
 
 -- an input of some length has no more entries than bytes
-unfoldable pub head_of : List ℕ → Head
+unfoldable pub head_of : List ℕ → Result Head Refusal
 head_of s = head_from (length s) s 0 no_table 0
 
 -- ---- A head alone, as at opening: 12 where there is no byte, then the head's refusals, then 2 for what stands behind it, a release
 
-abbrev pub with_nothing_behind : Head → ℕ → Refusal → Head
-with_nothing_behind k size NoRefusal = cond (eqb k.end size) k (refused_at 2 k.end)
-with_nothing_behind k size (Alone n) = k
-with_nothing_behind k size (AtEntry n at) = k
+abbrev pub with_nothing_behind : ℕ → Result Head Refusal → Result Head Refusal
+with_nothing_behind size (Ok k) = cond (eqb k.end size) (Ok k) (refused_at 2 k.end)
+with_nothing_behind size (Err r) = Err r
 
-unfoldable pub head_alone : List ℕ → Head
-head_alone s = cond (eqb (length s) 0) (refused (Alone 12)) (let k : Head = head_of s in with_nothing_behind k (length s) k.refusal)
+unfoldable pub head_alone : List ℕ → Result Head Refusal
+head_alone s = cond (eqb (length s) 0) (Err (Alone 12)) (with_nothing_behind (length s) (head_of s))

@@ -1,9 +1,10 @@
 // The table of tasks that the head of an input makes, and why an input is refused.
 #![tactic(auto)]
 
-ghost use Rattle.std.specs.Prelude.{◌≡◌, get_or, ◌+◌, ◌<◌};
+ghost use Rattle.std.specs.Prelude.{◌≡◌, get_or, ◌+◌, ◌<◌, Some};
 ghost use Rattle.table.specs.Table as table;
-ghost use Rattle.table.specs.Refusals.{refusal_number, refusal_place};
+ghost use Rattle.table.specs.Refusals.{refusal_number, refusal_place, fault_number};
+ghost use Rattle.table.specs.Types.{AtEntry};
 ghost use Rattle.table.specs.Head as heads;
 
 use entries::limits;
@@ -29,43 +30,94 @@ pub struct Table {
     pub columns: Columns,
 }
 
+// What is wrong with an entry of an input, by itself or where it stands.
+#[derive(Clone, Copy, PartialEq, Eq)]
+pub enum Fault {
+    OutOfPlace,
+    TaskNumber,
+    Mark,
+    Length,
+    UnknownTask,
+    NotRising,
+    TooLate,
+    TooMany,
+    Spacing,
+}
+
+impl Fault {
+    // Document 01's number.
+    pub fn number(self) -> u8
+        ensures { result ≡ fault_number self }
+    {
+        match self {
+            Fault::OutOfPlace => 3,
+            Fault::TaskNumber => 4,
+            Fault::Mark => 6,
+            Fault::Length => 7,
+            Fault::UnknownTask => 8,
+            Fault::NotRising => 9,
+            Fault::TooLate => 10,
+            Fault::TooMany => 11,
+            Fault::Spacing => 19,
+        }
+    }
+
+    // The refusal of the input whose entry at a place has it.
+    pub fn at(self, place: usize) -> Refusal
+        ensures { result ≡ AtEntry (fault_number self) place }
+    {
+        Refusal::AtEntry(self.number(), place)
+    }
+}
+
 // Why an input is refused: a number alone, or a number and the place of the entry's kind byte.
-#[derive(Clone, Copy)]
+#[derive(Clone, Copy, PartialEq, Eq)]
 pub enum Refusal {
-    NoRefusal,
     Alone(u8),
     AtEntry(u8, usize),
 }
 
-// The head of an input: the table, the set of marked tasks and the place behind it, or the first refusal.
+impl Refusal {
+    pub fn number(self) -> u8
+        ensures { result ≡ refusal_number (Some self) }
+    {
+        match self {
+            Refusal::Alone(n) => n,
+            Refusal::AtEntry(n, _) => n,
+        }
+    }
+
+    // 0 with a number alone.
+    pub fn place(self) -> usize
+        ensures { result ≡ refusal_place (Some self) }
+    {
+        match self {
+            Refusal::Alone(_) => 0,
+            Refusal::AtEntry(_, at) => at,
+        }
+    }
+}
+
+// The head of an input: the table, the set of marked tasks and the place behind it.
 #[derive(Clone, Copy)]
 pub struct Head {
     pub table: Table,
     pub marked: u32,
     pub end: usize,
-    pub refusal: Refusal,
 }
 
 // 0 where there is none.
-pub fn number_of(refusal: Refusal) -> u8
+pub fn number_of(refusal: Option<Refusal>) -> u8
     ensures { result ≡ refusal_number refusal }
 {
-    match refusal {
-        Refusal::NoRefusal => 0,
-        Refusal::Alone(n) => n,
-        Refusal::AtEntry(n, _) => n,
-    }
+    refusal.map_or(0, Refusal::number)
 }
 
 // 0 where there is none, and with a number alone.
-pub fn place_of(refusal: Refusal) -> usize
+pub fn place_of(refusal: Option<Refusal>) -> usize
     ensures { result ≡ refusal_place refusal }
 {
-    match refusal {
-        Refusal::NoRefusal => 0,
-        Refusal::Alone(_) => 0,
-        Refusal::AtEntry(_, at) => at,
-    }
+    refusal.map_or(0, Refusal::place)
 }
 
 // The table with no task.
@@ -85,8 +137,7 @@ fn entry_of(columns: &[u32], column: usize, n: u8) -> u32
     requires { column < 256 }
     ensures { result ≡ get_or columns.now (column + n) 0 }
 {
-    let i = column + n as usize;
-    if i < columns.len() { columns[i] } else { 0 }
+    columns.get(column + usize::from(n)).copied().unwrap_or(0)
 }
 
 // L, the length of a task's copy-in.
@@ -115,16 +166,4 @@ pub fn spacing(columns: &[u32], n: u8) -> u32
     ensures { result ≡ table.spacing columns.now n }
 {
     entry_of(columns, SPACING, n)
-}
-
-// A head that is refused tells nothing but why.
-pub fn refused(refusal: Refusal) -> Head
-    ensures { result ≡ heads.refused refusal }
-{
-    Head {
-        table: no_table(),
-        marked: 0,
-        end: 0,
-        refusal,
-    }
 }

@@ -15,10 +15,6 @@ use Rattle.views.specs.Showing.{ticks_of, units_of, stored_if}
 -- ---- by the kind of each unit
 
 module _ (kind n start until : ℕ) where
-  pub rests_now : eqb kind 1 ≡ false → eqb kind 2 ≡ false
-      → (task_byte (on_processor (as_processor kind n start until)) ≡ 255) × (processor_until (as_processor kind n start until) ≡ 0)
-  rests_now e f = by-test (eqb kind 0) (λ g. (simp g, simp g)) (λ g. (simp (g, e, f), simp (g, e, f)))
-
   out_byte : task_byte (copied_out (as_copyout kind n start until)) ≡ cond (eqb kind 1) n 255
   out_byte = by-test (eqb kind 1) (λ e. simp (eqb-true kind 1 e)) (λ e. by-test (eqb kind 0) (λ f. simp (f, e)) (λ f. simp (f, e)))
 

@@ -1,7 +1,7 @@
 -- What goes on now, over the numbers of a dispatcher, and in the arrays of one who looks.
 use Rattle.std.specs.Prelude.{◌≡◌, Bool, cond, List, [], ◌∷◌, ℕ, get_or, set}
 use Rattle.entries.specs.Entries.{task_byte}
-use Rattle.rules.specs.Types.{NoTask}
+use Rattle.rules.specs.Types.{None}
 use Rattle.rules.specs.declared.View.{View}
 use Rattle.rules.specs.Registers.{as_processor}
 use Rattle.rules.specs.View.{on_processor, processor_until, viewed}
@@ -10,7 +10,7 @@ use Rattle.rules.specs.Kept.{kept, Beside, read}
 abbrev pub OnProcessor : ℕ → Bool → Type 0
 OnProcessor kind x =
     (n start until : ℕ)
-    → (task_byte (on_processor (as_processor kind n start until)) ≡ cond x n (task_byte NoTask))
+    → (task_byte (on_processor (as_processor kind n start until)) ≡ cond x n (task_byte None))
     × (processor_until (as_processor kind n start until) ≡ cond x until 0)
 
 abbrev pub ViewedAt : List ℕ → List ℕ → List ℕ → View → Type 0

@@ -1,7 +1,7 @@
 // What goes on now, read off the numbers of a dispatcher.
 #![tactic(auto)]
 
-ghost use Rattle.std.specs.Prelude.{◌≡◌, ◌+◌, ◌<◌};
+ghost use Rattle.std.specs.Prelude.{◌≡◌, ◌+◌, ◌≤◌, ◌<◌};
 ghost use Rattle.rules.specs.View.{shown_half, viewed};
 ghost use Rattle.dispatcher.specs.Dispatcher.{state_of};
 ghost use Rattle.views.specs.Showing.{OnProcessor, ViewedAt, stored_if, ShowsNone, ShowsOpen, ShowsNow};
@@ -14,20 +14,15 @@ use rules::{View, at, codes};
 fn is_working(kind: u8) -> bool
     ensures { OnProcessor kind result }
 {
-    if kind == codes::COPYING_IN {
-        return true;
-    }
-    kind == codes::EXECUTING
+    kind == codes::COPYING_IN || kind == codes::EXECUTING
 }
 
-// 0 before the first interval.
-fn half_shown(half: u8) -> u8
-    ensures { result ≡ shown_half half }
+// The processor's half as it is shown: 0 before the first interval.
+pub fn half_shown(half: u8) -> u8
+    ensures value { result ≡ shown_half half }
+    ensures a_bit { result ≤ 1 }
 {
-    if half == 1 {
-        return 1;
-    }
-    0
+    u8::from(half == 1)
 }
 
 // A phase under way, in the places of its unit, which have that of nobody before: the end in one array, the task one place further on in

@@ -4,25 +4,26 @@
 #![tactic(auto)]
 
 ghost use Rattle.std.specs.Prelude.{◌≤◌, length};
-ghost use Rattle.streams.specs.Fronts.{IsPrefixLen};
-ghost use Rattle.run.specs.Cut.{file_most};
 
 use entries::limits;
 use rules::{View, at};
-use streams::Got;
+use streams::Failed;
 use table::{Head, Refusal};
 
-// Room for a line that says why an input is refused.
-const LINE: usize = 192;
-
-// What an instant adds, where there are the views before and after it; whether that could be written.
-fn write_instant(rt: HostRuntime, begun: bool, t: u64, before: View, after: View) -> bool {
+// What an instant adds, where there are the views before and after it.
+fn write_instant(
+    rt: HostRuntime,
+    begun: bool,
+    t: u64,
+    before: View,
+    after: View,
+) -> Result<(), Failed> {
     let mut text = [0u8; waves::ROOM];
     let n = waves::put_instant(&mut text, begun, t, before, after);
-    streams::write_front(rt, b"waveform", &text, n)
+    streams::write_front(rt, &text, n)
 }
 
-fn write_run(rt: HostRuntime, input: &[u8], head: Head)
+fn write_run(rt: HostRuntime, input: &[u8], head: Head) -> Result<(), Failed>
     requires { head.end ≤ length input.now }
 {
     let mut entries = [0u8; limits::INSTANT_MOST];
@@ -30,62 +31,52 @@ fn write_run(rt: HostRuntime, input: &[u8], head: Head)
     let mut d = dispatcher::opened(table, head.marked);
     let mut seen = views::viewed_of(d);
     let mut from = head.end;
-    let mut left = limits::BUDGET_MOST;
     let mut begun = false;
-    while left != 0 {
+    // instant by instant, since what is written is read from the dispatcher behind each, which `each_piece` does not hand on
+    for _ in 0..limits::BUDGET_MOST {
         let x = pieces::next_piece(&input[from..], d, 1, &mut entries);
         if x.ended {
             break;
         }
         d = x.state;
         let now = views::viewed_of(d);
-        if !write_instant(rt, begun, d.times[at::LAST], seen, now) {
-            return;
-        }
+        write_instant(rt, begun, d.times[at::LAST], seen, now)?;
         from += x.read;
         seen = now;
         begun = true;
-        left -= 1;
     }
-    if !begun {
-        write_instant(rt, false, 0, seen, seen);
+    if begun {
+        return Ok(());
     }
+    write_instant(rt, false, 0, seen, seen)
 }
 
-// Says on standard error why nothing is written.
 fn say(rt: HostRuntime, refusal: Refusal) {
-    let mut out = [0u8; LINE];
-    let count = lines::put(lines::refused_input_line(refusal), &mut out);
-    streams::tell(rt, b"waveform: the input is refused: ", &out[..count]);
+    printing::tell_refusal(rt, b"waveform: the input is refused: ", refusal);
 }
 
-fn answer(rt: HostRuntime, input: &[u8]) {
-    let head = run::check_file(input);
-    let refusal = head.refusal;
-    match refusal {
-        Refusal::NoRefusal => {
-            if streams::write(rt, b"waveform", &waves::header()) {
-                write_run(rt, input, head);
-            }
+fn answer(rt: HostRuntime, input: &[u8]) -> Result<(), Failed> {
+    match run::check_file(input) {
+        Ok(head) => {
+            streams::write(rt, &waves::header())?;
+            write_run(rt, input, head)
         }
-        Refusal::Alone(_) => say(rt, refusal),
-        Refusal::AtEntry(_, _) => say(rt, refusal),
+        Err(refusal) => {
+            say(rt, refusal);
+            Ok(())
+        }
     }
 }
 
-// Reads as much of an input as there is room for, which is enough: run/specs/Cut, `ReadFromFront`. What stands behind it is not read.
-fn read(rt: HostRuntime, input: &mut [u8]) -> Got
-    requires { file_most ≤ length input.old }
-    ensures { IsPrefixLen result.count input.new }
-{
-    streams::fill(rt, b"waveform", input, 0)
+// As much of an input is read as there is room for, which is enough: run/specs/Cut, `ReadFromFront`. What stands behind it is not read.
+fn drive(rt: HostRuntime) -> Result<(), Failed> {
+    let mut input = [0u8; limits::FILE_MOST];
+    let count = streams::fill(rt, &mut input, 0)?;
+    answer(rt, &input[..count])
 }
 
 fn main(rt: HostRuntime) {
-    let mut input = [0u8; limits::FILE_MOST];
-    let got = read(rt, &mut input);
-    if got.good {
-        let count = got.count;
-        answer(rt, &input[..count]);
+    if let Err(failed) = drive(rt) {
+        streams::report(rt, "waveform", failed);
     }
 }

@@ -10,7 +10,7 @@ use Rattle.sets.specs.Sets.{member}
 use Rattle.sets.proofs.Laws.{by-test, member_task}
 use Rattle.entries.specs.Entries.{task_byte}
 use Rattle.table.specs.declared.Table.{Table}
-use Rattle.table.specs.Head.{head_of}
+use Rattle.table.specs.Head.{head_read, head_of}
 use Rattle.rules.specs.Types.{Processor, Idle, CopyingIn, Executing, Finished, CopyOut, NoCopyOut, CopyingOut, CopiedOut, CopyIn, Unchosen, NoneChosen, Copying, Loaded, Cancelled, Phase, Between, Within}
 use Rattle.rules.specs.View.{Values, on_processor, copied_in, copied_out, values_in, values}
 use Rattle.rules.specs.Instant.{at_g}
@@ -120,8 +120,8 @@ file_readable : (s : List ℕ) (rs : List Release) → releases_of s ≡ Release
 unfolding samples_of
 file_readable s rs h =
     let a : Accepted s rs = accepted s rs h in
-    let table : Table = (head_of s).table in
-    let marks : ℕ = (head_of s).marked in
+    let table : Table = (head_read (head_of s)).table in
+    let marks : ℕ = (head_read (head_of s)).marked in
     let good : Good table marks (fair s rs a) (opened table marks) = good_opened table marks (fair s rs a) in
     let f = fed_file s rs h in
     begins_at_0 (seen (opened table marks)) (samples (moments_of s rs)) (seen_fits table marks (fair s rs a) (opened table marks) good)
@@ -148,6 +148,6 @@ unfolding samples_of values_at
 samples_tell = record {
   readable = file_readable;
   tell = λ s rs v t.
-      let k : Head = head_of s in
+      let k : Head = head_read (head_of s) in
       from_0 v (seen (opened k.table k.marked)) (samples (moments_of s rs)) t ∙ told (values (opened k.table k.marked)) (moments_of s rs) t;
 }

@@ -1,7 +1,7 @@
 -- What a run shows: the values of 5/13 after each instant's steps.
 use Rattle.std.specs.Prelude.{eqb, leb, ◌∷◌}
 use Rattle.entries.specs.Entries.{task_byte}
-use Rattle.table.specs.Head.{head_of}
+use Rattle.table.specs.Head.{head_read, head_of}
 use Rattle.rules.specs.View.{values}
 use Rattle.rules.specs.Calls.{opened}
 use Rattle.run.specs.Run.{Moment, moments_of}
@@ -32,7 +32,7 @@ from_zero v (s ∷ ss) = cond (eqb s.time 0) (s ∷ ss) (record { time = 0; show
 
 -- of the run of an input with its releases
 unfoldable pub samples_of : List ℕ → List Release → List Sample
-samples_of s rs = let k : Head = head_of s in from_zero (seen (opened k.table k.marked)) (samples (moments_of s rs))
+samples_of s rs = let k : Head = head_read (head_of s) in from_zero (seen (opened k.table k.marked)) (samples (moments_of s rs))
 
 -- ---- The run's values at every tick, for whoever reads a dump
 
@@ -42,4 +42,4 @@ values_from v [] t = v
 values_from v (m ∷ ms) t = cond (leb m.time t) (values_from (values m.state) ms t) v
 
 unfoldable pub values_at : List ℕ → List Release → ℕ → Values
-values_at s rs t = let k : Head = head_of s in values_from (values (opened k.table k.marked)) (moments_of s rs) t
+values_at s rs t = let k : Head = head_read (head_of s) in values_from (values (opened k.table k.marked)) (moments_of s rs) t

@@ -142,28 +142,13 @@ fn put_new_half(out: &mut [u8], at: usize, old: u8, new: u8) -> usize
     put_wire(out, at, new)
 }
 
-fn same(v: Shown, w: Shown) -> bool
-    ensures { result ≡ dump.same v w }
-{
-    if v.processor != w.processor {
-        return false;
-    }
-    if v.copyin != w.copyin {
-        return false;
-    }
-    if v.copyout != w.copyout {
-        return false;
-    }
-    v.half == w.half
-}
-
 // The values that change at a time, under its mark.
 pub fn put_change(out: &mut [u8], at: usize, t: u64, v: Shown, w: Shown) -> usize
     requires half_bound { w.half ≤ 1 }
     requires room { Room at (dump.change v (record { time = t; shown = w })) out.old }
     ensures { Lays at (dump.change v (record { time = t; shown = w })) out.old result out.new }
 {
-    if same(v, w) {
+    if v == w {
         return at;
     }
     let a = put_mark(out, at, t);
@@ -185,7 +170,7 @@ fn new_size(old: u8, new: u8, size: usize) -> usize
 pub fn change_size(t: u64, v: Shown, w: Shown) -> usize
     ensures { result ≡ length (dump.change v (record { time = t; shown = w })) }
 {
-    if same(v, w) {
+    if v == w {
         return 0;
     }
     let a = new_size(v.processor, w.processor, WIRES);

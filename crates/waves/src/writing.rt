@@ -4,7 +4,6 @@ ghost use Rattle.dispatcher.specs.Dispatcher.{state_of};
 ghost use Rattle.record.specs.Cursor.{RoomAt, KeptAt, Runs};
 ghost use Rattle.record.specs.Writing.{Wrote, written};
 ghost use Rattle.record.specs.Cursor.{start as start_of_lem};
-ghost use Rattle.rules.specs.View.{shown_half};
 ghost use Rattle.waves.specs.Dump as dump;
 ghost use Rattle.waves.specs.Printing.{Room, Lays};
 ghost use Rattle.waves.specs.Writing.{dumped};
@@ -15,9 +14,9 @@ use crate::Shown;
 use crate::printing::{START, change_size, put_change, put_start};
 use dispatcher::Dispatcher;
 use entries::{RELEASE_SIZE, limits};
-use record::Outcome;
+use record::Unwritten;
 use rules::{View, at};
-use table::{Head, Refusal};
+use table::Head;
 
 // More than one instant's lines take.
 pub const ROOM: usize = 256;
@@ -113,15 +112,6 @@ fn add_turn(out: &mut [u8], at: usize, keep: bool, begun: bool, t: u64, v: Shown
     at + turn_size(begun, t, v, w)
 }
 
-fn wire_of(half: u8) -> u8
-    ensures { (result ≡ shown_half half) × (result ≤ 1) }
-{
-    if half == 1 {
-        return 1;
-    }
-    0
-}
-
 // What shows by a view.
 fn shown_by(v: View) -> Shown
     ensures { (result ≡ shown_by v) × (result.half ≤ 1) }
@@ -130,7 +120,7 @@ fn shown_by(v: View) -> Shown
         processor: v.processor,
         copyin: v.copyin,
         copyout: v.copyout,
-        half: wire_of(v.half),
+        half: views::half_shown(v.half),
     }
 }
 
@@ -224,7 +214,7 @@ fn draw(s: &[u8], part: Head, budget: usize, out: &mut [u8], keep: bool) -> usiz
 }
 
 // The dump of a run, in a slice that is long enough, or the length needed.
-fn write_run(s: &[u8], part: Head, out: &mut [u8]) -> Outcome
+fn write_run(s: &[u8], part: Head, out: &mut [u8]) -> Result<usize, Unwritten>
     requires { Runs s.now (start_of_lem part) }
     ensures { Wrote (written (whole_dump s.now part) out.old) result out.new }
 {
@@ -232,27 +222,22 @@ fn write_run(s: &[u8], part: Head, out: &mut [u8]) -> Outcome
     let budget = limits::INSTANTS_EACH * n + limits::INSTANTS_EACH;
     let needed = draw(s, part, budget, out, false);
     if out.len() < needed {
-        return Outcome::TooShort(needed);
+        return Err(Unwritten::TooShort(needed));
     }
     let size = draw(s, part, budget, out, true);
-    Outcome::Recorded(size)
+    Ok(size)
 }
 
-fn write_file(s: &[u8], out: &mut [u8]) -> Outcome
+fn write_file(s: &[u8], out: &mut [u8]) -> Result<usize, Unwritten>
     ensures { Wrote (dumped s.now out.old) result out.new }
 {
-    let part = run::check_file(s);
-    let refusal = part.refusal;
-    match refusal {
-        Refusal::NoRefusal => write_run(s, part, out),
-        Refusal::Alone(_) => Outcome::RefusedInput(refusal),
-        Refusal::AtEntry(_, _) => Outcome::RefusedInput(refusal),
-    }
+    let part = run::check_file(s)?;
+    write_run(s, part, out)
 }
 
 // The dump of an input in the front of `out`, and its length; a refusal of the input; or 13 with the length needed. Nothing behind the dump
 // changes, and on a refusal nothing at all.
-pub fn write(s: &[u8], out: &mut [u8]) -> Outcome
+pub fn write(s: &[u8], out: &mut [u8]) -> Result<usize, Unwritten>
     ensures { WroteWithViews s.now out.old result out.new }
 {
     write_file(s, out)

@@ -1,16 +1,15 @@
 -- The laws of numbers in bytes, over the width: lengths, bounds, the round trip, and how a number is made of its parts.
 use mathlib.Core.Path.{◌≡◌, refl, sym, ap, ap₂, ◌∙◌}
-use mathlib.Core.Bool.{Bool, true, false}
 use mathlib.Core.List.{List, [], ◌∷◌, ◌++◌, append-nil}
 use Prim.Native.Nat.{ℕ, zero, suc, ◌+◌, ◌-◌, ◌*◌, ◌/◌, ◌%◌, ◌^◌, ◌≤◌, ◌<◌}
-use native.Mathlib.Nat.{add-zero, add-suc, add_assoc, mul-zero, mul_assoc, mul-add, one-le-pow, le_trans, le_of_eq, le-add_right}
+use native.Mathlib.Nat.{div-one, div-div-eq-div-mul, pow-suc, mul_comm, add-zero, add-suc, add_assoc, mul-zero, mul_assoc, mul-add, le_trans, le_of_eq, le-add_right}
 use native.Mathlib.Omega.{arith}
-use borrow.Author.Tests.{leb-true, leb-false, le-leb, lt-leb}
-use lib.Dec.{leb}
+use borrow.Author.Tests.{le-leb}
 use lib.Pow.{pow-add}
-use lib.ListN.{length, get_or, take, drop, length-drop, drop_of_length-le, get_or-eq_default}
-use lib.Seq.{get_or-append-add, get_or-drop, take_all, sets, sets-eq}
-use Rattle.words.specs.Words.{bytes_of, number_at, room, written, LeftAt}
+use lib.ListN.{length, get_or, take, drop, replicate, length-drop, drop_of_length-le, get_or-eq_default}
+use lib.Seq.{get_or-append-add, get_or-drop, take_all}
+use Rattle.std.specs.Int.{byte_at, byte_worth, bytes_low_first, sum_through}
+use Rattle.words.specs.Words.{bytes_of, number_at, written}
 
 -- ---- the bytes of a number
 
@@ -66,6 +65,49 @@ in_rest (suc w) at k s =
     ap₂ (λ (x b : ℕ). x + 256 ^ w * b) (in_rest w at k s)
     (get_or-drop at s (k + w) 0 ∙ ap (λ (i : ℕ). get_or s i 0) (sym (add_assoc at k w)))
 
+-- ---- as the library has them
+
+-- the bytes that `to_le_bytes` gives, from byte i on
+bytes_from : (w i v : ℕ) → bytes_low_first i w v ≡ bytes_of w (v / 256 ^ i)
+unfolding bytes_of
+bytes_from zero i v = refl
+bytes_from (suc w) i v = rw (bytes_from w (suc i) v, next i, here i)
+  where
+    here : (i : ℕ) → byte_at i v ≡ v / 256 ^ i % 256
+    here zero = rw (div-one v) refl
+    here (suc i) = refl
+
+    next : (i : ℕ) → v / 256 ^ suc i ≡ v / 256 ^ i / 256
+    next i = rw (pow-suc 256 i) (sym (div-div-eq-div-mul v (256 ^ i) 256))
+
+pub bytes_made : (w v : ℕ) → bytes_low_first 0 w v ≡ bytes_of w v
+bytes_made w v = bytes_from w 0 v ∙ ap (bytes_of w) (div-one v)
+
+-- the number that `from_le_bytes` makes of bytes that stand at a place
+pub number_made : (k : ℕ) (bytes s : List ℕ) (at : ℕ) → ((i : ℕ) → i < suc k → get_or bytes i 0 ≡ get_or s (at + i) 0)
+    → sum_through (λ i. byte_worth i (get_or bytes i 0)) k ≡ number_at (suc k) s at
+unfolding number_at
+number_made zero bytes s at h = omega (arith, h 0 (omega arith))
+number_made (suc k) bytes s at h =
+    ap₂ (λ (x y : ℕ). x + y) (number_made k bytes s at (λ i l. h i (omega arith)))
+    (mul_comm (get_or bytes (suc k) 0) (256 ^ suc k) ∙ ap (λ (b : ℕ). 256 ^ suc k * b) (h (suc k) (omega arith)))
+
+-- ---- what is left of a slice, with zeros behind it
+
+padded : (xs ys : List ℕ) (k : ℕ) → ((j : ℕ) → get_or ys j 0 ≡ 0) → get_or (xs ++ ys) k 0 ≡ get_or xs k 0
+padded [] ys k h = h k
+padded (x ∷ xs) ys zero h = refl
+padded (x ∷ xs) ys (suc k) h = padded xs ys k h
+
+zeros : (n k : ℕ) → get_or (replicate {A = ℕ} n 0) k 0 ≡ 0
+zeros zero k = refl
+zeros (suc n) zero = refl
+zeros (suc n) (suc k) = zeros n k
+
+pub left_padded : (n m at k : ℕ) (s : List ℕ) → get_or (drop at s ++ drop m (replicate n 0)) k 0 ≡ get_or s (at + k) 0
+left_padded n m at k s =
+    padded (drop at s) (drop m (replicate n 0)) k (λ j. get_or-drop m (replicate n 0) j 0 ∙ zeros n (m + j)) ∙ get_or-drop at s k 0
+
 -- ---- the round trip
 
 pub round_trip : (w v : ℕ) (rest : List ℕ) → v < 256 ^ w → number_at w (bytes_of w v ++ rest) 0 ≡ v
@@ -88,37 +130,11 @@ unfolding number_at
 past zero s at h = refl
 past (suc w) s at h = rw (past w s at h, get_or-eq_default s 0 (le_trans h (le-add_right at w))) (omega (arith, mul-zero (256 ^ w)))
 
-pub left_none : (s : List ℕ) (at : ℕ) → length s ≤ at → LeftAt s at 0
-left_none s at h w l = (sym (past w s at h), one-le-pow w 256 (omega arith))
-
--- one byte more, in front of what is left
-pub left_more : (s : List ℕ) (at next v b : ℕ) → next ≡ at + 1 → at < length s → b ≡ get_or s at 0 → b < 256 → LeftAt s next v → LeftAt s at (v * 256 + b)
-left_more s at next v b e l f m h zero r = omega arith
-left_more s at next v b e l f m h (suc w) r =
-    let k = h w (omega arith) in
-    (omega (arith, first_byte w s at, ap (number_at w s) e, k.0), omega (arith, k.1))
-
 -- ---- writing into the front
 
 pub written_whole : (w v : ℕ) (s : List ℕ) → w ≤ length s → written w v s ≡ bytes_of w v ++ drop w s
 unfolding written
 written_whole w v s h = rw (le-leb w (length s) h)
-
-pub room_whole : (w : ℕ) (s : List ℕ) → w ≤ length s → room w s ≡ w
-unfolding room
-room_whole w s h = rw (le-leb w (length s) h)
-
--- the bytes stored one after the other are the number written; a slice that is too short stays as it is
-pub stored : (w v : ℕ) (s : List ℕ) → w ≤ length s → (w ≡ room w s) × (sets s 0 (bytes_of w v) ≡ written w v s)
-stored w v s h =
-    let n : 0 + length (bytes_of w v) ≡ w = omega (arith, length_bytes w v) in (
-      sym (room_whole w s h),
-      sets-eq (bytes_of w v) s 0 (omega arith) ∙ ap (λ (k : ℕ). bytes_of w v ++ drop k s) n ∙ sym (written_whole w v s h),
-    )
-
-pub too_short : (w v : ℕ) (s : List ℕ) → length s < w → (0 ≡ room w s) × (s ≡ written w v s)
-unfolding room written
-too_short w v s h = rw (lt-leb w (length s) h) (refl, refl)
 
 -- ---- the rest of a slice, lent to a writer
 
@@ -135,12 +151,3 @@ pub lent : (writer : List ℕ → List ℕ) (at : ℕ) (s t : List ℕ) → t �
 lent writer at s t e =
     ap₂ (λ (x y : List ℕ). take at s ++ (x ++ y)) (e ∙ ap writer (rest_whole at s)) (drop_of_length-le (drop at s) (le_of_eq (length-drop at s)))
     ∙ ap (λ (x : List ℕ). take at s ++ x) (append-nil (writer (drop at s)))
-
--- ---- a test without the sum
-
-pub after : (at w n : ℕ) → at ≤ n → leb w (n - at) ≡ leb (at + w) n
-after at w n h = go (leb (at + w) n) refl
-  where
-    go : (b : Bool) → leb (at + w) n ≡ b → leb w (n - at) ≡ b
-    go true e = le-leb w (n - at) (omega (arith, leb-true (at + w) n e))
-    go false e = lt-leb w (n - at) (omega (arith, leb-false (at + w) n e))

@@ -1,5 +1,5 @@
 -- Numbers of a width in bytes, lowest byte first: as bytes, read at a place, written into the front of a slice.
-use Rattle.std.specs.Prelude.{◌≡◌, cond, List, [], ◌∷◌, ◌++◌, ℕ, zero, suc, ◌+◌, ◌*◌, ◌/◌, ◌%◌, ◌^◌, ◌≤◌, ◌<◌, leb, length, get_or, drop}
+use Rattle.std.specs.Prelude.{cond, List, [], ◌∷◌, ◌++◌, ℕ, zero, suc, ◌+◌, ◌*◌, ◌/◌, ◌%◌, ◌^◌, leb, length, get_or, drop}
 
 -- the bytes of a number, by the width
 unfoldable pub bytes_of : ℕ → ℕ → List ℕ
@@ -18,7 +18,3 @@ room w s = cond (leb w (length s)) w 0
 -- what the slice holds then
 unfoldable pub written : ℕ → ℕ → List ℕ → List ℕ
 written w v s = cond (leb w (length s)) (bytes_of w v ++ drop w s) s
-
--- a number is what is left of a slice from a place: at each width that reaches the slice's end
-abbrev pub LeftAt : List ℕ → ℕ → ℕ → Type 0
-LeftAt s at v = (w : ℕ) → length s ≤ at + w → (v ≡ number_at w s at) × (v < 256 ^ w)

@@ -3,11 +3,11 @@ use mathlib.Core.Path.{◌≡◌, ap, ◌∙◌}
 use mathlib.Core.List.{List}
 use Prim.Native.Nat.{ℕ}
 use Rattle.words.specs.Words.{number_at}
-use Rattle.entries.specs.Types.{MaybeTask, IntervalEntry}
+use Rattle.entries.specs.Types.{Option, IntervalEntry}
 use Rattle.entries.specs.Entries.{task_of, interval_at}
 use Rattle.entries.proofs.front_interval.Goals as goal
 
-module _ (s : List ℕ) (begin end half work fate : ℕ) (task copiedout chosen promoted : MaybeTask) where
+module _ (s : List ℕ) (begin end half work fate : ℕ) (task copiedout chosen promoted : Option ℕ) where
   abbrev entry : IntervalEntry
   entry = record { begin = begin; end = end; half = half; task = task; work = work; copiedout = copiedout; chosen = chosen; fate = fate; promoted = promoted }
 

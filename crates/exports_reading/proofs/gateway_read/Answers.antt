@@ -2,7 +2,7 @@
 use mathlib.Core.Path.{◌≡◌, ◌∙◌, ap, subst}
 use mathlib.Core.List.{List}
 use Prim.Native.Nat.{ℕ}
-use Rattle.record.specs.declared.Outcome.{Outcome}
+use Rattle.record.specs.Types.{Outcome}
 use Rattle.reading.specs.Acceptance.{Accepts}
 use Rattle.record.specs.Writing.{outcome_number, outcome_value}
 use Rattle.exports_reading.proofs.gateway_read.Goals as goal

@@ -1,24 +1,25 @@
 -- `heads::head_alone` meets its contract: by what the head was read to. Assumes nothing.
+use Rattle.std.proofs.Common.{sym, ◌∙◌}
+use Rattle.std.proofs.lemmas.Result.{err_from_is_err_and}
 use borrow.Author.Tests.{eq-eqb, ne_eqb}
 use Rattle.table.specs.Head.{head_alone}
 use Rattle.heads.proofs.head_alone.Goals as goal
 
-pub returns-then-s-eq0 : goal.returns-then-s-eq0
+pub returns-then-is_empty : goal.returns-then-is_empty
 unfolding head_alone
-returns-then-s-eq0 c = simp (eq-eqb _ _ c.if-s-eq0.true, c.refused.ensures)
+returns-then-is_empty c = simp (sym c.is_empty.ensures ∙ c.if-is_empty.true)
+
+pub returns-in_err-head : goal.returns-in_err-head
+unfolding head_alone
+returns-in_err-head c =
+    let p = err_from_is_err_and c.from_residual.result c.from_residual.ensures.1 in
+    rw (p.1, p.2) (simp (sym c.is_empty.ensures ∙ c.if-is_empty.false, sym c.head_of.ensures ∙ c.in_err-head.was))
 
 pub returns-then-head-s : goal.returns-then-head-s
 unfolding head_alone
-returns-then-head-s c = simp (ne_eqb _ _ c.if-s-eq0.false, ← c.head_of-head.ensures, c.in-NoRefusal.is, eq-eqb _ _ c.if-head-s.true)
+returns-then-head-s c =
+    simp (sym c.is_empty.ensures ∙ c.if-is_empty.false, sym c.head_of.ensures ∙ c.in_ok-head.was, ne_eqb _ _ c.if-head-s.true, c.refused_at.ensures)
 
-pub returns-else-head-s : goal.returns-else-head-s
+pub returns : goal.returns
 unfolding head_alone
-returns-else-head-s c = simp (ne_eqb _ _ c.if-s-eq0.false, ← c.head_of-head.ensures, c.in-NoRefusal.is, ne_eqb _ _ c.if-head-s.false, c.refused_at.ensures)
-
-pub returns-in-Alone : goal.returns-in-Alone
-unfolding head_alone
-returns-in-Alone c = simp (ne_eqb _ _ c.if-s-eq0.false, ← c.head_of-head.ensures, c.in-Alone.is)
-
-pub returns-in-AtEntry : goal.returns-in-AtEntry
-unfolding head_alone
-returns-in-AtEntry c = simp (ne_eqb _ _ c.if-s-eq0.false, ← c.head_of-head.ensures, c.in-AtEntry.is)
+returns c = simp (sym c.is_empty.ensures ∙ c.if-is_empty.false, sym c.head_of.ensures ∙ c.in_ok-head.was, eq-eqb _ _ c.if-head-s.false)

@@ -1,8 +1,8 @@
 -- `lines::instant_lines` meets its contract: by cases. Assumes nothing.
 use Rattle.lines.proofs.instant_lines.Goals as goal
 
-pub returns-in-Refused : goal.returns-in-Refused
-returns-in-Refused c = rw c.in-Refused.is c.refused_call_line.ensures
+pub returns-in-Err : goal.returns-in-Err
+returns-in-Err c = rw c.in-Err.is c.refused_call_line.ensures
 
-pub returns-in-Served : goal.returns-in-Served
-returns-in-Served c = rw c.in-Served.is c.served_lines.ensures
+pub returns-in-Ok : goal.returns-in-Ok
+returns-in-Ok c = rw c.in-Ok.is c.served_lines.ensures

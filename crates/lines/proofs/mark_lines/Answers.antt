@@ -1,8 +1,8 @@
 -- `lines::mark_lines` meets its contract: by cases. Assumes nothing.
 use Rattle.lines.proofs.mark_lines.Goals as goal
 
-pub returns-in-MarkRefused : goal.returns-in-MarkRefused
-returns-in-MarkRefused c = rw c.in-MarkRefused.is c.refused_call_line.ensures
+pub returns-in-Err : goal.returns-in-Err
+returns-in-Err c = rw c.in-Err.is c.refused_call_line.ensures
 
-pub returns-in-MarkServed : goal.returns-in-MarkServed
-returns-in-MarkServed c = rw c.in-MarkServed.is c.letter_line.ensures
+pub returns-in-Ok : goal.returns-in-Ok
+returns-in-Ok c = rw c.in-Ok.is c.letter_line.ensures

@@ -5,18 +5,13 @@ use Rattle.lines.proofs.Laws.{room_fits}
 use Rattle.printing.proofs.Gathering.{at_front, at_end, rest}
 use Rattle.printing.proofs.gather.Goals as goal
 
-pub returns-then-behind-lt224 : goal.returns-then-behind-lt224
-returns-then-behind-lt224 c =
-    let p = c.put-put in
-    at_front c.args.out.now c.args.len c.args.text _ _ (omega arith) p.ensures.0 p.ensures.1
+pub returns-then-saturating_sub-lt224-clause-kept : goal.returns-then-saturating_sub-lt224-clause-kept
+returns-then-saturating_sub-lt224-clause-kept c = let a = c.args in at_front a.out.now a.len a.text _ (omega arith) c.put-put.ensures.0
 
 pub overflow_add-result : goal.overflow_add-result
 overflow_add-result c =
     let a = c.args in
     omega (arith, c.put-put-2.ensures.0, room_fits a.text (mid_of a.len (length a.out.now - a.len) a.out.now), ap length (rest a.out.now a.len), length-drop a.len a.out.now)
 
-pub returns : goal.returns
-returns c =
-    let a = c.args in
-    let p = c.put-put-2 in
-    at_end a.out.now _ a.len p.result a.text (omega arith) p.ensures.0 p.ensures.1
+pub returns-clause-kept : goal.returns-clause-kept
+returns-clause-kept c = let a = c.args in at_end a.out.now a.len _ a.text (omega arith) c.put-put-2.ensures.0

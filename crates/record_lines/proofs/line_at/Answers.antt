@@ -4,9 +4,7 @@ use Prim.Native.Nat.{ℕ, ◌+◌}
 use native.Mathlib.Omega.{arith}
 use Rattle.entries.specs.Entries.{record_entry_size}
 use Rattle.lines.specs.Text.{Prints}
-use Rattle.record_lines.specs.Types.{RecordEntry}
-use Rattle.lines.specs.Lines.{line_of}
-use Rattle.record_lines.specs.Lines.{entry_line, entry_size}
+use Rattle.record_lines.specs.Lines.{read_line, entry_line, entry_size}
 use Rattle.record_lines.proofs.Laws.{size_fits}
 use Rattle.record_lines.proofs.line_at.Goals as goal
 
@@ -22,6 +20,6 @@ unfolding entry_line entry_size
 returns c =
     let f = c.record_entry_at-entry in
     let a = c.args in record {
-      prints = subst (λ (x : RecordEntry). Prints c.line_of-text.result (line_of x)) f.ensures c.line_of-text.ensures;
+      prints = subst (λ x. Prints c.read_line-text.result (read_line x)) f.ensures c.read_line-text.ensures;
       next_is = ap (λ (k : ℕ). a.at + k) (c.record_entry_size-size.ensures ∙ ap record_entry_size f.ensures);
     }

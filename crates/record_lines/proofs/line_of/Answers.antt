@@ -1,9 +1,6 @@
 -- `record_lines::line_of` meets its contract: by the entry's kind. Assumes nothing.
 use Rattle.record_lines.proofs.line_of.Goals as goal
 
-pub returns-in-MalformedRecord : goal.returns-in-MalformedRecord
-returns-in-MalformedRecord c = rw c.in-MalformedRecord.is c.no_line.ensures
-
 pub returns-in-JobDone : goal.returns-in-JobDone
 returns-in-JobDone c = rw c.in-JobDone.is c.job_line.ensures
 

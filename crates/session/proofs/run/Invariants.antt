@@ -1,9 +1,6 @@
--- The measure is the number of turns that are left.
+-- What is kept lies within the slice.
 use Rattle.std.proofs.Common.{◌≤◌, length}
 use Rattle.session.proofs.run.Given as goal
 
-abbrev pub invariant-loop-more : goal.invariant-loop-more
-invariant-loop-more l = l.kept ≤ length l.input
-
-abbrev pub decreases-loop-more : goal.decreases-loop-more
-decreases-loop-more l = l.turns
+abbrev pub invariant-loop : goal.invariant-loop
+invariant-loop l = l.kept ≤ length l.input

@@ -24,7 +24,7 @@ returns c sets =
         copyout = 255;
         half = half.result;
       };
-      is_so = λ times b e. none_goes_on (kept times sets c.args.codes.now) b e half.ensures;
+      is_so = λ times b e. none_goes_on (kept times sets c.args.codes.now) b e half.ensures.value;
       ticks_are = refl;
       units_are = refl;
     }

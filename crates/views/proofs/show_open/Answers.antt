@@ -36,7 +36,7 @@ returns c sets =
       };
       is_so = λ b ne.
           one_goes_on (kept a.times.now sets a.codes.now) b works.result ne refl refl
-          (works.ensures (get_or a.codes.now 3 0) (get_or a.times.now 1 0) (get_or a.times.now 2 0)) refl refl refl refl half.ensures;
+          (works.ensures (get_or a.codes.now 3 0) (get_or a.times.now 1 0) (get_or a.times.now 2 0)) refl refl refl refl half.ensures.value;
       ticks_are =
           three_stored (λ x y z. get_or a.times.now 0 0 ∷ x ∷ y ∷ z ∷ []) 0 1 2 3 (λ x y z n. refl) (λ x y z n. refl) (λ x y z n. refl)
           works.result copies_in copies_out (get_or a.times.now 2 0) (get_or a.times.now 5 0) (get_or a.times.now 4 0)

@@ -1,10 +1,8 @@
--- `words::get_u8` meets its contract: the byte at a place is the number of one byte there. Assumes nothing.
-use mathlib.Core.Path.{sym}
-use Rattle.words.proofs.Laws.{one_byte, past}
+-- `words::get_u8` meets its contract: the byte where it stands in the slice, else 0. Assumes nothing.
+use Rattle.std.proofs.Common.{arith}
+use Rattle.std.proofs.lemmas.Grind.{common_steps}
+use Rattle.words.proofs.Laws.{one_byte}
 use Rattle.words.proofs.get_u8.Goals as goal
 
-pub returns-then-at-s : goal.returns-then-at-s
-returns-then-at-s c = sym (one_byte c.args.s.now c.args.at)
-
-pub returns-else-at-s : goal.returns-else-at-s
-returns-else-at-s c = sym (past 1 c.args.s.now c.args.at c.if-at-s.false)
+pub returns : goal.returns
+returns c = rw (one_byte c.args.s.now c.args.at) (grind (arith, common_steps))

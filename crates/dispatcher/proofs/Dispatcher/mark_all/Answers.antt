@@ -1,21 +1,21 @@
 -- `dispatcher::Dispatcher::mark_all` meets its contract: a call that meets no row sets the marks, and one that meets one is refused with the state as it was. Assumes nothing.
-use Rattle.std.proofs.Common.{sym, refl, ◌∙◌, eq-eqb, ne_eqb}
+use Rattle.std.proofs.Common.{sym, ap, refl, ◌∙◌}
 use Rattle.rules.specs.Calls.{marks}
+use Rattle.rules.specs.Refusals.{number_in}
 use Rattle.dispatcher.specs.Dispatcher.{beside_of}
-use Rattle.dispatcher.proofs.Numbered.{marks_answered}
+use Rattle.dispatcher.proofs.Numbered.{marks_answered, some_number}
 use Rattle.dispatcher.proofs.Dispatcher.mark_all.Goals as goal
 
-pub returns-then-number-eq0 : goal.returns-then-number-eq0
+pub returns-in-Ok : goal.returns-in-Ok
 unfolding marks
-returns-then-number-eq0 c =
+returns-in-Ok c =
     let s = c.args in
-    let n = c.marks_refusal-number.ensures s.self.times s.self.codes (beside_of s.self) in
-    marks_answered _ _ _ _ (simp (← n, eq-eqb _ _ c.if-number-eq0.true, c.with_marks.ensures.0))
-    (simp (← n, eq-eqb _ _ c.if-number-eq0.true, c.with_marks.ensures.1)) (λ f. absurd (f (sym n ∙ c.if-number-eq0.true)))
+    let n = sym (ap number_in c.in-Ok.is) ∙ c.marks_refusal.ensures s.self.times s.self.codes (beside_of s.self) in
+    marks_answered _ _ _ _ (simp (← n, c.with_marks.ensures.0)) (simp (← n, c.with_marks.ensures.1)) (λ f. absurd (f (sym n)))
 
-pub returns : goal.returns
+pub returns-in-Err : goal.returns-in-Err
 unfolding marks
-returns c =
+returns-in-Err c =
     let s = c.args in
-    let n = c.marks_refusal-number.ensures s.self.times s.self.codes (beside_of s.self) in
-    marks_answered _ _ _ _ (simp (← n, ne_eqb _ _ c.if-number-eq0.false)) (simp (← n, ne_eqb _ _ c.if-number-eq0.false)) (λ f. refl)
+    let n = sym (ap number_in c.in-Err.is) ∙ c.marks_refusal.ensures s.self.times s.self.codes (beside_of s.self) in
+    marks_answered _ _ _ _ (simp (← n, some_number c.in-Err.refusal)) (simp (← n, some_number c.in-Err.refusal)) (λ f. refl)

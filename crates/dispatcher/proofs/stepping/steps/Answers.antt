@@ -14,6 +14,6 @@ returns c =
     let x = c.take_releases.ensures _ a.columns.now s.whole in
     let f = c.end_after.ensures _ x.whole in
     let g = c.begin_interval.ensures _ _ f.whole in
-    composed (kept a.times.now a.sets.now a.codes.now) b a.t a.set a.told.now c.all_words.ensures
+    composed (kept a.times.now a.sets.now a.codes.now) b a.t a.set a.told.now c.told-told
     c.too_soon-soon.ensures at o e s c.difference-passing.ensures c.released-r.ensures
     c.union.ensures c.tell_skipped.ensures c.held_over-held.ensures x f g c.tell_due.ensures

@@ -15,4 +15,4 @@ returns c times sets =
     let l = c.if-codes-lt-COPYING.false in
     word_of (get_or a.codes.now 7 0)
     (copies_in (get_or a.codes.now 6 0) (get_or a.codes.now 7 0) (get_or times 5 0) (ne_eqb (get_or a.codes.now 6 0) 0 (λ z. absurd (omega (arith, z, l)))) (ne_eqb (get_or a.codes.now 6 0) 1 (λ z. absurd (omega (arith, z, l)))))
-    c.wide.ensures.0 c.wide.ensures.1
+    c.from.ensures (rw c.from.ensures (c.fits-codes 7))

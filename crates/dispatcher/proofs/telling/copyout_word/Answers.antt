@@ -12,4 +12,4 @@ returns-then-codes-eq-NO_COPYOUT c times sets =
 pub returns : goal.returns
 returns c times sets =
     let a = c.args in
-    word_of (get_or a.codes.now 5 0) (copies_out (get_or a.codes.now 4 0) (get_or a.codes.now 5 0) (get_or times 3 0) (get_or times 4 0) (ne_eqb _ _ c.if-codes-eq-NO_COPYOUT.false)) c.wide.ensures.0 c.wide.ensures.1
+    word_of (get_or a.codes.now 5 0) (copies_out (get_or a.codes.now 4 0) (get_or a.codes.now 5 0) (get_or times 3 0) (get_or times 4 0) (ne_eqb _ _ c.if-codes-eq-NO_COPYOUT.false)) c.from.ensures (rw c.from.ensures (c.fits-codes 5))

@@ -6,9 +6,9 @@ use Rattle.dispatcher.proofs.telling.fate_word.Goals as goal
 pub returns-then-kind-lt-LOADED : goal.returns-then-kind-lt-LOADED
 returns-then-kind-lt-LOADED c times sets =
     let a = c.args in
-    (c.wide.ensures.0 ∙ no_fate_yet (get_or a.codes.now 6 0) (get_or a.codes.now 7 0) (get_or times 5 0) (omega (arith, c.if-kind-lt-LOADED.true)), c.wide.ensures.1)
+    (c.from.ensures ∙ no_fate_yet (get_or a.codes.now 6 0) (get_or a.codes.now 7 0) (get_or times 5 0) (omega (arith, c.if-kind-lt-LOADED.true)), omega (arith, c.from.ensures))
 
 pub returns : goal.returns
 returns c times sets =
     let a = c.args in
-    (fate_so_far (get_or a.codes.now 6 0) (get_or a.codes.now 7 0) (get_or times 5 0) _ (omega (arith, c.if-kind-lt-LOADED.false)) c.wide-2.ensures.0, c.wide-2.ensures.1)
+    (fate_so_far (get_or a.codes.now 6 0) (get_or a.codes.now 7 0) (get_or times 5 0) _ (omega (arith, c.if-kind-lt-LOADED.false)) c.from-2.ensures, omega (arith, c.from-2.ensures, c.fits-codes 6))

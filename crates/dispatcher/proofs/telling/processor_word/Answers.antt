@@ -12,4 +12,4 @@ returns-then-codes-eq-IDLE c times sets =
 pub returns : goal.returns
 returns c times sets =
     let a = c.args in
-    word_of (get_or a.codes.now 3 0) (executes (get_or a.codes.now 2 0) (get_or a.codes.now 3 0) (get_or times 1 0) (get_or times 2 0) (ne_eqb _ _ c.if-codes-eq-IDLE.false)) c.wide.ensures.0 c.wide.ensures.1
+    word_of (get_or a.codes.now 3 0) (executes (get_or a.codes.now 2 0) (get_or a.codes.now 3 0) (get_or times 1 0) (get_or times 2 0) (ne_eqb _ _ c.if-codes-eq-IDLE.false)) c.from.ensures (rw c.from.ensures (c.fits-codes 3))

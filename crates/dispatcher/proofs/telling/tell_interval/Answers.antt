@@ -6,5 +6,5 @@ pub returns : goal.returns
 returns c sets =
     let a = c.args in
     tells a.times.now sets a.codes.now a.t a.promoted a.told.now
-    c.wide.ensures (c.processor_word.ensures a.times.now sets) c.wide-2.ensures
+    (c.from.ensures, rw c.from.ensures (c.fits-codes 0)) (c.processor_word.ensures a.times.now sets) (c.from-2.ensures, rw c.from-2.ensures (c.fits-codes 1))
     (c.copyout_word.ensures a.times.now sets) (c.copyin_word.ensures a.times.now sets) (c.fate_word.ensures a.times.now sets) c.promoted_word.ensures

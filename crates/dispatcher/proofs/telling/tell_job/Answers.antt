@@ -5,7 +5,4 @@ use Rattle.dispatcher.proofs.telling.tell_job.Goals as goal
 
 pub returns : goal.returns
 unfolding job_told
-returns c =
-    let i = c.wide.ensures in
-    let j = c.wide-2.ensures in
-    record { told_is = rw (i.0, j.0); task_fits = omega (arith, i.0, i.1); blocked_fits = omega (arith, j.0, j.1) }
+returns c = record { told_is = rw (c.from.ensures, c.from-2.ensures); task_fits = omega (arith, c.from.ensures); blocked_fits = omega (arith, c.from-2.ensures) }

@@ -3,4 +3,4 @@ use Rattle.std.proofs.Common.{arith}
 use Rattle.dispatcher.proofs.telling.tell_skipped.Goals as goal
 
 pub returns : goal.returns
-returns c = let w = c.wider.ensures in record { told_is = rw w.0; skipped_fits = omega (arith, w.0, w.1) }
+returns c = record { told_is = rw c.from.ensures; skipped_fits = omega (arith, c.from.ensures) }

@@ -7,4 +7,4 @@ of_these : {r k m u k' m' u' : ℕ} → r ≡ min (k * m + u) (2 ^ 64 - 1) → k
 of_these e a b c = e ∙ rw (a, b, c)
 
 pub returns : goal.returns
-returns c = of_these c.held.ensures c.intervals_by.ensures c.longest_interval-longest.ensures c.copyout_length-length.ensures
+returns c = of_these c.held.ensures c.intervals_by.ensures c.longest_interval-longest.ensures (c.from.ensures ∙ c.copyout_length-length.ensures)

@@ -2,6 +2,7 @@
 use Rattle.std.proofs.Common.{◌≡◌, ◌+◌, ◌^◌, ◌≤◌, ◌<◌}
 use Rattle.guarantees.specs.Types.{refl, sym, ap, ◌∙◌, Bool, true, false, cond, List, ℕ, suc}
 use Prim.Native.Nat.{max}
+use borrow.Author.Rules.{rules}
 use native.Mathlib.Omega.{arith}
 use Rattle.sets.specs.Sets.{member}
 use Rattle.table.specs.Table.{copyin_length, execution_length, copyout_length}
@@ -59,21 +60,18 @@ loop-k-init c = none_passed _ _
 pub overflow_add-l : goal.overflow_add-l
 overflow_add-l c = record { fits = omega (arith, c.counted-l.ensures.1, c.counted-c.ensures.1) }
 
-pub overflow_add-k : goal.overflow_add-k
-overflow_add-k c = record { fits = omega (arith, c.loop-k-test.true) }
-
-pub loop-k-smaller : goal.loop-k-smaller
-loop-k-smaller c = omega (arith, c.loop-k-test.true)
-
 pub loop-k-preserved : goal.loop-k-preserved
 loop-k-preserved c =
     let w = c.loop-k in
     let a = c.args in
+    let x : c.max-copyin.result ≡ max w.copyin c.counted-l.result = search rules in
+    let y : c.max-copyout.result ≡ max w.copyout c.counted-u.result = search rules in
+    let z : c.max-work.result ≡ max w.work (c.counted-l.result + c.counted-c.result) = search rules in
     pass a.columns.now a.present w.copyin w.copyout w.work w.k w.invariant _ _ _ _ _ _ _ _ _ _
     c.contains-there.ensures
     c.copyin_length.ensures c.execution_length.ensures c.copyout_length.ensures
     c.counted-l.ensures c.counted-c.ensures c.counted-u.ensures
-    c.larger-copyin.ensures c.larger-copyout.ensures c.larger-work.ensures c.loop-k-test.true
+    x y z c.loop-k-test.true
 
 pub overflow_add-copyin : goal.overflow_add-copyin
 overflow_add-copyin c = record { fits = omega (arith, c.loop-k.invariant.short_copyin, c.loop-k.invariant.short_copyout) }
@@ -82,4 +80,5 @@ pub returns : goal.returns
 returns c =
     let w = c.loop-k in
     let a = c.args in
-    all_passed a.columns.now a.present w.copyin w.copyout w.work w.k _ w.invariant c.loop-k-test.false c.larger.ensures
+    let e : c.max.result ≡ max w.work (w.copyin + w.copyout) = search rules in
+    all_passed a.columns.now a.present w.copyin w.copyout w.work w.k _ w.invariant (omega arith) e

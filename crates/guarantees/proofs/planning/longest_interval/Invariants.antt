@@ -1,4 +1,4 @@
-use Rattle.std.proofs.Common.{◌≡◌, ◌+◌, ◌-◌, ◌^◌, ◌≤◌, ◌<◌}
+use Rattle.std.proofs.Common.{◌≡◌, ◌+◌, ◌^◌, ◌≤◌, ◌<◌}
 use Rattle.guarantees.specs.Types.{List, ℕ}
 use Rattle.table.specs.Table.{copyin_length, execution_length, copyout_length}
 use Rattle.guarantees.specs.Figure.{greatest}
@@ -14,6 +14,3 @@ pub record Passed (columns : List ℕ) (present copyin copyout work k : ℕ) : T
 
 abbrev pub invariant-loop-k : goal.invariant-loop-k
 invariant-loop-k l = Passed l.columns l.present l.copyin l.copyout l.work l.k
-
-abbrev pub decreases-loop-k : goal.decreases-loop-k
-decreases-loop-k l = 32 - l.k

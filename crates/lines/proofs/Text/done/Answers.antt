@@ -4,9 +4,9 @@ use Rattle.lines.specs.Types.{JobDone}
 use Rattle.lines.proofs.Laws.{nothing, one_entry}
 use Rattle.lines.proofs.Text.done.Goals as goal
 
-pub returns-in-NoJob : goal.returns-in-NoJob
+pub returns-in-None : goal.returns-in-None
 unfolding each
-returns-in-NoJob c = rw c.in-NoJob.is (nothing c.args.self 73)
+returns-in-None c = rw c.in-None.is (nothing c.args.self 73)
 
-pub returns-in-Job : goal.returns-in-Job
-returns-in-Job c = rw c.in-Job.is (one_entry (JobDone _) c.job.ensures)
+pub returns-in-Some : goal.returns-in-Some
+returns-in-Some c = rw c.in-Some.is (one_entry (JobDone _) c.job.ensures)

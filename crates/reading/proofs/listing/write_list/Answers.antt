@@ -13,7 +13,7 @@ returns-then-out-list c = too_short _ _ _ refl c.if-out-list.true
 pub returns : goal.returns
 returns c =
     let a = c.args in
-    let copy = c.copy-size.ensures in
+    let copy = c.copy.ensures in
     let n = length a.list.now in
     fits a.list.now a.out.now _ _ copy.count c.if-out-list.false
     (copy.after ∙ ap (λ (k : ℕ). a.list.now ++ drop k a.out.now) (sym (zero-add n)))

@@ -20,18 +20,6 @@ returns-then-a-b c = record { same = λ e. absurd (false≢true e); shows = λ e
 pub loop-i-init : goal.loop-i-init
 loop-i-init c = (alike_none c.args.a.now c.args.b.now, omega arith, omega arith)
 
-pub bounds-a-i : goal.bounds-a-i
-bounds-a-i c = omega arith
-
-pub bounds-b-i : goal.bounds-b-i
-bounds-b-i c = omega arith
-
-pub overflow_add-i : goal.overflow_add-i
-overflow_add-i c = omega arith
-
-pub loop-i-smaller : goal.loop-i-smaller
-loop-i-smaller c = omega arith
-
 pub loop-i-preserved : goal.loop-i-preserved
 loop-i-preserved c =
     let v = c.loop-i in
@@ -40,4 +28,4 @@ loop-i-preserved c =
 pub returns : goal.returns
 returns c =
     let v = c.loop-i in
-    all_alike c.args.a.now c.args.b.now v.i v.invariant.2 c.loop-i-test.false v.invariant.0
+    all_alike c.args.a.now c.args.b.now v.i v.invariant.2 (omega arith) v.invariant.0

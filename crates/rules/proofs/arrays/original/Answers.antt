@@ -2,7 +2,7 @@
 use Rattle.rules.proofs.arrays.original.Goals as goal
 
 pub returns-then-contains : goal.returns-then-contains
-returns-then-contains c = simp (← c.contains.ensures, c.if-contains.true, c.time_of.ensures)
+returns-then-contains c = simp (← c.contains.ensures, c.if-contains.true, c.value_of.ensures)
 
 pub returns : goal.returns
 returns c = simp (← c.contains.ensures, c.if-contains.false)

@@ -3,39 +3,41 @@ use mathlib.Core.Path.{refl, ◌∙◌}
 use native.Mathlib.Omega.{arith}
 use Rattle.rules.specs.Instant.{original}
 use Rattle.rules.specs.Registers.{waits as waiting-releases}
-use Rattle.rules.proofs.Members.{is_task_left, falls}
+use Rattle.rules.proofs.Members.{onward, ended}
 use Rattle.rules.proofs.ByTask.{store_start, store, store_end, is_stamped}
 use Rattle.rules.proofs.arrays.take.Goals as goal
 
-pub loop-left-init : goal.loop-left-init
-loop-left-init c = (store_start c.ranges.set.fits, store_start c.ranges.set.fits)
-
-pub overflow_cast-i : goal.overflow_cast-i
-overflow_cast-i c = omega (arith, is_task_left c.loop-left.invariant.0.members c.loop-left-test.true c.lowest-n.ensures)
+pub loop-n-init : goal.loop-n-init
+loop-n-init c =
+    rw (c.into_iter-n-iterator.ensures.into_iter_gives, c.members-n-items.ensures) (store_start c.ranges.set.fits, store_start c.ranges.set.fits)
 
 pub offset_bounds-times-i : goal.offset_bounds-times-i
-offset_bounds-times-i c = omega (arith, is_task_left c.loop-left.invariant.0.members c.loop-left-test.true c.lowest-n.ensures)
+offset_bounds-times-i c =
+    let t = onward c.loop-n.n-iterator.left c.in-Some.n c.next.new.self.left c.loop-n.invariant.0.members c.in-Some.ensures.steps in
+    omega (arith, t.task, c.from-i.ensures)
 
 pub bounds-times-i : goal.bounds-times-i
-bounds-times-i c = omega (arith, is_task_left c.loop-left.invariant.0.members c.loop-left-test.true c.lowest-n.ensures)
+bounds-times-i c =
+    let t = onward c.loop-n.n-iterator.left c.in-Some.n c.next.new.self.left c.loop-n.invariant.0.members c.in-Some.ensures.steps in
+    omega (arith, t.task, c.from-i.ensures)
 
 pub bounds-counts-i : goal.bounds-counts-i
-bounds-counts-i c = omega (arith, is_task_left c.loop-left.invariant.0.members c.loop-left-test.true c.lowest-n.ensures)
+bounds-counts-i c =
+    let t = onward c.loop-n.n-iterator.left c.in-Some.n c.next.new.self.left c.loop-n.invariant.0.members c.in-Some.ensures.steps in
+    omega (arith, t.task, c.from-i.ensures)
 
-pub loop-left-smaller : goal.loop-left-smaller
-loop-left-smaller c = falls c.loop-left.invariant.0.members c.loop-left-test.true c.lowest-n.ensures c.rest-left.ensures
-
-pub loop-left-preserved : goal.loop-left-preserved
-loop-left-preserved c =
-    let w = c.loop-left.invariant in
-    let some = c.loop-left-test.true in (
-      store w.0 some c.lowest-n.ensures c.rest-left.ensures c.original.ensures,
-      store w.1 some c.lowest-n.ensures c.rest-left.ensures refl,
-    )
+pub loop-n-preserved : goal.loop-n-preserved
+loop-n-preserved c =
+    let w = c.loop-n.invariant in
+    let t = onward c.loop-n.n-iterator.left c.in-Some.n c.next.new.self.left w.0.members c.in-Some.ensures.steps in
+    rw c.from-i.ensures (store t w.0 c.original.ensures, store t w.1 refl)
 
 pub returns : goal.returns
 returns c =
-    let s = c.args in record {
-      times_after = store_end c.loop-left.invariant.0 c.loop-left-test.false ∙ is_stamped s.set (original (waiting-releases s.waiting s.waits.now 0) s.t) 0 s.times.now;
-      counts_after = store_end c.loop-left.invariant.1 c.loop-left-test.false ∙ is_stamped s.set (λ k. 0) 0 s.counts.now;
+    let s = c.args in
+    let w = c.loop-n.invariant in
+    let z = ended c.loop-n.n-iterator.left w.0.members c.in-None.ensures.steps.0.0 in
+    record {
+      times_after = store_end w.0 z ∙ is_stamped s.set (original (waiting-releases s.waiting s.waits.now 0) s.t) 0 s.times.now;
+      counts_after = store_end w.1 z ∙ is_stamped s.set (λ k. 0) 0 s.counts.now;
     }

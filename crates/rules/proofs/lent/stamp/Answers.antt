@@ -6,4 +6,4 @@ use Rattle.rules.proofs.lent.stamp.Goals as goal
 pub returns : goal.returns
 returns c b =
     let a = c.args in
-    timed_at b a.t (kept a.times.now a.sets.now a.codes.now) c.whole.ensures
+    timed_at b a.t (kept a.times.now a.sets.now a.codes.now) record { times_whole = c.told-times; sets_whole = c.told-sets; codes_whole = c.told-codes }

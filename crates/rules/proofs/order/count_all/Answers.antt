@@ -52,28 +52,8 @@ module _ {s : ℕ} {marks counts : List ℕ} where
 pub loop-k-init : goal.loop-k-init
 loop-k-init c = start
 
-pub overflow_cast-i : goal.overflow_cast-i
-overflow_cast-i c = omega (arith, c.loop-k-test.true)
-
-pub bounds-counts-i : goal.bounds-counts-i
-bounds-counts-i c = omega (arith, c.loop-k-test.true)
-
-pub bounds-marks-i : goal.bounds-marks-i
-bounds-marks-i c = omega (arith, c.loop-k-test.true)
-
-pub bounds-next-i : goal.bounds-next-i
-bounds-next-i c = omega (arith, c.loop-k-test.true)
-
-pub overflow_add-k : goal.overflow_add-k
-overflow_add-k c = record { fits = omega (arith, c.loop-k-test.true) }
-
-pub loop-k-smaller : goal.loop-k-smaller
-loop-k-smaller c = omega (arith, c.loop-k-test.true)
-
 pub loop-k-preserved : goal.loop-k-preserved
-loop-k-preserved c =
-    let w = c.loop-k in
-    make w.invariant c.loop-k-test.true (c.risen.ensures ∙ rw c.contains.ensures)
+loop-k-preserved c = rw c.from-i.ensures (make c.loop-k.invariant (omega arith) (c.risen.ensures ∙ rw (c.contains.ensures, c.from-i.ensures)))
 
 pub returns : goal.returns
-returns c = all_made c.loop-k.invariant c.loop-k-test.false c.all_counts.ensures
+returns c = all_made c.loop-k.invariant (omega arith) c.told-counts

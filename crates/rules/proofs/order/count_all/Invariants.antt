@@ -1,4 +1,4 @@
-use Rattle.std.proofs.Common.{◌&&◌, ◌+◌, ◌-◌, ◌≤◌, ◌<◌, ◌≡◌}
+use Rattle.std.proofs.Common.{◌&&◌, ◌+◌, ◌≤◌, ◌<◌, ◌≡◌}
 use Rattle.rules.specs.Types.{Bool, cond, List, ℕ, min}
 use lib.Dec.{eqb}
 use lib.ListN.{length, get_or}
@@ -15,6 +15,3 @@ pub record Made (s : ℕ) (marks counts next : List ℕ) (k : ℕ) : Type 0 wher
 
 abbrev pub invariant-loop-k : goal.invariant-loop-k
 invariant-loop-k l = Made l.set l.marks l.counts l.next l.k
-
-abbrev pub decreases-loop-k : goal.decreases-loop-k
-decreases-loop-k l = 32 - l.k

@@ -1,6 +1,6 @@
 -- `rules::order::first` meets its contract: the best so far is the highest of the tasks below the lowest that is left. Assumes nothing.
 use Rattle.std.proofs.Common.{◌≤◌, ◌<◌, ◌≡◌}
-use Rattle.rules.specs.Types.{Bool, true, false, cond, List, ℕ, zero, suc, MaybeTask, NoTask, Task, refl, sym, ap, ◌∙◌, ⊎_elim}
+use Rattle.rules.specs.Types.{Bool, true, false, cond, List, ℕ, zero, suc, Option, None, Some, refl, sym, ap, ◌∙◌, ⊎_elim}
 use native.Mathlib.Omega.{arith}
 use native.Mathlib.Nat.{eq-or-lt_of_le, le_of_suc-le-suc}
 use borrow.Author.Tests.{lt-ltb}
@@ -10,20 +10,19 @@ use Rattle.sets.specs.Sets.{member, lowest}
 use Rattle.sets.proofs.Laws.{lowest_first, lowest_none}
 use Rattle.rules.specs.Order.{better, highest_below, highest}
 use Rattle.rules.specs.Registers.{as_task}
-use Rattle.rules.proofs.Members.{Turn, start, turn, is_task_left, falls}
+use Rattle.rules.proofs.Members.{Turn, start, turn, onward, ended}
 use Rattle.rules.proofs.order.first.Goals as goal
-use Rattle.rules.proofs.order.first.Goals.{then-goes_before, else-goes_before}
 
 -- task n beside the best so far, by what the test of their priorities and times says
 module _ (ps : List ℕ) (since : ℕ → ℕ) (n : ℕ) where
-  alone : better ps since NoTask n ≡ Task n
+  alone : better ps since None n ≡ Some n
   unfolding better
   alone = refl
 
   beside : (m : ℕ) {least p : ℕ} (b : Bool) → least ≡ get_or ps m 0 → p ≡ get_or ps n 0 → cond (eqb p least) (ltb (since n) (since m)) (ltb p least) ≡ b
-      → better ps since (Task m) n ≡ cond b (Task n) (Task m)
+      → better ps since (Some m) n ≡ cond b (Some n) (Some m)
   unfolding better
-  beside m b e f x = ap (λ (z : Bool). cond z (Task n) (Task m)) (rw (f, e) at x)
+  beside m b e f x = ap (λ (z : Bool). cond z (Some n) (Some m)) (rw (f, e) at x)
 
 module _ (ps : List ℕ) (since : ℕ → ℕ) (s : ℕ) where
   with_one : (k : ℕ) → member k s ≡ true → highest_below (suc k) ps since s ≡ better ps since (highest_below k ps since s) k
@@ -39,7 +38,7 @@ module _ (ps : List ℕ) (since : ℕ → ℕ) (s : ℕ) where
       (λ m. rw (h j (le_of_suc-le-suc m) (omega arith)) (skips i j (le_of_suc-le-suc m) (λ k a b. h k a (omega arith))))
       (eq-or-lt_of_le l)
 
-  at_start : highest_below (lowest s) ps since s ≡ NoTask
+  at_start : highest_below (lowest s) ps since s ≡ None
   unfolding highest_below
   at_start = skips 0 (lowest s) (omega arith) (λ k l m. lowest_first s k m)
 
@@ -59,50 +58,58 @@ returns-then-set-eq0 c =
     let since : ℕ → ℕ = λ k. get_or s.release.now k 0 in
     sym (at_start s.priority.now since s.set) ∙ at_end s.priority.now since s.set c.if-set-eq0.true
 
-pub bounds-priority-best : goal.bounds-priority-best
-bounds-priority-best c = omega (arith, is_task_left (start c.ranges.set.fits) c.if-set-eq0.false c.lowest-best.ensures)
+pub bounds-priority-from : goal.bounds-priority-from
+bounds-priority-from c =
+    omega (arith, (turn (start c.ranges.set.fits) c.if-set-eq0.false c.lowest-best.ensures refl).task, c.from.ensures)
 
-pub loop-left-init : goal.loop-left-init
-loop-left-init c =
+pub loop-n-init : goal.loop-n-init
+loop-n-init c =
     let s = c.args in
     let since : ℕ → ℕ = λ k. get_or s.release.now k 0 in
-    let t = turn (start c.ranges.set.fits) c.if-set-eq0.false c.lowest-best.ensures c.rest-left.ensures in (
+    let t = turn (start c.ranges.set.fits) c.if-set-eq0.false c.lowest-best.ensures c.rest.ensures in
+    rw (c.into_iter-n-iterator.ensures.into_iter_gives, c.members-n-items.ensures) (
       t.next,
       t.task,
-      c.wide-least.ensures.0,
+      rw c.from.ensures at c.from-least.ensures,
       at_turn s.priority.now since s.set t
-          ∙ ap (λ (r : MaybeTask). better s.priority.now since r c.lowest-best.result) (at_start s.priority.now since s.set) ∙ alone s.priority.now since c.lowest-best.result,
+          ∙ ap (λ (r : Option ℕ). better s.priority.now since r c.lowest-best.result) (at_start s.priority.now since s.set) ∙ alone s.priority.now since c.lowest-best.result,
     )
 
-pub bounds-priority-n : goal.bounds-priority-n
-bounds-priority-n c = omega (arith, is_task_left c.loop-left.invariant.0 c.loop-left-test.true c.lowest-n.ensures)
+pub bounds-priority-from-in-loop-n : goal.bounds-priority-from-in-loop-n
+bounds-priority-from-in-loop-n c =
+    let t = onward c.loop-n.n-iterator.left c.in-Some.n c.next.new.self.left c.loop-n.invariant.0 c.in-Some.ensures.steps in
+    omega (arith, t.task, c.from-in-loop-n.ensures)
 
-pub loop-left-smaller : goal.loop-left-smaller
-loop-left-smaller c = falls c.loop-left.invariant.0 c.loop-left-test.true c.lowest-n.ensures c.rest-left-in-loop-left.ensures
-
-pub loop-left-preserved : goal.loop-left-preserved
-loop-left-preserved c =
-    let w = c.loop-left in
+pub loop-n-preserved-then-goes_before : goal.loop-n-preserved-then-goes_before
+loop-n-preserved-then-goes_before c =
+    let w = c.loop-n in
     let s = c.args in
     let ps = s.priority.now in
     let since : ℕ → ℕ = λ k. get_or s.release.now k 0 in
-    let n = c.lowest-n.result in
-    let t = turn w.invariant.0 c.loop-left-test.true c.lowest-n.ensures c.rest-left-in-loop-left.ensures in
-    let p = c.wide-p.ensures in
-    let g = c.goes_before.ensures in
-    let on = at_turn ps since s.set t ∙ ap (λ (r : MaybeTask). better ps since r n) w.invariant.3 in
-    elim c.if-goes_before.branch [
-      | then-goes_before a ↦
-          rw (a.best-is, a.least-is) (t.next, t.task, p.0, on ∙ beside ps since n w.best true w.invariant.2 p.0 (sym g ∙ a.if-goes_before.true))
-      | else-goes_before a ↦
-          rw (a.best-is, a.least-is) (t.next, w.invariant.1, w.invariant.2, on ∙ beside ps since n w.best false w.invariant.2 p.0 (sym g ∙ a.if-goes_before.false))
-    ]
+    let n = c.in-Some.n in
+    let t = onward w.n-iterator.left n c.next.new.self.left w.invariant.0 c.in-Some.ensures.steps in
+    let p = rw c.from-in-loop-n.ensures at c.from-p.ensures in
+    let on = at_turn ps since s.set t ∙ ap (λ (r : Option ℕ). better ps since r n) w.invariant.3 in
+    (t.next, t.task, p, on ∙ beside ps since n w.best true w.invariant.2 p (sym c.goes_before.ensures ∙ c.if-goes_before.true))
+
+pub loop-n-preserved : goal.loop-n-preserved
+loop-n-preserved c =
+    let w = c.loop-n in
+    let s = c.args in
+    let ps = s.priority.now in
+    let since : ℕ → ℕ = λ k. get_or s.release.now k 0 in
+    let n = c.in-Some.n in
+    let t = onward w.n-iterator.left n c.next.new.self.left w.invariant.0 c.in-Some.ensures.steps in
+    let p = rw c.from-in-loop-n.ensures at c.from-p.ensures in
+    let on = at_turn ps since s.set t ∙ ap (λ (r : Option ℕ). better ps since r n) w.invariant.3 in
+    (t.next, w.invariant.1, w.invariant.2, on ∙ beside ps since n w.best false w.invariant.2 p (sym c.goes_before.ensures ∙ c.if-goes_before.false))
 
 pub returns : goal.returns
 returns c =
-    let v = c.loop-left in
+    let v = c.loop-n in
     let s = c.args in
-    is_best v.best v.invariant.1 ∙ sym v.invariant.3 ∙ at_end s.priority.now (λ k. get_or s.release.now k 0) s.set c.loop-left-test.false
+    let z = ended v.n-iterator.left v.invariant.0 c.in-None.ensures.steps.0.0 in
+    is_best v.best v.invariant.1 ∙ sym v.invariant.3 ∙ at_end s.priority.now (λ k. get_or s.release.now k 0) s.set z
   where
-    is_best : (n : ℕ) → n < 32 → as_task n ≡ Task n
+    is_best : (n : ℕ) → n < 32 → as_task n ≡ Some n
     is_best n l = rw (lt-ltb n 32 l)

@@ -1,16 +1,11 @@
-use Rattle.std.proofs.Common.{◌&&◌, ◌-◌, ◌≤◌, ◌<◌, ◌≡◌}
-use Rattle.rules.specs.Types.{cond, List, ℕ}
+use Rattle.std.proofs.Common.{◌<◌, ◌≡◌}
+use Rattle.rules.specs.Types.{cond, ℕ}
 use lib.Dec.{ltb}
 use lib.ListN.{length, get_or}
 use Rattle.rules.proofs.order.higher.Given as goal
 
-pub record Found (priority : List ℕ) (limit : ℕ) (found : List ℕ) (k : ℕ) : Type 0 where
-  pub long : length found ≡ 32
-  pub passed : k ≤ 32
-  pub marks : (j : ℕ) → j < 32 → get_or found j 0 ≡ cond (ltb j k && ltb (get_or priority j 0) limit) 1 0
-
 abbrev pub invariant-loop-k : goal.invariant-loop-k
-invariant-loop-k l = Found l.priority l.limit l.found l.k
-
-abbrev pub decreases-loop-k : goal.decreases-loop-k
-decreases-loop-k l = 32 - l.k
+invariant-loop-k l = record {
+  long : length l.found ≡ 32;
+  marks : (j : ℕ) → j < l.k → get_or l.found j 0 ≡ cond (ltb (get_or l.priority j 0) l.limit) 1 0;
+}

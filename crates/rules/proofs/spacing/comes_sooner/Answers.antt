@@ -12,4 +12,4 @@ pub returns-then-t-last : goal.returns-then-t-last
 returns-then-t-last c = let a = c.args in ap (λ x. ltb x a.spacing) (sym (nothing_gone a.t a.last c.if-t-last.true))
 
 pub returns : goal.returns
-returns c = refl
+returns c = rw c.from.ensures refl

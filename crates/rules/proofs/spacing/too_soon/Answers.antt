@@ -10,10 +10,9 @@ use Rattle.sets.proofs.Laws.{none, ext, collected, collect_small, inserted, inse
 use Rattle.rules.specs.Instant.{previous_release, too_soon}
 use Rattle.rules.specs.Registers.{state_in}
 use Rattle.rules.specs.Kept.{kept, by_task, beside, read}
-use Rattle.rules.proofs.Members.{passed, Turn, start, turn, falls, at_start, at_end, gathers_one, gathers_none}
+use Rattle.rules.proofs.Members.{passed, Turn, start, onward, ended, at_start, at_end, gathers_one, gathers_none}
 use Rattle.rules.proofs.spacing.too_soon.Invariants.{Gathered, soon_by}
 use Rattle.rules.proofs.spacing.too_soon.Goals as goal
-use Rattle.rules.proofs.spacing.too_soon.Goals.{then-is_too_soon, else-is_too_soon}
 
 -- of the tasks that the loop has passed, those that meet a test are gathered
 module _ (test : ℕ → Bool) where
@@ -63,24 +62,28 @@ all_gathered t set times sets codes priority columns release blocked waits all l
     in_turn true b c = refl
     in_turn false b c = refl
 
-pub loop-left-init : goal.loop-left-init
-loop-left-init c = begun _ (rw c.intersection-left.ensures (intersection_small _ _))
+pub loop-n-init : goal.loop-n-init
+loop-n-init c =
+    rw (c.into_iter-n-iterator.ensures.into_iter_gives, c.members-n-items.ensures) (begun _ (rw c.intersection-spaced.ensures (intersection_small _ _)))
 
-pub loop-left-smaller : goal.loop-left-smaller
-loop-left-smaller c = falls c.loop-left.invariant.tasks c.loop-left-test.true c.lowest-n.ensures c.rest-left.ensures
-
-pub loop-left-preserved : goal.loop-left-preserved
+pub loop-n-preserved-then-is_too_soon : goal.loop-n-preserved-then-is_too_soon
 unfolding previous_release state_in
-loop-left-preserved c =
-    let w = c.loop-left in
-    let u = turn w.invariant.tasks c.loop-left-test.true c.lowest-n.ensures c.rest-left.ensures in
+loop-n-preserved-then-is_too_soon c =
+    let w = c.loop-n in
+    let u = onward w.n-iterator.left c.in-Some.n c.next.new.self.left w.invariant.tasks c.in-Some.ensures.steps in
     let is = c.is_too_soon.ensures [] [] [] [] in
-    elim c.if-is_too_soon.branch [
-      | then-is_too_soon a ↦ rw a.soon-is (gathers _ u w.invariant (sym is ∙ a.if-is_too_soon.true) a.insert-soon.ensures)
-      | else-is_too_soon a ↦ rw a.soon-is (passes _ u w.invariant (sym is ∙ a.if-is_too_soon.false))
-    ]
+    gathers _ u w.invariant (sym is ∙ c.if-is_too_soon.true) c.insert-soon.ensures
+
+pub loop-n-preserved : goal.loop-n-preserved
+unfolding previous_release state_in
+loop-n-preserved c =
+    let w = c.loop-n in
+    let u = onward w.n-iterator.left c.in-Some.n c.next.new.self.left w.invariant.tasks c.in-Some.ensures.steps in
+    let is = c.is_too_soon.ensures [] [] [] [] in
+    passes _ u w.invariant (sym is ∙ c.if-is_too_soon.false)
 
 pub returns : goal.returns
 returns c times codes priority blocked =
     let a = c.args in
-    all_gathered a.t a.set times a.sets.now codes priority a.columns.now a.release.now blocked a.waits.now _ _ _ c.intersection-left.ensures c.loop-left.invariant c.loop-left-test.false
+    let z = ended c.loop-n.n-iterator.left c.loop-n.invariant.tasks c.in-None.ensures.steps.0.0 in
+    all_gathered a.t a.set times a.sets.now codes priority a.columns.now a.release.now blocked a.waits.now _ _ _ c.intersection-spaced.ensures c.loop-n.invariant z

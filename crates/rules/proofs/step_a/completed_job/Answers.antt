@@ -6,4 +6,4 @@ use Rattle.rules.proofs.step_a.completed_job.Goals as goal
 pub returns : goal.returns
 returns c sets priority columns waits h =
     let a = c.args in
-    job_done (kept a.times.now sets a.codes.now) (beside priority columns (by_task a.release.now a.blocked.now waits)) a.t h c.time_of.ensures c.byte_of.ensures
+    job_done (kept a.times.now sets a.codes.now) (beside priority columns (by_task a.release.now a.blocked.now waits)) a.t h c.value_of.ensures c.value_of-2.ensures

@@ -1,27 +1,29 @@
 -- `rules::step_b::is_over` meets its contract: by whether an interval is open, and unit by unit. Assumes nothing.
 use Rattle.rules.specs.Types.{sym, ◌∙◌}
-use borrow.Author.Tests.{not-true, not-false}
 use Rattle.rules.specs.Kept.{kept, registers_in}
 use Rattle.rules.proofs.Fields.{none_ends, works}
 use Rattle.rules.proofs.Kept.{unsettled, ends_free}
-use Rattle.std.proofs.Common.{ap, not}
 use Rattle.rules.proofs.step_b.is_over.Goals as goal
+use Rattle.rules.proofs.step_b.is_over.Goals.{then-settled, else-settled}
 
 pub returns-then-copyin-eq-NO_INTERVAL : goal.returns-then-copyin-eq-NO_INTERVAL
 returns-then-copyin-eq-NO_INTERVAL c times sets = none_ends (registers_in (kept times sets c.args.codes.now)) c.if-copyin-eq-NO_INTERVAL.true
 
-pub returns-then-not-settled : goal.returns-then-not-settled
-returns-then-not-settled c times sets =
-    unsettled (registers_in (kept times sets c.args.codes.now)) c.if-copyin-eq-NO_INTERVAL.false
-    (sym (c.settled.ensures _ _) ∙ not-true c.settled.result (ap not c.if-not-settled.true))
+pub returns-then-resting : goal.returns-then-resting
+returns-then-resting c times sets =
+    let r = registers_in (kept times sets c.args.codes.now) in
+    elim c.if-settled.branch [
+      | then-settled w ↦
+          ends_free r c.if-copyin-eq-NO_INTERVAL.false (sym (c.settled.ensures _ _) ∙ w.if-settled.true)
+          (sym (w.resting.ensures _ _ _) ∙ sym w.value-is ∙ c.if-resting.true)
+      | else-settled w ↦ cc
+    ]
 
-pub returns-then-not-resting : goal.returns-then-not-resting
-returns-then-not-resting c times sets =
-    works (registers_in (kept times sets c.args.codes.now)) c.if-copyin-eq-NO_INTERVAL.false
-    (sym (c.resting.ensures _ _ _) ∙ not-true c.resting.result (ap not c.if-not-resting.true))
-
-pub returns : goal.returns
-returns c times sets =
-    ends_free (registers_in (kept times sets c.args.codes.now)) c.if-copyin-eq-NO_INTERVAL.false
-    (sym (c.settled.ensures _ _) ∙ not-false c.settled.result (ap not c.if-not-settled.false))
-    (sym (c.resting.ensures _ _ _) ∙ not-false c.resting.result (ap not c.if-not-resting.false))
+pub returns-else-resting : goal.returns-else-resting
+returns-else-resting c times sets =
+    let r = registers_in (kept times sets c.args.codes.now) in
+    rw c.if-resting.false
+    (elim c.if-settled.branch [
+      | then-settled w ↦ works r c.if-copyin-eq-NO_INTERVAL.false (sym (w.resting.ensures _ _ _) ∙ sym w.value-is ∙ c.if-resting.false)
+      | else-settled w ↦ unsettled r c.if-copyin-eq-NO_INTERVAL.false (sym (c.settled.ensures _ _) ∙ w.if-settled.false)
+    ])

@@ -12,11 +12,11 @@ returns-then-union-eq0 c times columns w =
     let a = c.args in
     let z = union_empty a.r.taken a.r.deferred (search rules) (search rules) (sym c.union.ensures ∙ c.if-union-eq0.true) in
     let k = kept times a.sets.now a.codes.now in
-    let s = c.sets_fit.ensures in
+    let fits = c.fits-sets in
     record {
       whole = w;
       state = none_released (memory_in k (beside a.priority.now columns (by_task a.release.now a.blocked.now a.waits.now))) (registers_in k) a.t a.r.taken a.r.deferred
-          s.pending_fits s.ready_fits s.candidates_fit s.waiting_fits s.before_fits z.0 z.1;
+          (fits 1) (fits 2) (fits 3) (fits 5) (fits 7) z.0 z.1;
     }
 
 pub returns : goal.returns

@@ -1,17 +1,14 @@
 -- `run::check_behind` meets its contract: by what checking the releases found. Assumes nothing.
 use mathlib.Core.Path.{sym, ap, ◌∙◌}
+use Rattle.std.specs.Result.{result_err}
+use Rattle.std.proofs.lemmas.Result.{err_from_is_err_and}
 use Rattle.run.specs.Files.{head_unless}
 use Rattle.run.proofs.check.check_behind.Goals as goal
 
-pub returns-in-NoRefusal : goal.returns-in-NoRefusal
-returns-in-NoRefusal c = let a = c.args in sym (ap (head_unless a.head) (sym c.check_releases-refusal.ensures ∙ c.in-NoRefusal.is))
+pub returns-in_err-check_releases : goal.returns-in_err-check_releases
+returns-in_err-check_releases c =
+    let p = err_from_is_err_and c.from_residual.result c.from_residual.ensures.1 in
+    rw (p.1, p.2) (ap (head_unless c.args.head) (sym (ap result_err c.in_err-check_releases.was) ∙ c.check_releases.ensures))
 
-pub returns-in-Alone : goal.returns-in-Alone
-returns-in-Alone c =
-    let a = c.args in
-    c.refused.ensures ∙ rw c.in-Alone.is (sym (ap (head_unless a.head) (sym c.check_releases-refusal.ensures ∙ c.in-Alone.is)))
-
-pub returns-in-AtEntry : goal.returns-in-AtEntry
-returns-in-AtEntry c =
-    let a = c.args in
-    c.refused-in-AtEntry.ensures ∙ rw c.in-AtEntry.is (sym (ap (head_unless a.head) (sym c.check_releases-refusal.ensures ∙ c.in-AtEntry.is)))
+pub returns : goal.returns
+returns c = ap (head_unless c.args.head) (sym (ap result_err c.in_ok-check_releases.was) ∙ c.check_releases.ensures)

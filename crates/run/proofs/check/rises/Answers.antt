@@ -1,20 +1,28 @@
--- `run::rises` meets its contract: by its tests. Assumes nothing.
-use borrow.Author.Tests.{lt-ltb, le-ltb, eq-eqb, ne_eqb}
+-- `run::rises` meets its contract: by the order of pairs. Assumes nothing.
+use Rattle.std.proofs.Common.{◌≡◌, Bool, true, false, refl, ◌∙◌, Some}
+use Rattle.std.proofs.Common.{Less, Equal, Greater}
+use Rattle.std.specs.Prelude.{cond, ◌||◌, ◌&&◌}
+use Rattle.std.specs.Ordering.{is_lt, is_some_and, partial_ordering_then}
+use lib.Dec.{eqb, ltb}
 use Rattle.run.specs.Files.{rises}
 use Rattle.run.proofs.check.rises.Goals as goal
 
-pub returns-then-l-r : goal.returns-then-l-r
-unfolding rises
-returns-then-l-r c = simp (c.in-Before.is, lt-ltb _ _ c.if-l-r.true)
+-- one pair is before another where its first part is smaller, or is as large and its second is smaller
+pairs : (a b c d : Bool)
+    → is_some_and is_lt (partial_ordering_then (Some (cond a Less (cond b Equal Greater))) (Some (cond c Less (cond d Equal Greater)))) ≡ (a || (b && c))
+pairs true b c d = refl
+pairs false true true d = refl
+pairs false true false true = refl
+pairs false true false false = refl
+pairs false false c d = refl
 
-pub returns-then-l-r-2 : goal.returns-then-l-r-2
+pub returns-in-None : goal.returns-in-None
 unfolding rises
-returns-then-l-r-2 c = simp (c.in-Before.is, le-ltb _ _ c.if-l-r.false, eq-eqb _ _ c.if-l-r-2.true)
+returns-in-None c = simp c.in-None.is
 
-pub returns-in-NoneBefore : goal.returns-in-NoneBefore
+pub returns-in-Some : goal.returns-in-Some
 unfolding rises
-returns-in-NoneBefore c = simp c.in-NoneBefore.is
-
-pub returns-else-l-r-2 : goal.returns-else-l-r-2
-unfolding rises
-returns-else-l-r-2 c = simp (c.in-Before.is, le-ltb _ _ c.if-l-r.false, ne_eqb _ _ c.if-l-r-2.false)
+returns-in-Some c =
+    let l = c.in-Some.l in
+    let r = c.args.r in
+    rw c.in-Some.is (c.lt.ensures ∙ pairs (ltb l.time r.time) (eqb l.time r.time) (ltb l.task r.task) (eqb l.task r.task))

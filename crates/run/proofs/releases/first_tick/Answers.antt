@@ -3,7 +3,7 @@ use mathlib.Core.Path.{sym, ap, ◌∙◌, subst}
 use native.Mathlib.Omega.{arith}
 use Rattle.rules.specs.Steps.{Stands}
 use Rattle.rules.proofs.Ticks.{stands, never_stands}
-use Rattle.run.specs.Types.{Tick}
+use Rattle.run.specs.Types.{Some}
 use Rattle.run.specs.Run.{first_time}
 use Rattle.run.proofs.Listing.{here, none}
 use Rattle.run.proofs.releases.first_tick.Goals as goal
@@ -15,5 +15,5 @@ pub returns : goal.returns
 returns c =
     let s = c.args.rest.now in
     subst (Stands c.release_time.result)
-    (ap Tick c.release_time.ensures ∙ ap first_time (sym (here s 0 (omega (arith, c.if-rest-lt-RELEASE_SIZE.false)))))
+    (ap Some c.release_time.ensures ∙ ap first_time (sym (here s 0 (omega (arith, c.if-rest-lt-RELEASE_SIZE.false)))))
     (stands c.release_time.result (omega arith))

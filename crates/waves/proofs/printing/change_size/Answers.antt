@@ -13,9 +13,9 @@ use Rattle.waves.proofs.printing.change_size.Goals as goal
 few : {n a b d h : ℕ} (t : ℕ) → t < 10 ^ 20 → n ≡ length (decimal t) → a ≤ 12 → b ≤ 12 → d ≤ 12 → h ≤ 3 → n + (a + (b + (d + h))) ≤ 59
 few t l e p q r s = omega (arith, short 19 t l, e)
 
-pub returns-then-same : goal.returns-then-same
+pub returns-then-eq : goal.returns-then-eq
 unfolding change
-returns-then-same c = rw (sym c.same.ensures ∙ c.if-same.true)
+returns-then-eq c = rw (sym c.eq.ensures ∙ c.if-eq.true)
 
 pub overflow_add-result : goal.overflow_add-result
 overflow_add-result c = omega (arith, c.number_size.ensures, short 19 c.args.t (omega arith))
@@ -65,5 +65,5 @@ returns c =
       b.0,
       d.0,
       h.0,
-      change_size c.args.v c.args.t c.args.w (sym c.same.ensures ∙ c.if-same.false),
+      change_size c.args.v c.args.t c.args.w (sym c.eq.ensures ∙ c.if-eq.false),
     )

@@ -2,4 +2,4 @@
 use Rattle.waves.proofs.writing.shown_by.Goals as goal
 
 pub returns : goal.returns
-returns c = (rw c.wire_of.ensures.0, c.wire_of.ensures.1)
+returns c = (rw c.half_shown.ensures.value, c.half_shown.ensures.a_bit)

@@ -1,0 +1,86 @@
+-- A run that is handed on in pieces: a piece, and what comes behind it. Assumes nothing.
+use Rattle.std.proofs.Common.{◌≡◌, refl, sym, ◌∙◌, subst, true, List, [], ◌∷◌, ◌++◌, ℕ, ◌+◌, ◌-◌, ◌^◌, ◌≤◌, inl, inr, arith, length, take, drop, length-append}
+use mathlib.Core.Path.{ap₂}
+use mathlib.Core.Logic.{⊎_elim}
+use Rattle.std.specs.Prelude.{Result, Ok, Err, IfErr, IsErrAnd}
+use Rattle.std.specs.List.{concat}
+use Rattle.sets.proofs.Laws.{by-test}
+use Rattle.rules.specs.Steps.{Stands}
+use Rattle.dispatcher.specs.Dispatcher.{state_of}
+use Rattle.run.specs.Types.{Release, State}
+use Rattle.dispatcher.specs.declared.Dispatcher.{Dispatcher}
+use Rattle.pieces.specs.declared.Piece.{Piece}
+use Rattle.run.specs.Listed.{releases_at}
+use Rattle.entries.specs.Entries.{each}
+use Rattle.run.specs.Run.{record_entries, Moment, released_after, next_time, record_bytes}
+use Rattle.pieces.specs.Pieces.{Leads, Makes, HandsOn}
+use Rattle.run.proofs.Listing.{in_part, behind_part}
+use Rattle.pieces.proofs.Reaching.{bytes_both, front}
+
+-- moments that lead on, and more behind them
+leads_both : (d : State) (rs : List Release) (ms : List Moment) (e : State) (es : List Release) (ns : List Moment) (f : State) (fs : List Release)
+    → Leads d rs ms e es → Leads e es ns f fs → Leads d rs (ms ++ ns) f fs
+unfolding Leads
+leads_both d rs [] e es ns f fs h k =
+    subst (λ (z : State). Leads z rs ns f fs) (sym h.0) (subst (λ (z : List Release). Leads e z ns f fs) (sym h.1) k)
+leads_both d rs (m ∷ ms) e es ns f fs h k = (h.0, h.1, leads_both m.state (released_after m.time rs) ms e es ns f fs h.2 k)
+
+-- where no moment may come, the state and the releases stay
+none_led : (d : State) (rs : List Release) (ms : List Moment) (e : State) (es : List Release) → Leads d rs ms e es → length ms ≤ 0
+    → Stands (2 ^ 64 - 1) (next_time d rs) → Stands (2 ^ 64 - 1) (next_time e es)
+unfolding Leads
+none_led d rs [] e es h k v = subst (λ (z : State). Stands (2 ^ 64 - 1) (next_time z es)) h.0 (subst (λ (z : List Release). Stands (2 ^ 64 - 1) (next_time d z)) h.1 v)
+none_led d rs (m ∷ ms) e es h k v = absurd (omega arith)
+
+no_bytes : concat [] ≡ record_bytes []
+unfolding record_bytes record_entries each
+no_bytes = refl
+
+-- the budget is spent
+pub spent : {F : Type 0} (Calls : F → List ℕ → F → Type 0) (d : State) (rs : List Release) (left : ℕ) (f : F) → left ≡ 0 → HandsOn Calls d rs left f
+unfolding Leads
+spent Calls d rs left f e = record {
+  last = f;
+  pieces = [];
+  called = refl;
+  moments = [];
+  bytes = no_bytes;
+  state = d;
+  releases = rs;
+  leads = (refl, refl);
+  few = omega arith;
+  all = inl (omega (arith, e));
+}
+
+module _ (s : List ℕ) (at : ℕ) {d : Dispatcher} {budget : ℕ} {out : List ℕ} {x : Piece} {out' : List ℕ}
+    (m : Makes (take (length s - at) (drop at s)) d budget out x out') where
+  leads : Leads (state_of d) (releases_at s at) m.moments (state_of x.state) (releases_at s (at + x.read))
+  leads =
+      subst (λ (rs : List Release). Leads (state_of d) rs m.moments (state_of x.state) (releases_at s (at + x.read))) (in_part s at)
+      (subst (λ (rs : List Release). Leads (state_of d) (releases_at (take (length s - at) (drop at s)) 0) m.moments (state_of x.state) rs) (behind_part s at x.read) m.leads)
+
+  over : x.ended ≡ true → Stands (2 ^ 64 - 1) (next_time (state_of x.state) (releases_at s (at + x.read)))
+  over e = subst (λ (rs : List Release). Stands (2 ^ 64 - 1) (next_time (state_of x.state) rs)) (behind_part s at x.read) (m.ended_is e).1
+
+  -- a piece was handed on, and what comes behind it
+  pub one_more : {F : Type 0} (Calls : F → List ℕ → F → Type 0) (f g : F) → Calls f (take x.size out') g
+      → HandsOn Calls (state_of x.state) (releases_at s (at + x.read)) x.left g → HandsOn Calls (state_of d) (releases_at s at) budget f
+  one_more Calls f g call h = record {
+    last = h.last;
+    pieces = take x.size out' ∷ h.pieces;
+    called = (g, call, h.called);
+    moments = m.moments ++ h.moments;
+    bytes = ap₂ (λ (p q : List ℕ). p ++ q) (front m) h.bytes ∙ sym (bytes_both m.moments h.moments);
+    state = h.state;
+    releases = h.releases;
+    leads = leads_both _ _ m.moments _ _ h.moments _ _ leads h.leads;
+    few = omega (arith, m.few, h.few, length-append m.moments h.moments);
+    all = by-test x.ended
+        (λ e. inr (none_led _ _ h.moments _ _ h.leads (omega (arith, h.few, (m.ended_is e).0)) (over e)))
+        (λ e. ⊎_elim (λ n. inl (omega (arith, n, m.left_is e, length-append m.moments h.moments))) (λ v. inr v) h.all);
+  }
+
+-- what is known of an error
+pub if_err : {T E : Type 0} {P Q : E → Type 0} (r : Result T E) → IsErrAnd r Q → ((e : E) → Q e → P e) → IfErr r P
+if_err (Ok x) h k = absurd h
+if_err (Err e) h k = k e h

@@ -1,9 +1,0 @@
--- Each piece has fewer instants to come.
-use Rattle.std.proofs.Common.{◌≤◌, length}
-use Rattle.recorder.proofs.write_run.Given as goal
-
-abbrev pub invariant-loop-left : goal.invariant-loop-left
-invariant-loop-left l = l.at ≤ length l.input
-
-abbrev pub decreases-loop-left : goal.decreases-loop-left
-decreases-loop-left l = l.left

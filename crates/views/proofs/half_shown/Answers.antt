@@ -1,9 +1,0 @@
--- `views::half_shown` meets its contract: by whether it is 1. Assumes nothing.
-use borrow.Author.Tests.{eq-eqb, ne_eqb}
-use Rattle.views.proofs.half_shown.Goals as goal
-
-pub returns-then-half-eq1 : goal.returns-then-half-eq1
-returns-then-half-eq1 c = simp (eq-eqb _ _ c.if-half-eq1.true)
-
-pub returns : goal.returns
-returns c = simp (ne_eqb _ _ c.if-half-eq1.false)
