@@ -33,6 +33,7 @@ fn job_in(told: &[u64; WORDS]) -> JobEntry
     }
 }
 
+#[tactic(auto, unfolding(crate::specs::Telling::interval_in))]
 fn interval_in(told: &[u64; WORDS]) -> IntervalEntry
     ensures { result ≡ telling.interval_in told.now }
 {
@@ -80,6 +81,7 @@ fn due_in(told: &[u64; WORDS]) -> Option<u64>
     Some(told[0])
 }
 
+#[tactic(auto, unfolding(crate::specs::Telling::occurred_in))]
 pub fn occurred_in(told: &[u64; WORDS]) -> Occurred
     ensures { result ≡ telling.occurred_in told.now }
 {

@@ -12,6 +12,7 @@ use crate::ticket::raised;
 use crate::{Dispatcher, Step};
 use rules::CallRefusal;
 
+#[tactic(auto, using(crate::proofs::Numbered::is_served))]
 fn served(d: Dispatcher, t: u64, set: u32) -> Step
     ensures { (step_of result ≡ calls.served (state_of d) t set) × (result.state.ticket ≡ tickets.raised d.ticket) }
 {

@@ -11,6 +11,7 @@ use crate::{Dispatcher, MarkStep};
 use rules::at;
 
 // The marks of some tasks set or taken away; of none, as they were.
+#[tactic(auto, using(crate::proofs::Marking::marks))]
 pub fn marked_all(set: u32, mark: u8, sets: &mut at::Sets)
     ensures { MarksAt set mark sets.old sets.new }
 {

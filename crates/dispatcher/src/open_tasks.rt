@@ -31,6 +31,7 @@ pub fn opened(table: Table, marked: u32) -> Dispatcher
 }
 
 // A dispatcher from a head alone, or the first refusal.
+#[tactic(auto, unfolding(rules::specs::Calls::opening))]
 pub fn open(s: &[u8]) -> Result<Dispatcher, Refusal>
     ensures opens { opening_of result ≡ calls.opening s.now }
     ensures ticket { IfOk result (λ d. d.ticket ≡ 0) }

@@ -51,6 +51,7 @@ pub fn refusal<'a>(
 }
 
 // A mark call: 16, 6, 17, in this order.
+#[tactic(auto, unfolding(rules::specs::Calls::mark_refusal, rules::specs::Registers::state_in))]
 pub fn mark_refusal(task: u8, mark: u8, sets: &at::Sets) -> Result<(), CallRefusal>
     ensures { MarkRefuses task mark sets.now (number_in result) }
 {
@@ -67,6 +68,7 @@ pub fn mark_refusal(task: u8, mark: u8, sets: &at::Sets) -> Result<(), CallRefus
 }
 
 // 10/13, marks for a set of tasks: 16, 6, 17 of any of them, in this order.
+#[tactic(auto, unfolding(rules::specs::Calls::marks_refusal, rules::specs::Calls::unknown, rules::specs::Registers::state_in))]
 pub fn marks_refusal(set: u32, mark: u8, sets: &at::Sets) -> Result<(), CallRefusal>
     ensures { MarksRefuses set mark sets.now (number_in result) }
 {

@@ -9,7 +9,7 @@ use crate::telling::{CLOSED, DONE, WORDS, tell_due, tell_interval, tell_job, tel
 use rules::{at, codes};
 use table::Columns;
 
-// On which side of the releases of its instant an interval ended.
+// On which side of the releases of its instant an interval ended: numbers, since C is told them.
 const BEFORE: u64 = 1;
 
 const AFTER: u64 = 2;

@@ -14,10 +14,11 @@ pub const DONE: usize = 2;
 
 pub const CLOSED: usize = 3;
 
-// No task, as a word: more than a byte has.
+// No task, as a word: more than a byte has. A number, since C is told it.
 pub const NOBODY: u64 = 511;
 
 // The job that is done.
+#[tactic(auto, unfolding(crate::specs::Telling::job_told))]
 pub fn tell_job(e: JobEntry, told: &mut [u64; WORDS])
     ensures { TellsJob e told.old told.new }
 {

@@ -3,6 +3,7 @@ ghost use Rattle.std.specs.Prelude.{◌≡◌};
 ghost use Rattle.rules.specs.Tickets as tickets;
 
 // The ticket after one more.
+#[tactic(auto, unfolding(rules::specs::Tickets::raised))]
 pub fn raised(ticket: u64) -> u64
     ensures { result ≡ tickets.raised ticket }
 {

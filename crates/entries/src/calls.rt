@@ -4,6 +4,7 @@ ghost use Rattle.entries.specs.Calls as calls;
 
 use crate::{CallEntry, Unreadable};
 
+// The kinds are numbers, since they are bytes of the wire.
 const INSTANT_KIND: u8 = 64;
 
 const MARK_KIND: u8 = 65;
@@ -41,6 +42,7 @@ const MARKS_SET: usize = 1;
 
 const MARKS_MARK: usize = 5;
 
+#[tactic(auto, unfolding(crate::specs::Calls::instant_at))]
 fn instant_at(s: &[u8], at: usize) -> Result<CallEntry, Unreadable>
     requires { at < length s.now }
     ensures { result ≡ calls.instant_at s.now at }
@@ -54,6 +56,7 @@ fn instant_at(s: &[u8], at: usize) -> Result<CallEntry, Unreadable>
     })
 }
 
+#[tactic(auto, unfolding(crate::specs::Calls::mark_at))]
 fn mark_at(s: &[u8], at: usize) -> Result<CallEntry, Unreadable>
     requires { at < length s.now }
     ensures { result ≡ calls.mark_at s.now at }
@@ -67,6 +70,7 @@ fn mark_at(s: &[u8], at: usize) -> Result<CallEntry, Unreadable>
     })
 }
 
+#[tactic(auto, unfolding(crate::specs::Calls::enquiry_at))]
 fn enquiry_at(s: &[u8], at: usize) -> Result<CallEntry, Unreadable>
     requires { at < length s.now }
     ensures { result ≡ calls.enquiry_at s.now at }
@@ -80,6 +84,7 @@ fn enquiry_at(s: &[u8], at: usize) -> Result<CallEntry, Unreadable>
     })
 }
 
+#[tactic(auto, unfolding(crate::specs::Calls::commit_at))]
 fn commit_at(s: &[u8], at: usize) -> Result<CallEntry, Unreadable>
     requires { at < length s.now }
     ensures { result ≡ calls.commit_at s.now at }
@@ -94,6 +99,7 @@ fn commit_at(s: &[u8], at: usize) -> Result<CallEntry, Unreadable>
     })
 }
 
+#[tactic(auto, unfolding(crate::specs::Calls::marks_at))]
 fn marks_at(s: &[u8], at: usize) -> Result<CallEntry, Unreadable>
     requires { at < length s.now }
     ensures { result ≡ calls.marks_at s.now at }
@@ -108,6 +114,7 @@ fn marks_at(s: &[u8], at: usize) -> Result<CallEntry, Unreadable>
 }
 
 // The call whose kind byte is at `at`.
+#[tactic(auto, using(words::proofs::Laws::one_byte), unfolding(crate::specs::Calls::call_at))]
 pub fn call_at(s: &[u8], at: usize) -> Result<CallEntry, Unreadable>
     ensures { result ≡ calls.call_at s.now at }
 {

@@ -12,7 +12,7 @@ ghost use Rattle.words.specs.Words.{bytes_of};
 
 pub use calls::{call_at, call_size};
 
-// An entry's first byte is its kind.
+// An entry's first byte is its kind: numbers, since they are bytes of the wire.
 pub const TASK_KIND: u8 = 1;
 
 pub const RELEASE_KIND: u8 = 2;
@@ -38,7 +38,7 @@ pub const INTERVAL_SIZE: usize = 24;
 
 pub const SKIPPED_SIZE: usize = 10;
 
-// The byte for "no task".
+// The byte for "no task", on the wire.
 pub const NO_TASK: u8 = 255;
 
 // The places of an entry's fields, the kind byte at 0: one list for what is written and what is taken apart.
@@ -202,6 +202,7 @@ fn front_task(rest: &[u8]) -> TaskParameters
 }
 
 // The task of the release entry at the front: one field alone, for whoever has tested that the entry is there.
+#[tactic(auto, unfolding(crate::specs::Entries::release_at))]
 pub fn release_task(rest: &[u8]) -> u8
     ensures { result ≡ (entries.release_at rest.now 0).task }
 {
@@ -209,6 +210,7 @@ pub fn release_task(rest: &[u8]) -> u8
 }
 
 // And its time.
+#[tactic(auto, unfolding(crate::specs::Entries::release_at))]
 pub fn release_time(rest: &[u8]) -> u64
     ensures { result ≡ (entries.release_at rest.now 0).time }
 {
@@ -227,6 +229,7 @@ fn front_release(rest: &[u8]) -> Release
 }
 
 // The spacing of the entry at the front.
+#[tactic(auto, unfolding(crate::specs::Entries::spacing_at))]
 fn front_spacing(rest: &[u8]) -> Spacing
     requires { entries.size 3 ≤ length rest.now }
     ensures { result ≡ entries.spacing_at rest.now 0 }
@@ -262,6 +265,7 @@ pub fn entry_at(s: &[u8], at: usize) -> Result<Entry, Unreadable>
 }
 
 // The task that a byte names.
+#[tactic(auto, unfolding(crate::specs::Entries::task_of))]
 fn task_of(b: u8) -> Option<u8>
     ensures { result ≡ entries.task_of b }
 {
@@ -344,6 +348,7 @@ fn task_byte(t: Option<u8>) -> u8
 }
 
 // One byte at a place of an entry.
+#[tactic(auto, using(crate::proofs::Laws::put_byte_there))]
 fn put_byte(out: &mut [u8], at: usize, b: u8)
     requires { at + 1 ≤ length out.old }
     ensures { out.new ≡ laid at (b ∷ []) out.old }
@@ -352,6 +357,7 @@ fn put_byte(out: &mut [u8], at: usize, b: u8)
 }
 
 // A time at a place of an entry.
+#[tactic(auto, using(crate::proofs::Laws::put_there))]
 fn put_time(out: &mut [u8], at: usize, v: u64)
     requires { at + 8 ≤ length out.old }
     ensures { out.new ≡ laid at (bytes_of 8 v) out.old }
@@ -360,6 +366,7 @@ fn put_time(out: &mut [u8], at: usize, v: u64)
 }
 
 // An entry of a kind, a task and a time in the front of `out`, and its length; nothing and 0 where it does not fit, here and below.
+#[tactic(auto, unfolding(words::specs::Words::bytes_of))]
 fn put_timed(out: &mut [u8], kind: u8, task: u8, time: u64) -> usize
     ensures { Put (kind ∷ task ∷ bytes_of 8 time) out.old result out.new }
 {
@@ -373,6 +380,7 @@ fn put_timed(out: &mut [u8], kind: u8, task: u8, time: u64) -> usize
 }
 
 // Kind 2.
+#[tactic(auto, unfolding(crate::specs::Entries::release_bytes))]
 pub fn put_release(out: &mut [u8], r: Release) -> usize
     ensures { Put (entries.release_bytes r) out.old result out.new }
 {
@@ -380,6 +388,7 @@ pub fn put_release(out: &mut [u8], r: Release) -> usize
 }
 
 // Kind 18.
+#[tactic(auto, unfolding(crate::specs::Entries::skipped_bytes))]
 pub fn put_skipped(out: &mut [u8], task: u8, time: u64) -> usize
     ensures { Put (entries.skipped_bytes task time) out.old result out.new }
 {
@@ -421,6 +430,7 @@ fn put_choices(out: &mut [u8], e: IntervalEntry)
 }
 
 // Kind 17.
+#[tactic(auto, unfolding(crate::specs::Entries::interval_bytes, words::specs::Words::bytes_of, crate::specs::Entries::choice_bytes))]
 pub fn put_interval(out: &mut [u8], e: IntervalEntry) -> usize
     ensures { Put (entries.interval_bytes e) out.old result out.new }
 {

@@ -3,6 +3,7 @@
 // state, and the promises are said of the states read before and after. It is a library of its own for the reason that exports_reading is
 // one. The names carry the version of the layout, of what a dispatcher keeps and what an answer tells: where it changes they do, so that
 // a program with the header of another layout is not linked.
+// The lists of parameters are long, and the arrays stand apart, because the C interface lends them so.
 #![tactic(auto)]
 
 ghost use Rattle.std.specs.Prelude.{◌≡◌, get_or};

@@ -18,6 +18,7 @@ const LINES: usize = 16384;
 // Prints the lines of the entries, as many at once as there is room for.
 fn print_lines(rt: HostRuntime, entries: &[u8], out: &mut [u8]) -> Result<(), Failed> {
     let mut at = 0;
+    // each filling says where the next begins: there is nothing to count
     loop {
         let filled = record_lines::fill(entries, at, out);
         if filled.len == 0 {

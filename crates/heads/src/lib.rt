@@ -108,6 +108,7 @@ pub fn head_of(s: &[u8]) -> Result<Head, Refusal>
     let mut t = no_table();
     let mut marked: u32 = 0;
     let mut at: usize = 0;
+    // a cursor over entries of different lengths, left with a value: no iterator would be plainer
     'entries: loop {
         if s.len() <= at {
             break 'entries read_to(t, marked, at);
@@ -151,6 +152,7 @@ pub fn head_of(s: &[u8]) -> Result<Head, Refusal>
 }
 
 // A head with nothing behind it, as at opening: 12 where there is no byte, and 2 for what stands behind it.
+#[tactic(auto, unfolding(table::specs::Head::head_alone))]
 pub fn head_alone(s: &[u8]) -> Result<Head, Refusal>
     ensures { result ≡ heads.head_alone s.now }
 {

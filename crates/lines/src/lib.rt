@@ -13,6 +13,7 @@ use table::Refusal;
 
 // A text: the first `len` of the bytes. All lines of one answer fit: a job's line takes at most 73 bytes, an interval's 72, and the
 // answer's own 34, an enquiry's 55.
+// An array and a length, and no vector of bounded length, since `put` takes any text and a text is copied.
 #[derive(Clone, Copy)]
 pub struct Text {
     pub bytes: [u8; 224],

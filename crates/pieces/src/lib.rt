@@ -38,6 +38,7 @@ pub fn next_piece(rest: &[u8], d: Dispatcher, budget: usize, out: &mut [u8]) -> 
     let mut size: usize = 0;
     let mut left = budget;
     let mut ended = false;
+    // how many instants are left is part of the answer, and each moves two places by its own lengths
     while left != 0 {
         if out.len() - size < INSTANT_MOST {
             break;
@@ -105,6 +106,7 @@ pub fn each_piece<E, F: FnMut(&[u8]) -> Result<(), E>>(
     let mut state = d;
     let mut at = 0;
     let mut left = budget;
+    // each piece says how much it read and how many instants are left
     while left != 0 {
         let x = next_piece(&rest[at..], state, left, out);
         take(&out[..x.size])?;

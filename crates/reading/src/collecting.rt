@@ -68,6 +68,7 @@ pub fn collect(stored: &[u8], before: Noted, keys: &mut [u64]) -> Collected
 {
     let mut at: usize = 0;
     let mut noted = before;
+    // a cursor over entries of different lengths
     while at < stored.len() {
         let entry = entries::record_entry_at(stored, at);
         let whole = match entry {

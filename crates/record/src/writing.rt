@@ -12,6 +12,7 @@ use table::Head;
 // How many bytes of a run are made at a time where they are not made in their place.
 const SCRATCH: usize = 1024;
 
+// One like it stands in waves: a function that both could call would be public, with this `requires`.
 // Where the record is kept, the bytes of a piece are copied to their place.
 fn keep_piece(piece: &[u8], out: &mut [u8], place: usize, keep: bool)
     requires { RoomAt piece.now out.old place keep }
@@ -34,6 +35,7 @@ fn go_on(s: &[u8], from: Piece, out: &mut [u8], keep: bool) -> usize
     let mut at = from.read;
     let mut size = from.size;
     let mut left = from.left;
+    // each piece says how much it read, and is kept behind those before it: `each_piece` hands on no place
     while left != 0 {
         let x = pieces::next_piece(&s[at..], d, left, &mut scratch);
         let n = x.size;

@@ -63,6 +63,7 @@ pub fn fill(s: &[u8], at: usize, out: &mut [u8]) -> Filled
 {
     let mut len = 0;
     let mut next = at;
+    // a cursor over entries of different lengths, as far as their lines fit
     loop {
         let line = line_at(s, next);
         let text = line.text;

@@ -1,5 +1,7 @@
 // The numbers that stand for what a unit does, as specs/Registers reads them.
 
+// Kept as numbers, since C keeps these very codes in its arrays (link/gateway.h).
+
 // The processor's half is 0 or 1; before the first interval it has none.
 pub const NO_HALF: u8 = 2;
 

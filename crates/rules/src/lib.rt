@@ -31,7 +31,8 @@ pub use step_d::take_releases;
 pub use step_e::choose;
 pub use step_g::begin_interval;
 
-// The interval that closed at an instant: before its releases (step b) or after them (step f).
+// The interval that closed at an instant: before its releases (step b) or after them (step f). Three cases, and no
+// `Option`: on which side it closed would stand beside the interval.
 #[derive(Clone, Copy)]
 pub enum Closing {
     Unclosed,

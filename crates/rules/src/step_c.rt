@@ -7,6 +7,7 @@ ghost use Rattle.rules.specs.Steps.{HeldOverAt};
 use crate::{ReleaseFates, at, codes};
 
 // What becomes of the releases of a set, by the tasks with a pending job and those with a waiting release.
+#[tactic(auto, using(crate::proofs::Releases::same_set), unfolding(crate::specs::Instant::released))]
 pub fn released(pending: u32, waiting: u32, set: u32) -> ReleaseFates
     ensures { result ≡ instant.released pending waiting set }
 {
@@ -21,6 +22,7 @@ pub fn released(pending: u32, waiting: u32, set: u32) -> ReleaseFates
 }
 
 // The releases that belong to the interval that step g begins.
+#[tactic(auto, unfolding(crate::specs::Registers::phase_in))]
 pub fn held_over(codes: &at::Codes, taken: u32) -> u32
     ensures { HeldOverAt codes.now taken result }
 {

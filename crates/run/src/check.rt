@@ -50,6 +50,7 @@ fn check_releases(s: &[u8], start: usize, present: u32) -> Result<(), Refusal>
     let mut at = start;
     let mut last = None;
     let mut count: usize = 0;
+    // a cursor over entries of different lengths, left with a value: no iterator would be plainer
     'entries: loop {
         if s.len() <= at {
             break 'entries Ok(());

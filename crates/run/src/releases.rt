@@ -32,6 +32,7 @@ pub fn gather(rest: &[u8], t: u64) -> Batch
 {
     let mut set: u32 = 0;
     let mut at: usize = 0;
+    // as long as the next one is of that time
     while first_tick(&rest[at..]) == t {
         let next = &rest[at..];
         set = sets::insert(set, entries::release_task(next));

@@ -38,6 +38,7 @@ fn serve(rt: HostRuntime, d: Dispatcher, s: &[u8], out: &mut [u8]) -> Result<Ser
     let mut len = 0;
     let mut state = d;
     let mut at = 0;
+    // a cursor over calls of different lengths, as far as they are whole
     loop {
         let entry = entries::call_at(s, at);
         let size = entries::call_size(entry);

@@ -14,6 +14,7 @@ pub fn contains(set: u32, n: u8) -> bool
 }
 
 // `set` with task `n`.
+#[tactic(auto, using(crate::proofs::Masks::or_insert, crate::proofs::Masks::insert_past))]
 pub fn insert(set: u32, n: u8) -> u32
     ensures { result ≡ sets.insert n set }
 {
@@ -21,6 +22,7 @@ pub fn insert(set: u32, n: u8) -> u32
 }
 
 // `set` without task `n`.
+#[tactic(auto, using(crate::proofs::Masks::and_remove, crate::proofs::Masks::remove_past))]
 pub fn remove(set: u32, n: u8) -> u32
     ensures { result ≡ sets.remove n set }
 {
@@ -28,6 +30,7 @@ pub fn remove(set: u32, n: u8) -> u32
 }
 
 // The tasks in `a` or in `b`.
+#[tactic(auto, using(crate::proofs::Masks::or_union))]
 pub fn union(a: u32, b: u32) -> u32
     ensures { result ≡ sets.union a b }
 {
@@ -35,6 +38,7 @@ pub fn union(a: u32, b: u32) -> u32
 }
 
 // The tasks in `a` and in `b`.
+#[tactic(auto, using(crate::proofs::Masks::and_intersection))]
 pub fn intersection(a: u32, b: u32) -> u32
     ensures { result ≡ sets.intersection a b }
 {
@@ -42,6 +46,7 @@ pub fn intersection(a: u32, b: u32) -> u32
 }
 
 // The tasks in `a` and not in `b`.
+#[tactic(auto, using(crate::proofs::Masks::and_difference))]
 pub fn difference(a: u32, b: u32) -> u32
     ensures { result ≡ sets.difference a b }
 {
@@ -49,6 +54,7 @@ pub fn difference(a: u32, b: u32) -> u32
 }
 
 // The lowest task in `set`, 32 if there is none: a loop over the members goes from one to the next at once.
+#[tactic(auto, using(crate::proofs::Masks::trailing_lowest))]
 pub fn lowest(set: u32) -> u8
     ensures { result ≡ sets.lowest set }
 {
@@ -56,6 +62,7 @@ pub fn lowest(set: u32) -> u8
 }
 
 // `set` without its lowest task.
+#[tactic(auto, using(crate::proofs::Masks::rest_none, crate::proofs::Masks::and_rest))]
 pub fn rest(set: u32) -> u32
     ensures { result ≡ sets.remove (sets.lowest set) set }
 {

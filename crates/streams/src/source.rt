@@ -70,6 +70,7 @@ pub fn fill<R: Read>(
     ensures failed_not_full { IfErr result (λ e. e.count < length to.new) }
 {
     let mut count = done.min(to.len());
+    // each read says how many bytes came
     while count < to.len() {
         let more = read_behind(stream, reader, to, count)?;
         if more == count {

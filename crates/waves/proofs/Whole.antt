@@ -15,7 +15,7 @@ use Rattle.run.specs.Listed.{releases_at}
 use Rattle.run.specs.Run.{run}
 use Rattle.sets.proofs.Laws.{by-test}
 use Rattle.run.proofs.Slices.{laid_both, laid_length}
-use Rattle.record.specs.Cursor.{Cursor, start as start_of_lem, KeptAt}
+use Rattle.record.specs.Cursor.{Cursor, start as run_start, KeptAt}
 use Rattle.record.proofs.Running.{is_start}
 use Rattle.waves.specs.Types.{Drawn}
 use Rattle.waves.specs.Dump.{ascii, line, header}
@@ -92,12 +92,12 @@ module _ {s : List ℕ} {c : Cursor} {budget : ℕ} {out : List ℕ} {keep : Boo
 -- ---- from the state that was opened
 
 module _ (k : Head) (d : Dispatcher) (e : state_of d ≡ opened k.table k.marked) where
-  pub from_start : {s : List ℕ} {budget : ℕ} {out : List ℕ} {keep : Bool} → Space s (start_of_lem k) budget (run_dump s (start_of_lem k) budget) out 0 keep
+  pub from_start : {s : List ℕ} {budget : ℕ} {out : List ℕ} {keep : Bool} → Space s (run_start k) budget (run_dump s (run_start k) budget) out 0 keep
       → Space s (record { state = state_of d; at = k.end }) budget (run_dump s (record { state = state_of d; at = k.end }) budget) out 0 keep
   from_start {s} {budget} {out} {keep} r = subst (λ (c : Cursor). Space s c budget (run_dump s c budget) out 0 keep) (is_start k d e) r
 
   pub to_start : (s : List ℕ) (budget : ℕ) {out : List ℕ} {keep : Bool} {n : ℕ} {out' : List ℕ} → Draws (run_dump s (record { state = state_of d; at = k.end }) budget) out keep n out'
-      → Draws (run_dump s (start_of_lem k) budget) out keep n out'
+      → Draws (run_dump s (run_start k) budget) out keep n out'
   to_start s budget {out} {keep} {n} {out'} x = subst (λ (c : Cursor). Draws (run_dump s c budget) out keep n out') (sym (is_start k d e)) x
 
   pub nobody : record { processor = 255; copyin = 255; copyout = 255; half = 0 } ≡ seen (state_of d)

@@ -6,7 +6,7 @@ use Rattle.rules.specs.declared.View.{View}
 use Rattle.rules.specs.View.{shown_half}
 use Rattle.run.specs.Listed.{releases_at}
 use Rattle.run.specs.Run.{run}
-use Rattle.record.specs.Cursor.{Cursor, Served, budget_at, start as start_of_lem}
+use Rattle.record.specs.Cursor.{Cursor, Served, budget_at, start as run_start}
 use Rattle.waves.specs.Types.{Bool, true, false, cond, List, [], ℕ, State, Head, Shown, Drawn}
 use Rattle.waves.specs.Dump.{Sample, mark, all, change, dump}
 use Rattle.waves.specs.Samples.{seen, samples, from_zero}
@@ -48,7 +48,7 @@ run_dump s c budget = dump (from_zero (seen c.state) (samples (run budget c.stat
 
 -- of a file whose task entries were read
 abbrev pub whole_dump : List ℕ → Head → List ℕ
-whole_dump s k = run_dump s (start_of_lem k) (budget_at s (start_of_lem k))
+whole_dump s k = run_dump s (run_start k) (budget_at s (run_start k))
 
 -- there is room for the bytes from a place on, where they are kept
 pub record Space (s : List ℕ) (c : Cursor) (budget : ℕ) (bytes out : List ℕ) (place : ℕ) (keep : Bool) : Type 0 where

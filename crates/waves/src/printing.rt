@@ -36,6 +36,7 @@ fn number_size(n: u64) -> usize
 {
     let mut left = n;
     let mut size: usize = 1;
+    // digit by digit
     while 10 <= left {
         left /= 10;
         size += 1;
@@ -51,6 +52,7 @@ fn put_number(out: &mut [u8], at: usize, n: u64) -> usize
     let size = number_size(n);
     let mut i = at + size - 1;
     let mut left = n;
+    // digit by digit, the last first
     while 10 <= left {
         out[i] = 48 + (left % 10) as u8;
         left /= 10;

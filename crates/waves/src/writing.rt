@@ -3,7 +3,7 @@ ghost use Rattle.std.specs.Prelude.{◌≡◌, ◌+◌, ◌≤◌, length};
 ghost use Rattle.dispatcher.specs.Dispatcher.{state_of};
 ghost use Rattle.record.specs.Cursor.{RoomAt, KeptAt, Runs};
 ghost use Rattle.record.specs.Writing.{Wrote, written};
-ghost use Rattle.record.specs.Cursor.{start as start_of_lem};
+ghost use Rattle.record.specs.Cursor.{start as run_start};
 ghost use Rattle.waves.specs.Dump as dump;
 ghost use Rattle.waves.specs.Printing.{Room, Lays};
 ghost use Rattle.waves.specs.Writing.{dumped};
@@ -13,7 +13,7 @@ ghost use Rattle.waves.specs.Drawing.{SeenIn, shown_by, turn, PutsInstant, run_d
 use crate::Shown;
 use crate::printing::{START, change_size, put_change, put_start};
 use dispatcher::Dispatcher;
-use entries::{RELEASE_SIZE, limits};
+use entries::{NO_TASK, RELEASE_SIZE, limits};
 use record::Unwritten;
 use rules::{View, at};
 use table::Head;
@@ -45,6 +45,7 @@ pub fn header() -> [u8; HEADER]
         $enddefinitions $end\n"
 }
 
+// One like it stands in record: a function that both could call would be public, with this `requires`.
 // Where the dump is kept, bytes are copied to their place.
 fn keep_piece(piece: &[u8], out: &mut [u8], place: usize, keep: bool)
     requires { RoomAt piece.now out.old place keep }
@@ -69,8 +70,8 @@ fn shown<'a>(times: &'a at::Times, sets: &'a at::Sets, codes: &'a at::Codes) -> 
 
 // What an instant adds, where `v` shows before it.
 fn put_turn(out: &mut [u8], at: usize, begun: bool, t: u64, v: Shown, w: Shown) -> usize
-    requires half_bound { v.half ≤ 1 }
-    requires half_bound_2 { w.half ≤ 1 }
+    requires half_before { v.half ≤ 1 }
+    requires half_after { w.half ≤ 1 }
     requires room { Room at (turn «begun» v (record { time = t; shown = w })) out.old }
     ensures { Lays at (turn «begun» v (record { time = t; shown = w })) out.old result out.new }
 {
@@ -99,8 +100,8 @@ fn turn_size(begun: bool, t: u64, v: Shown, w: Shown) -> usize
 // With `keep` what an instant adds is put in its place. Without, its bytes are counted and not made: both runs of a dump would otherwise
 // make every line.
 fn add_turn(out: &mut [u8], at: usize, keep: bool, begun: bool, t: u64, v: Shown, w: Shown) -> usize
-    requires half_bound { v.half ≤ 1 }
-    requires half_bound_2 { w.half ≤ 1 }
+    requires half_before { v.half ≤ 1 }
+    requires half_after { w.half ≤ 1 }
     requires at_bound { at ≤ 20000000 }
     requires room_at { RoomAt (turn «begun» v (record { time = t; shown = w })) out.old at keep }
     ensures value { result ≡ at + length (turn «begun» v (record { time = t; shown = w })) }
@@ -160,6 +161,7 @@ fn draw_instants(
     let mut left = budget;
     let mut begun = false;
     let mut v = shown(&times, &sets, &codes);
+    // an instant may be the last, and each is drawn by what shows before and after it
     while left != 0 {
         let x = run::advance(
             &s[at..],
@@ -188,8 +190,8 @@ fn draw_instants(
 
 // A run's whole dump: its length, and with `keep` its bytes.
 fn draw(s: &[u8], part: Head, budget: usize, out: &mut [u8], keep: bool) -> usize
-    requires { Space s.now (start_of_lem part) budget (run_dump s.now (start_of_lem part) budget) out.old 0 keep }
-    ensures { Draws (run_dump s.now (start_of_lem part) budget) out.old keep result out.new }
+    requires { Space s.now (run_start part) budget (run_dump s.now (run_start part) budget) out.old 0 keep }
+    ensures { Draws (run_dump s.now (run_start part) budget) out.old keep result out.new }
 {
     let table = part.table;
     let from = part.end;
@@ -203,9 +205,9 @@ fn draw(s: &[u8], part: Head, budget: usize, out: &mut [u8], keep: bool) -> usiz
     }
     let mut scratch = [0u8; ROOM];
     let nobody = Shown {
-        processor: 255,
-        copyin: 255,
-        copyout: 255,
+        processor: NO_TASK,
+        copyin: NO_TASK,
+        copyout: NO_TASK,
         half: 0,
     };
     let n = put_start(&mut scratch, 0, nobody);
@@ -215,7 +217,7 @@ fn draw(s: &[u8], part: Head, budget: usize, out: &mut [u8], keep: bool) -> usiz
 
 // The dump of a run, in a slice that is long enough, or the length needed.
 fn write_run(s: &[u8], part: Head, out: &mut [u8]) -> Result<usize, Unwritten>
-    requires { Runs s.now (start_of_lem part) }
+    requires { Runs s.now (run_start part) }
     ensures { Wrote (written (whole_dump s.now part) out.old) result out.new }
 {
     let n = (s.len() - part.end) / RELEASE_SIZE;

@@ -20,6 +20,7 @@ fn bytes_at<const N: usize>(s: &[u8], at: usize) -> [u8; N]
 }
 
 // The byte at `at`; a byte past the end counts as 0, here and below.
+#[tactic(auto, using(crate::proofs::Laws::one_byte))]
 pub fn get_u8(s: &[u8], at: usize) -> u8
     ensures { result ≡ number_at 1 s.now at }
 {
@@ -52,6 +53,7 @@ fn put(out: &mut [u8], bytes: &[u8]) -> usize
 }
 
 // `v` in the first byte of `out`.
+#[tactic(auto, unfolding(crate::specs::Words::bytes_of, crate::specs::Words::room, crate::specs::Words::written))]
 pub fn put_u8(out: &mut [u8], v: u8) -> usize
     ensures { (result ≡ room 1 out.old) × (out.new ≡ written 1 v out.old) }
 {

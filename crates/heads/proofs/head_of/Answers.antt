@@ -47,26 +47,11 @@ entries-init c =
 pub bounds-t-i : goal.bounds-t-i
 bounds-t-i c = let small = (number_new c.entries.t _ (sym c.task_refusal.ensures ∙ ap number_found c.in_default.is)).0 in search rules
 
-pub offset_bounds-t-i : goal.offset_bounds-t-i
-offset_bounds-t-i c = let small = (number_new c.entries.t _ (sym c.task_refusal.ensures ∙ ap number_found c.in_default.is)).0 in search rules
-
 pub bounds-t-i-in-TaskEntry : goal.bounds-t-i-in-TaskEntry
 bounds-t-i-in-TaskEntry c = let small = (number_new c.entries.t _ (sym c.task_refusal.ensures ∙ ap number_found c.in_default.is)).0 in search rules
 
-pub overflow_add-t : goal.overflow_add-t
-overflow_add-t c = let small = (number_new c.entries.t _ (sym c.task_refusal.ensures ∙ ap number_found c.in_default.is)).0 in search rules
-
-pub offset_bounds-t-i-in-TaskEntry : goal.offset_bounds-t-i-in-TaskEntry
-offset_bounds-t-i-in-TaskEntry c = let small = (number_new c.entries.t _ (sym c.task_refusal.ensures ∙ ap number_found c.in_default.is)).0 in search rules
-
 pub bounds-t-i-in-TaskEntry-2 : goal.bounds-t-i-in-TaskEntry-2
 bounds-t-i-in-TaskEntry-2 c = let small = (number_new c.entries.t _ (sym c.task_refusal.ensures ∙ ap number_found c.in_default.is)).0 in search rules
-
-pub overflow_add-t-in-TaskEntry : goal.overflow_add-t-in-TaskEntry
-overflow_add-t-in-TaskEntry c = let small = (number_new c.entries.t _ (sym c.task_refusal.ensures ∙ ap number_found c.in_default.is)).0 in search rules
-
-pub offset_bounds-t-i-in-TaskEntry-2 : goal.offset_bounds-t-i-in-TaskEntry-2
-offset_bounds-t-i-in-TaskEntry-2 c = let small = (number_new c.entries.t _ (sym c.task_refusal.ensures ∙ ap number_found c.in_default.is)).0 in search rules
 
 pub bounds-t-i-in-TaskEntry-3 : goal.bounds-t-i-in-TaskEntry-3
 bounds-t-i-in-TaskEntry-3 c = let small = (number_new c.entries.t _ (sym c.task_refusal.ensures ∙ ap number_found c.in_default.is)).0 in search rules
@@ -86,16 +71,6 @@ entries-preserved-in-TaskEntry c =
           (onward s v.at v.t v.marked v.invariant.3 c.if-s-at.false (sym c.is_release.ensures ∙ c.if-is_release.false) _ e r),
       simp length-set v.invariant.4,
     )
-
-pub overflow_add-t-in-SpacingEntry : goal.overflow_add-t-in-SpacingEntry
-overflow_add-t-in-SpacingEntry c =
-    let small = member_task _ _ c.entries.invariant.2
-    (spacing_taken c.entries.t _ (sym c.spacing_refusal.ensures ∙ ap number_found c.in_default-spacing_refusal.is)).known in search rules
-
-pub offset_bounds-t-x : goal.offset_bounds-t-x
-offset_bounds-t-x c =
-    let small = member_task _ _ c.entries.invariant.2
-    (spacing_taken c.entries.t _ (sym c.spacing_refusal.ensures ∙ ap number_found c.in_default-spacing_refusal.is)).known in search rules
 
 pub bounds-t-x : goal.bounds-t-x
 bounds-t-x c =

@@ -2,11 +2,8 @@
 use mathlib.Core.Path.{refl, ◌∙◌}
 use native.Mathlib.Omega.{arith}
 use Rattle.rules.proofs.Members.{onward, ended}
-use Rattle.rules.proofs.ByTask.{store_start, store, store_end, is_stamped}
+use Rattle.rules.proofs.ByTask.{store, store_end, is_stamped}
 use Rattle.rules.proofs.arrays.defer.Goals as goal
-
-pub loop-n-init : goal.loop-n-init
-loop-n-init c = rw (c.into_iter-n-iterator.ensures.into_iter_gives, c.members-n-items.ensures) (store_start c.ranges.set.fits)
 
 pub bounds-waits-from : goal.bounds-waits-from
 bounds-waits-from c =

@@ -30,16 +30,6 @@ returns-then-not-outranks c times columns o h =
     (waits_loaded (get_or a.codes.now 7 0) (get_or times 5 0) (get_or a.sets.now 2 0) c.if-codes-eq-LOADED.true refl)
     (ap (insert (get_or a.codes.now 7 0)) c.if-ready-eq0.true))
 
-pub returns-then-codes-eq-LOADED : goal.returns-then-codes-eq-LOADED
-returns-then-codes-eq-LOADED c =
-    let a = c.args in
-    c.count_waiting.ensures (λ times. waits_loaded (get_or a.codes.now 7 0) (get_or times 5 0) (get_or a.sets.now 2 0) c.if-codes-eq-LOADED.true c.insert-waiting.ensures)
-
-pub returns-then-ready-ne0 : goal.returns-then-ready-ne0
-returns-then-ready-ne0 c =
-    let a = c.args in
-    c.count_waiting-then-ready-ne0.ensures (λ times. waits (get_or a.codes.now 6 0) (get_or a.codes.now 7 0) (get_or times 5 0) (get_or a.sets.now 2 0) (ne_eqb _ _ c.if-codes-eq-LOADED.false))
-
 pub returns-else-ready-ne0 : goal.returns-else-ready-ne0
 returns-else-ready-ne0 c times columns o h =
     let a = c.args in

@@ -12,8 +12,3 @@ pub returns-then-codes-eq-COPYING_OUT : goal.returns-then-codes-eq-COPYING_OUT
 returns-then-codes-eq-COPYING_OUT c blocked waits w =
     let a = c.args in
     chosen_later (beside a.priority.now a.columns.now (by_task a.release.now blocked waits)) a.t (kept a.times.now a.sets.now a.codes.now) w c.if-codes-ne-UNCHOSEN.false c.if-codes-eq-COPYING_OUT.true
-
-pub returns : goal.returns
-returns c blocked waits w =
-    let a = c.args in
-    c.make_choice.ensures a.priority.now a.release.now c.first-n.ensures c.if-codes-ne-UNCHOSEN.false c.if-codes-eq-COPYING_OUT.false blocked waits w

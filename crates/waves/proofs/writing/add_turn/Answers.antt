@@ -7,7 +7,7 @@ use Rattle.waves.proofs.Drawing.{turn_most}
 use Rattle.waves.proofs.writing.add_turn.Goals as goal
 
 pub put_turn-requires : goal.put_turn-requires
-put_turn-requires c = record { half_bound = c.requires.half_bound; half_bound_2 = c.requires.half_bound_2; room = record { fits = c.requires.room_at c.if-keep.true } }
+put_turn-requires c = record { half_before = c.requires.half_before; half_after = c.requires.half_after; room = record { fits = c.requires.room_at c.if-keep.true } }
 
 pub returns-then-keep : goal.returns-then-keep
 returns-then-keep c =

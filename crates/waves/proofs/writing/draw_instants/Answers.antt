@@ -19,8 +19,8 @@ pub add_turn-size-requires : goal.add_turn-size-requires
 add_turn-size-requires c =
     let v = c.loop-left in
     let on = c.if-x.false in record {
-      half_bound = half_before v.invariant c.advance-x.ensures;
-      half_bound_2 = half_now v.invariant c.advance-x.ensures c.shown-w.result c.shown-w.ensures;
+      half_before = half_before v.invariant c.advance-x.ensures;
+      half_after = half_now v.invariant c.advance-x.ensures c.shown-w.result c.shown-w.ensures;
       at_bound = omega (arith, v.invariant.few);
       room_at = room v.invariant c.advance-x.ensures on c.shown-w.result c.shown-w.ensures c.loop-left-test.true (λ e. c.requires.kept e);
     }

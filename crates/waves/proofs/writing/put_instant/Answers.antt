@@ -11,7 +11,7 @@ pub put_turn-requires : goal.put_turn-requires
 put_turn-requires c =
     let a = c.args in
     let most = turn_most a.begun c.shown_by.result a.t c.shown_by-2.result (omega arith) in
-    record { half_bound = c.shown_by.ensures.1; half_bound_2 = c.shown_by-2.ensures.1; room = record { fits = omega (arith, c.if-out-lt-ROOM.false, most) } }
+    record { half_before = c.shown_by.ensures.1; half_after = c.shown_by-2.ensures.1; room = record { fits = omega (arith, c.if-out-lt-ROOM.false, most) } }
 
 pub returns : goal.returns
 returns c =

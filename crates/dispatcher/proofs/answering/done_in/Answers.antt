@@ -1,9 +1,0 @@
--- `dispatcher::answering::done_in` meets its contract: by whether there is one. Assumes nothing.
-use Rattle.std.proofs.Common.{eq-eqb, ne_eqb}
-use Rattle.dispatcher.proofs.answering.done_in.Goals as goal
-
-pub returns-then-told-eq0 : goal.returns-then-told-eq0
-returns-then-told-eq0 c = simp (eq-eqb _ _ c.if-told-eq0.true)
-
-pub returns : goal.returns
-returns c = simp (ne_eqb _ _ c.if-told-eq0.false, c.job_in.ensures)
