@@ -45,10 +45,19 @@ fn enquired(d: Dispatcher, enquiry: Enquiry) -> Answered
     Answered { state, text }
 }
 
-// The dispatcher called by a whole call.
-fn called(d: Dispatcher, call: CallEntry) -> Answered
-    ensures { AnswersWith d (answered (ticketed_of d) (Ok call)) (NotServed (ticketed_of d) (Ok call)) result }
+// The dispatcher called. A call that is refused, and what is no whole call, leave it as it was.
+pub fn answer(d: Dispatcher, entry: Result<CallEntry, Unreadable>) -> Answered
+    ensures { AnswersWith d (answered (ticketed_of d) entry) (NotServed (ticketed_of d) entry) result }
 {
+    let call = match entry {
+        Ok(call) => call,
+        Err(_) => {
+            return Answered {
+                state: d,
+                text: lines::cut_short_line(),
+            };
+        }
+    };
     match call {
         CallEntry::InstantCall { time, set } => {
             let step = d.instant(time, set);
@@ -82,18 +91,5 @@ fn called(d: Dispatcher, call: CallEntry) -> Answered
                 text: instant_text(step.answer),
             }
         }
-    }
-}
-
-// The dispatcher called. A call that is refused, and what is no whole call, leave it as it was.
-pub fn answer(d: Dispatcher, entry: Result<CallEntry, Unreadable>) -> Answered
-    ensures { AnswersWith d (answered (ticketed_of d) entry) (NotServed (ticketed_of d) entry) result }
-{
-    match entry {
-        Ok(call) => called(d, call),
-        Err(_) => Answered {
-            state: d,
-            text: lines::cut_short_line(),
-        },
     }
 }

@@ -57,13 +57,13 @@ impl Dispatcher {
     pub fn instant(self, time: u64, set: u32) -> Step
         ensures { Answers self time set result }
     {
-        match refusal(time, set, &self.times, &self.sets, &self.codes) {
-            Ok(()) => served(self, time, set),
-            Err(refusal) => Step {
+        if let Err(refusal) = refusal(time, set, &self.times, &self.sets, &self.codes) {
+            return Step {
                 state: self,
                 answer: Err(refusal),
-            },
+            };
         }
+        served(self, time, set)
     }
 
     // 9/13: an instant that was enquired about, by the ticket that the enquiry gave. Where something was served since, it is refused.

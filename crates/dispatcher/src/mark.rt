@@ -40,15 +40,15 @@ impl Dispatcher {
     pub fn mark(self, task: u8, mark: u8) -> MarkStep
         ensures { MarkAnswers self task mark result }
     {
-        match mark_refusal(task, mark, &self.sets) {
-            Ok(()) => MarkStep {
-                state: with_marks(self, sets::insert(0, task), mark),
-                answer: Ok(()),
-            },
-            Err(refusal) => MarkStep {
+        if let Err(refusal) = mark_refusal(task, mark, &self.sets) {
+            return MarkStep {
                 state: self,
                 answer: Err(refusal),
-            },
+            };
+        }
+        MarkStep {
+            state: with_marks(self, sets::insert(0, task), mark),
+            answer: Ok(()),
         }
     }
 
@@ -56,15 +56,15 @@ impl Dispatcher {
     pub fn mark_all(self, set: u32, mark: u8) -> MarkStep
         ensures { MarksAnswers self set mark result }
     {
-        match marks_refusal(set, mark, &self.sets) {
-            Ok(()) => MarkStep {
-                state: with_marks(self, set, mark),
-                answer: Ok(()),
-            },
-            Err(refusal) => MarkStep {
+        if let Err(refusal) = marks_refusal(set, mark, &self.sets) {
+            return MarkStep {
                 state: self,
                 answer: Err(refusal),
-            },
+            };
+        }
+        MarkStep {
+            state: with_marks(self, set, mark),
+            answer: Ok(()),
         }
     }
 }

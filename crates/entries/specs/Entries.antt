@@ -137,12 +137,15 @@ record_entry_at s at =
     (cond (eqb kind 18) (cond (leb (size 18) (length s - at)) (Ok (ReleaseSkipped (release_at s at))) (Err CutShort))
     (Err OtherKind)))
 
--- its length: 0 where it is refused
+-- its length: 0 where it is refused, whatever stands for why
+abbrev pub size_unless : {E : Type 0} → Result RecordEntry E → ℕ
+size_unless (Err e) = 0
+size_unless (Ok (JobDone e)) = size 16
+size_unless (Ok (IntervalEnded e)) = size 17
+size_unless (Ok (ReleaseSkipped e)) = size 18
+
 abbrev pub record_entry_size : Result RecordEntry Unreadable → ℕ
-record_entry_size (Err e) = 0
-record_entry_size (Ok (JobDone e)) = size 16
-record_entry_size (Ok (IntervalEnded e)) = size 17
-record_entry_size (Ok (ReleaseSkipped e)) = size 18
+record_entry_size e = size_unless e
 
 -- ---- An entry written into the front of a lent slice: all of it, or nothing where it does not fit
 

@@ -325,9 +325,9 @@ pub fn record_entry_at(s: &[u8], at: usize) -> Result<RecordEntry, Unreadable>
     }
 }
 
-// The length of an entry of a record: none of what is no entry.
-pub fn record_entry_size(e: Result<RecordEntry, Unreadable>) -> usize
-    ensures { result ≡ entries.record_entry_size e }
+// The length of an entry of a record: none of what is no entry, whatever stands for why.
+pub fn record_entry_size<E: Copy>(e: Result<RecordEntry, E>) -> usize
+    ensures { result ≡ entries.size_unless e }
 {
     match e {
         Err(_) => 0,

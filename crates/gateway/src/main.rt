@@ -3,10 +3,13 @@
 // fails the program stops; either is said in a line on standard error.
 #![tactic(auto)]
 
-ghost use Rattle.std.specs.Prelude.{◌≤◌, length};
+ghost use Rattle.std.specs.Prelude.{◌≤◌, length, IfOk, IfErr};
+ghost use Rattle.streams.specs.Fronts.{IsPrefixLen};
+ghost use Rattle.run.specs.Cut.{file_most};
 
 use entries::limits;
-use streams::Failed;
+use pieces::Takes;
+use streams::{Failed, ReadFailed};
 use table::{Head, Refusal};
 
 // A piece of a record: what many instants leave.
@@ -29,15 +32,31 @@ fn print_lines(rt: HostRuntime, entries: &[u8], out: &mut [u8]) -> Result<(), Fa
     }
 }
 
+// Prints the lines of each piece.
+#[derive(Drop)]
+struct Printer<'a> {
+    rt: HostRuntime,
+    out: &'a mut [u8],
+}
+
+impl Takes for Printer<'_> {
+    type Error = Failed;
+
+    ghost taken = { λ before piece answer after. Unit {0} };
+
+    fn take(&mut self, piece: &[u8]) -> Result<(), Failed> {
+        print_lines(self.rt, piece, self.out)
+    }
+}
+
 fn print_run(rt: HostRuntime, input: &[u8], head: Head, out: &mut [u8]) -> Result<(), Failed>
     requires { head.end ≤ length input.now }
 {
     let mut entries = [0u8; ENTRIES];
     let rest = &input[head.end..];
     let d = dispatcher::opened(head.table, head.marked);
-    pieces::each_piece(rest, d, limits::BUDGET_MOST, &mut entries, |piece| {
-        print_lines(rt, piece, out)
-    })
+    let mut printer = Printer { rt, out };
+    pieces::each_piece(rest, d, limits::BUDGET_MOST, &mut entries, &mut printer)
 }
 
 fn print_refusal(rt: HostRuntime, refusal: Refusal) -> Result<(), Failed> {
@@ -51,11 +70,19 @@ fn answer(rt: HostRuntime, input: &[u8], out: &mut [u8]) -> Result<(), Failed> {
     }
 }
 
-// As much of an input is read as there is room for, which is enough: run/specs/Cut, `ReadFromFront`. What stands behind it is not read.
+// Reads as much of an input as there is room for, which is enough: run/specs/Cut, `ReadFromFront`. What stands behind it is not read.
+fn read(rt: HostRuntime, input: &mut [u8]) -> Result<usize, ReadFailed>
+    requires { file_most ≤ length input.old }
+    ensures read { IfOk result (λ count. IsPrefixLen count input.new) }
+    ensures failed { IfErr result (λ e. IsPrefixLen e.count input.new) }
+{
+    streams::fill(rt, input, 0)
+}
+
 fn drive(rt: HostRuntime) -> Result<(), Failed> {
     let mut input = [0u8; limits::FILE_MOST];
     let mut out = [0u8; LINES];
-    let count = streams::fill(rt, &mut input, 0)?;
+    let count = read(rt, &mut input)?;
     answer(rt, &input[..count], &mut out)
 }
 

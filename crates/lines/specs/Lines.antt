@@ -61,7 +61,7 @@ timed_line letter task time = letter ∷ (field task ++ (field time ++ newline))
 abbrev pub skipped_line : ℕ → ℕ → List ℕ
 skipped_line task time = timed_line 83 task time
 
--- of an entry of a record: no bytes where it is refused
+-- of an entry of a record
 abbrev pub line_of : RecordEntry → List ℕ
 line_of (JobDone e) = job_line e
 line_of (IntervalEnded e) = interval_line e

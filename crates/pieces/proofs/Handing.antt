@@ -1,8 +1,9 @@
 -- A run that is handed on in pieces: a piece, and what comes behind it. Assumes nothing.
 use Rattle.std.proofs.Common.{◌≡◌, refl, sym, ◌∙◌, subst, true, List, [], ◌∷◌, ◌++◌, ℕ, ◌+◌, ◌-◌, ◌^◌, ◌≤◌, inl, inr, arith, length, take, drop, length-append}
-use mathlib.Core.Path.{ap₂}
+use mathlib.Core.Path.{ap, ap₂}
+use mathlib.Core.List.{append_assoc}
 use mathlib.Core.Logic.{⊎_elim}
-use Rattle.std.specs.Prelude.{Result, Ok, Err, IfErr, IsErrAnd}
+use Rattle.std.specs.Prelude.{◌<◌, Result, Ok, Err, IfErr, IsErrAnd, ⊤}
 use Rattle.std.specs.List.{concat}
 use Rattle.sets.proofs.Laws.{by-test}
 use Rattle.rules.specs.Steps.{Stands}
@@ -11,11 +12,12 @@ use Rattle.run.specs.Types.{Release, State}
 use Rattle.dispatcher.specs.declared.Dispatcher.{Dispatcher}
 use Rattle.pieces.specs.declared.Piece.{Piece}
 use Rattle.run.specs.Listed.{releases_at}
-use Rattle.entries.specs.Entries.{each}
+use Rattle.entries.specs.Entries.{each, laid}
+use Rattle.entries.specs.Limits.{instant_most}
 use Rattle.run.specs.Run.{record_entries, Moment, released_after, next_time, record_bytes}
-use Rattle.pieces.specs.Pieces.{Leads, Makes, HandsOn}
+use Rattle.pieces.specs.Pieces.{Leads, Makes, HandsOn, StopsAt, Leaves, pieces_laid}
 use Rattle.run.proofs.Listing.{in_part, behind_part}
-use Rattle.pieces.proofs.Reaching.{bytes_both, front}
+use Rattle.pieces.proofs.Reaching.{bytes_both, front, same_slice}
 
 -- moments that lead on, and more behind them
 leads_both : (d : State) (rs : List Release) (ms : List Moment) (e : State) (es : List Release) (ns : List Moment) (f : State) (fs : List Release)
@@ -37,10 +39,10 @@ unfolding record_bytes record_entries each
 no_bytes = refl
 
 -- the budget is spent
-pub spent : {F : Type 0} (Calls : F → List ℕ → F → Type 0) (d : State) (rs : List Release) (left : ℕ) (f : F) → left ≡ 0 → HandsOn Calls d rs left f
-unfolding Leads
-spent Calls d rs left f e = record {
-  last = f;
+pub spent : {F E : Type 0} (Calls : F → List ℕ → Result ⊤ E → F → Type 0) (d : State) (rs : List Release) (left : ℕ) (f : F) (out : List ℕ) → left ≡ 0
+    → HandsOn Calls d rs left f out f out
+unfolding Leads pieces_laid
+spent Calls d rs left f out e = record {
   pieces = [];
   called = refl;
   moments = [];
@@ -50,6 +52,7 @@ spent Calls d rs left f e = record {
   leads = (refl, refl);
   few = omega arith;
   all = inl (omega (arith, e));
+  leaves = (λ room. refl, λ none. refl);
 }
 
 module _ (s : List ℕ) (at : ℕ) {d : Dispatcher} {budget : ℕ} {out : List ℕ} {x : Piece} {out' : List ℕ}
@@ -62,23 +65,71 @@ module _ (s : List ℕ) (at : ℕ) {d : Dispatcher} {budget : ℕ} {out : List �
   over : x.ended ≡ true → Stands (2 ^ 64 - 1) (next_time (state_of x.state) (releases_at s (at + x.read)))
   over e = subst (λ (rs : List Release). Stands (2 ^ 64 - 1) (next_time (state_of x.state) rs)) (behind_part s at x.read) (m.ended_is e).1
 
-  -- a piece was handed on, and what comes behind it
-  pub one_more : {F : Type 0} (Calls : F → List ℕ → F → Type 0) (f g : F) → Calls f (take x.size out') g
-      → HandsOn Calls (state_of x.state) (releases_at s (at + x.read)) x.left g → HandsOn Calls (state_of d) (releases_at s at) budget f
-  one_more Calls f g call h = record {
-    last = h.last;
-    pieces = take x.size out' ∷ h.pieces;
-    called = (g, call, h.called);
-    moments = m.moments ++ h.moments;
-    bytes = ap₂ (λ (p q : List ℕ). p ++ q) (front m) h.bytes ∙ sym (bytes_both m.moments h.moments);
-    state = h.state;
-    releases = h.releases;
-    leads = leads_both _ _ m.moments _ _ h.moments _ _ leads h.leads;
-    few = omega (arith, m.few, h.few, length-append m.moments h.moments);
-    all = by-test x.ended
-        (λ e. inr (none_led _ _ h.moments _ _ h.leads (omega (arith, h.few, (m.ended_is e).0)) (over e)))
-        (λ e. ⊎_elim (λ n. inl (omega (arith, n, m.left_is e, length-append m.moments h.moments))) (λ v. inr v) h.all);
-  }
+  piece_laid : out' ≡ laid 0 (take x.size out') out
+  piece_laid = m.holds ∙ ap (λ (p : List ℕ). laid 0 p out) (sym (front m))
+
+  -- what is left behind the piece, where there is room
+  leaves : (ps : List (List ℕ)) (last : List ℕ) → instant_most ≤ length out → Leaves ps out' last → Leaves (take x.size out' ∷ ps) out last
+  unfolding pieces_laid
+  leaves ps last room h = (
+    λ much. h.0 (omega (arith, room, same_slice m)) ∙ ap (pieces_laid ps) piece_laid,
+    λ none. absurd (omega (arith, room, none)),
+  )
+
+  module _ {F E : Type 0} (Calls : F → List ℕ → Result ⊤ E → F → Type 0) (f g : F) (room : instant_most ≤ length out) where
+    -- a piece was handed on, and what comes behind it
+    pub one_more : {last : F} {end : List ℕ} → Calls f (take x.size out') (Ok tt) g
+        → HandsOn Calls (state_of x.state) (releases_at s (at + x.read)) x.left g out' last end → HandsOn Calls (state_of d) (releases_at s at) budget f out last end
+    one_more {last} {end} call h = record {
+      pieces = take x.size out' ∷ h.pieces;
+      called = (g, call, h.called);
+      moments = m.moments ++ h.moments;
+      bytes = ap₂ (λ (p q : List ℕ). p ++ q) (front m) h.bytes ∙ sym (bytes_both m.moments h.moments);
+      state = h.state;
+      releases = h.releases;
+      leads = leads_both _ _ m.moments _ _ h.moments _ _ leads h.leads;
+      few = omega (arith, m.few, h.few, length-append m.moments h.moments);
+      all = by-test x.ended
+          (λ e. inr (none_led _ _ h.moments _ _ h.leads (omega (arith, h.few, (m.ended_is e).0)) (over e)))
+          (λ e. ⊎_elim (λ n. inl (omega (arith, n, m.left_is e, length-append m.moments h.moments))) (λ v. inr v) h.all);
+      leaves = leaves h.pieces end room h.leaves;
+    }
+
+    -- a piece was handed on, and one behind it stops the run
+    pub stops_later : {e : E} {last : F} {end : List ℕ} → Calls f (take x.size out') (Ok tt) g
+        → StopsAt Calls (state_of x.state) (releases_at s (at + x.read)) x.left g out' e last end → StopsAt Calls (state_of d) (releases_at s at) budget f out e last end
+    stops_later {e} {last} {end} call h = record {
+      pieces = take x.size out' ∷ h.pieces;
+      before = h.before;
+      called = (g, call, h.called);
+      piece = h.piece;
+      stopped = h.stopped;
+      moments = m.moments ++ h.moments;
+      bytes = append_assoc (take x.size out') (concat h.pieces) h.piece ∙ ap₂ (λ (p q : List ℕ). p ++ q) (front m) h.bytes ∙ sym (bytes_both m.moments h.moments);
+      state = h.state;
+      releases = h.releases;
+      leads = leads_both _ _ m.moments _ _ h.moments _ _ leads h.leads;
+      few = omega (arith, m.few, h.few, length-append m.moments h.moments);
+      leaves = leaves (h.pieces ++ (h.piece ∷ [])) end room h.leaves;
+    }
+
+    -- a piece stops it
+    pub stops_here : {e : E} → Calls f (take x.size out') (Err e) g → StopsAt Calls (state_of d) (releases_at s at) budget f out e g out'
+    unfolding pieces_laid
+    stops_here {e} call = record {
+      pieces = [];
+      before = f;
+      called = refl;
+      piece = take x.size out';
+      stopped = call;
+      moments = m.moments;
+      bytes = front m;
+      state = state_of x.state;
+      releases = releases_at s (at + x.read);
+      leads = leads;
+      few = omega (arith, m.few);
+      leaves = (λ much. piece_laid, λ none. absurd (omega (arith, room, none)));
+    }
 
 -- what is known of an error
 pub if_err : {T E : Type 0} {P Q : E → Type 0} (r : Result T E) → IsErrAnd r Q → ((e : E) → Q e → P e) → IfErr r P

@@ -1,5 +1,5 @@
 -- A run in pieces: the moments that are made one after the other from a state on, and where they lead.
-use Rattle.std.specs.Prelude.{◌≡◌, ◌⊎◌, ◌<◌, length, ◌∷◌, ◌++◌, ◌+◌, ◌-◌, ◌^◌, ◌≤◌}
+use Rattle.std.specs.Prelude.{◌≡◌, ◌⊎◌, ◌<◌, length, ◌∷◌, ◌++◌, ◌+◌, ◌-◌, ◌^◌, ◌≤◌, Result, Ok, Err, ⊤}
 use Rattle.std.specs.List.{FoldsTo, concat}
 use Rattle.entries.specs.Entries.{laid}
 use Rattle.entries.specs.Limits.{instant_most}
@@ -38,12 +38,21 @@ pub record Makes (rest : List ℕ) (d : Dispatcher) (budget : ℕ) (out : List �
   pub left_is : x.ended ≡ false → x.left + length moments ≡ budget
   pub few : x.left + length moments ≤ budget
 
--- A run is handed on in pieces: a closure was called on one after the other. One behind the other they are the bytes of moments that lead from a state on,
--- with the releases that are left, until the budget is spent or no instant is left before the last tick.
-pub record HandsOn {F : Type 0} (Calls : F → List ℕ → F → Type 0) (d : State) (rs : List Release) (budget : ℕ) (first : F) : Type 0 where
-  pub last : F
+-- pieces laid over the front of a slice, one after the other
+unfoldable pub pieces_laid : List (List ℕ) → List ℕ → List ℕ
+pieces_laid [] out = out
+pieces_laid (p ∷ ps) out = pieces_laid ps (laid 0 p out)
+
+-- what pieces leave in the slice by way of which they are made; one that may have no room for an instant stays as it was
+abbrev pub Leaves : List (List ℕ) → List ℕ → List ℕ → Type 0
+Leaves ps out out' = (instant_most ≤ length out → out' ≡ pieces_laid ps out) × (length out < instant_most → out' ≡ out)
+
+-- A run is handed on in pieces, by calls one after the other, none of which stops it. One behind the other they are the bytes of moments that lead from a
+-- state on, with the releases that are left, until the budget is spent or no instant is left before the last tick.
+pub record HandsOn {F E : Type 0} (Calls : F → List ℕ → Result ⊤ E → F → Type 0) (d : State) (rs : List Release) (budget : ℕ)
+    (first : F) (out : List ℕ) (last : F) (out' : List ℕ) : Type 0 where
   pub pieces : List (List ℕ)
-  pub called : FoldsTo Calls first pieces last
+  pub called : FoldsTo (λ (f : F) (piece : List ℕ) (g : F). Calls f piece (Ok tt) g) first pieces last
   pub moments : List Moment
   pub bytes : concat pieces ≡ record_bytes moments
   pub state : State
@@ -51,3 +60,20 @@ pub record HandsOn {F : Type 0} (Calls : F → List ℕ → F → Type 0) (d : S
   pub leads : Leads d rs moments state releases
   pub few : length moments ≤ budget
   pub all : (length moments ≡ budget) ⊎ Stands (2 ^ 64 - 1) (next_time state releases)
+  pub leaves : Leaves pieces out out'
+
+-- Or a call stops it, with an error: its piece comes behind those that were handed on before.
+pub record StopsAt {F E : Type 0} (Calls : F → List ℕ → Result ⊤ E → F → Type 0) (d : State) (rs : List Release) (budget : ℕ)
+    (first : F) (out : List ℕ) (e : E) (last : F) (out' : List ℕ) : Type 0 where
+  pub pieces : List (List ℕ)
+  pub before : F
+  pub called : FoldsTo (λ (f : F) (piece : List ℕ) (g : F). Calls f piece (Ok tt) g) first pieces before
+  pub piece : List ℕ
+  pub stopped : Calls before piece (Err e) last
+  pub moments : List Moment
+  pub bytes : concat pieces ++ piece ≡ record_bytes moments
+  pub state : State
+  pub releases : List Release
+  pub leads : Leads d rs moments state releases
+  pub few : length moments ≤ budget
+  pub leaves : Leaves (pieces ++ (piece ∷ [])) out out'

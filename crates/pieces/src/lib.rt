@@ -1,12 +1,11 @@
 // A run in pieces: the one loop over its instants, and the one over its pieces.
 #![tactic(auto)]
 
-ghost use Rattle.std.specs.Prelude.{◌≤◌, List, ℕ, length, Ok, Err, IfOk, IfErr};
-ghost use Rattle.std.specs.Fn.{CalledAt};
+ghost use Rattle.std.specs.Prelude.{◌≤◌, List, ℕ, length, IfOk, IfErr, Result, ⊤};
 ghost use Rattle.entries.specs.Limits.{instant_most};
 ghost use Rattle.dispatcher.specs.Dispatcher.{state_of};
 ghost use Rattle.run.specs.Listed.{releases_at};
-ghost use Rattle.pieces.specs.Pieces.{Makes, HandsOn};
+ghost use Rattle.pieces.specs.Pieces.{Makes, HandsOn, StopsAt};
 
 use dispatcher::Dispatcher;
 use entries::limits::INSTANT_MOST;
@@ -86,33 +85,58 @@ pub fn next_piece(rest: &[u8], d: Dispatcher, budget: usize, out: &mut [u8]) -> 
     }
 }
 
-// The run from the dispatcher `d` on, with the releases in `rest` and at most `budget` instants: its bytes are handed to `take`, piece by
-// piece, by way of `out`, until it fails. No instant is made where there may be no room for one.
-pub fn each_piece<E, F: FnMut(&[u8]) -> Result<(), E>>(
+// Whoever is handed the pieces of a run, one after the other, and may stop it.
+pub trait Takes {
+    type Error;
+
+    // what a call does: who takes the piece, the piece, the answer, and who has taken it
+    ghost taken: { Self → List ℕ → Result ⊤ Self.Error → Self → Type 0 };
+
+    fn take(&mut self, piece: &[u8]) -> Result<(), Self::Error>
+        ensures { taken self.old piece.now result self.new };
+}
+
+// By way of a slice that has room for an instant.
+fn hand_on<T: Takes>(
     rest: &[u8],
     d: Dispatcher,
     budget: usize,
     out: &mut [u8],
-    mut take: F,
-) -> Result<(), E>
-    requires { F.IsAlwaysCallable take }
-    ensures handed { instant_most ≤ length out.old → IfOk result (λ _. HandsOn (λ f piece g. CalledAt F.FnMut f piece (Ok tt) g)
-        (state_of d) (releases_at rest.now 0) budget take) }
-    ensures failed { IfErr result (λ e. (f : F) × (piece : List ℕ) × (g : F) × CalledAt F.FnMut f piece (Err e) g) }
+    by: &mut T,
+) -> Result<(), T::Error>
+    requires { instant_most ≤ length out.old }
+    ensures handed { IfOk result (λ _. HandsOn T.taken (state_of d) (releases_at rest.now 0) budget by.old out.old by.new out.new) }
+    ensures stopped { IfErr result (λ e. StopsAt T.taken (state_of d) (releases_at rest.now 0) budget by.old out.old e by.new out.new) }
 {
-    if out.len() < INSTANT_MOST {
-        return Ok(());
-    }
     let mut state = d;
     let mut at = 0;
     let mut left = budget;
     // each piece says how much it read and how many instants are left
     while left != 0 {
         let x = next_piece(&rest[at..], state, left, out);
-        take(&out[..x.size])?;
+        by.take(&out[..x.size])?;
         at += x.read;
         left = x.left;
         state = x.state;
     }
     Ok(())
+}
+
+// The run from the dispatcher `d` on, with the releases in `rest` and at most `budget` instants: its bytes are handed to `by`, piece by
+// piece, until that stops it. They are made in `out`, or, where that may have no room for an instant, beside it, and `out` stays as it was.
+pub fn each_piece<T: Takes>(
+    rest: &[u8],
+    d: Dispatcher,
+    budget: usize,
+    out: &mut [u8],
+    by: &mut T,
+) -> Result<(), T::Error>
+    ensures handed { IfOk result (λ _. HandsOn T.taken (state_of d) (releases_at rest.now 0) budget by.old out.old by.new out.new) }
+    ensures stopped { IfErr result (λ e. StopsAt T.taken (state_of d) (releases_at rest.now 0) budget by.old out.old e by.new out.new) }
+{
+    if out.len() < INSTANT_MOST {
+        let mut room = [0u8; INSTANT_MOST];
+        return hand_on(rest, d, budget, &mut room, by);
+    }
+    hand_on(rest, d, budget, out, by)
 }

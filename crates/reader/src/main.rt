@@ -11,6 +11,7 @@ ghost use Rattle.std.specs.Prelude.{◌≤◌, length, IfOk};
 
 use entries::{Entry, RELEASE_SIZE, limits};
 use lines::Text;
+use pieces::Takes;
 use reading::Noted;
 use streams::{Failed, ReadFailed, Source};
 use table::{Head, Refusal};
@@ -197,6 +198,24 @@ fn read_same(
     Ok(())
 }
 
+// The record read again, of which there are `rest` bytes more: each piece of the run has to be its next bytes.
+#[derive(Drop)]
+struct Again<'s, 'i> {
+    source: &'s Source,
+    rest: usize,
+    input: &'i mut [u8],
+}
+
+impl Takes for Again<'_, '_> {
+    type Error = Stopped;
+
+    ghost taken = { λ before made answer after. Unit {0} };
+
+    fn take(&mut self, made: &[u8]) -> Result<(), Stopped> {
+        read_same(self.source, made, &mut self.rest, self.input)
+    }
+}
+
 // Reads the record, which has `size` bytes: it has to be that of the run.
 fn replays(
     source: &Source,
@@ -208,13 +227,15 @@ fn replays(
     requires { part.end ≤ length list.now }
 {
     let mut made = [0u8; PIECE];
-    let mut rest = size;
+    let mut again = Again {
+        source,
+        rest: size,
+        input,
+    };
     let releases = &list[part.end..];
     let d = dispatcher::opened(part.table, part.marked);
-    pieces::each_piece(releases, d, limits::BUDGET_MOST, &mut made, |piece| {
-        read_same(source, piece, &mut rest, input)
-    })?;
-    if rest == 0 {
+    pieces::each_piece(releases, d, limits::BUDGET_MOST, &mut made, &mut again)?;
+    if again.rest == 0 {
         Ok(())
     } else {
         Err(Stopped::Differs)

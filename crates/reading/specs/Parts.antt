@@ -2,11 +2,13 @@
 use Rattle.std.specs.Prelude.{◌≡◌, ◌⊎◌, ◌+◌, ◌*◌, ◌/◌, ◌%◌, ◌^◌, ◌≤◌, ◌<◌, length, take, ◌∷◌, ◌++◌, None, Some, Option, IsOk}
 use Rattle.entries.specs.Entries.{size}
 use Rattle.entries.specs.Limits as limits
+use Rattle.entries.specs.declared.Unreadable.{Unreadable}
+use Rattle.entries.specs.Unreadable.{unreadable_number}
 use Rattle.table.specs.declared.Head.{Head}
 use Rattle.table.specs.Head.{head_of}
 use Rattle.rules.specs.Calls.{opening}
 use Rattle.run.specs.Files.{Releases, refusal_of}
-use Rattle.reading.specs.Types.{Bool, true, false, List, [], ℕ, Release, Ok, RecordEntry, JobDone, IntervalEnded, ReleaseSkipped}
+use Rattle.reading.specs.Types.{Bool, true, false, List, [], ℕ, Release, Result, Ok, Err, RecordEntry, JobDone, IntervalEnded, ReleaseSkipped}
 use Rattle.reading.specs.declared.collecting.Noted.{Noted}
 use Rattle.reading.specs.declared.collecting.Collected.{Collected}
 use Rattle.reading.specs.Attested.{release_of, attested, key}
@@ -19,6 +21,11 @@ abbrev pub told_by : RecordEntry → Option Release
 told_by (JobDone e) = Some (release_of e)
 told_by (IntervalEnded e) = None
 told_by (ReleaseSkipped r) = Some r
+
+-- the number by which what stands for one is refused; 0 where it is not
+abbrev pub fault : Result RecordEntry Unreadable → ℕ
+fault (Ok e) = 0
+fault (Err x) = unreadable_number x
 
 -- ---- Releases as numbers
 

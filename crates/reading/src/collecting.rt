@@ -1,8 +1,8 @@
 // The releases that a record tells of, each as one number: time first, then task.
 ghost use Rattle.std.specs.Prelude.{◌≡◌};
-ghost use Rattle.reading.specs.Parts.{told_by, NotesMore, Collects};
+ghost use Rattle.reading.specs.Parts.{told_by, fault, NotesMore, Collects};
 
-use entries::{RecordEntry, Release, limits};
+use entries::{RecordEntry, Release, Unreadable, limits};
 use table::Refusal;
 
 // How many releases are noted. No list can have them where one is later than any release may be or they are more than there is room for.
@@ -30,6 +30,13 @@ fn told_by(entry: RecordEntry) -> Option<Release>
         RecordEntry::IntervalEnded(_) => None,
         RecordEntry::ReleaseSkipped(release) => Some(release),
     }
+}
+
+// The number by which an entry is refused; 0 where it is not.
+fn fault_of(entry: Result<RecordEntry, Unreadable>) -> u8
+    ensures { result ≡ fault entry }
+{
+    entry.err().map_or(0, Unreadable::number)
 }
 
 // One release more, where there is one.
@@ -71,14 +78,11 @@ pub fn collect(stored: &[u8], before: Noted, keys: &mut [u64]) -> Collected
     // a cursor over entries of different lengths
     while at < stored.len() {
         let entry = entries::record_entry_at(stored, at);
-        let whole = match entry {
-            Ok(whole) => whole,
-            Err(unreadable) => {
-                return Collected {
-                    noted,
-                    refusal: Some(Refusal::AtEntry(unreadable.number(), at)),
-                };
-            }
+        let Ok(whole) = entry else {
+            return Collected {
+                noted,
+                refusal: Some(Refusal::AtEntry(fault_of(entry), at)),
+            };
         };
         noted = note(keys, noted, told_by(whole));
         at += entries::record_entry_size(entry);

@@ -1,4 +1,6 @@
 // A call that failed on one of a program's streams, and what is said on standard error. Where that fails too, nothing more can be said.
+ghost use Rattle.std.specs.Prelude.{◌≡◌};
+
 use std::fmt::InlineText;
 use std::io::Print;
 use std::{fmt, io};
@@ -49,6 +51,8 @@ pub struct ReadFailed {
 }
 
 impl From<ReadFailed> for Failed {
+    ghost from_gives = { λ e failed. failed ≡ e.failed };
+
     fn from(e: ReadFailed) -> Failed {
         e.failed
     }

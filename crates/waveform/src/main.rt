@@ -3,11 +3,13 @@
 // program stops; either is said in a line on standard error.
 #![tactic(auto)]
 
-ghost use Rattle.std.specs.Prelude.{◌≤◌, length};
+ghost use Rattle.std.specs.Prelude.{◌≤◌, length, IfOk, IfErr};
+ghost use Rattle.streams.specs.Fronts.{IsPrefixLen};
+ghost use Rattle.run.specs.Cut.{file_most};
 
 use entries::limits;
 use rules::{View, at};
-use streams::Failed;
+use streams::{Failed, ReadFailed};
 use table::{Head, Refusal};
 
 // What an instant adds, where there are the views before and after it.
@@ -68,10 +70,18 @@ fn answer(rt: HostRuntime, input: &[u8]) -> Result<(), Failed> {
     }
 }
 
-// As much of an input is read as there is room for, which is enough: run/specs/Cut, `ReadFromFront`. What stands behind it is not read.
+// Reads as much of an input as there is room for, which is enough: run/specs/Cut, `ReadFromFront`. What stands behind it is not read.
+fn read(rt: HostRuntime, input: &mut [u8]) -> Result<usize, ReadFailed>
+    requires { file_most ≤ length input.old }
+    ensures read { IfOk result (λ count. IsPrefixLen count input.new) }
+    ensures failed { IfErr result (λ e. IsPrefixLen e.count input.new) }
+{
+    streams::fill(rt, input, 0)
+}
+
 fn drive(rt: HostRuntime) -> Result<(), Failed> {
     let mut input = [0u8; limits::FILE_MOST];
-    let count = streams::fill(rt, &mut input, 0)?;
+    let count = read(rt, &mut input)?;
     answer(rt, &input[..count])
 }
 

@@ -150,7 +150,7 @@ pub fn put_change(out: &mut [u8], at: usize, t: u64, v: Shown, w: Shown) -> usiz
     requires room { Room at (dump.change v (record { time = t; shown = w })) out.old }
     ensures { Lays at (dump.change v (record { time = t; shown = w })) out.old result out.new }
 {
-    if v == w {
+    if v == w { // no mark without a value
         return at;
     }
     let a = put_mark(out, at, t);
@@ -172,7 +172,7 @@ fn new_size(old: u8, new: u8, size: usize) -> usize
 pub fn change_size(t: u64, v: Shown, w: Shown) -> usize
     ensures { result ≡ length (dump.change v (record { time = t; shown = w })) }
 {
-    if v == w {
+    if v == w { // nothing at all
         return 0;
     }
     let a = new_size(v.processor, w.processor, WIRES);

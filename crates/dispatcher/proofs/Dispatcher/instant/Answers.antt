@@ -6,11 +6,11 @@ use Rattle.dispatcher.specs.Dispatcher.{beside_of}
 use Rattle.dispatcher.proofs.Numbered.{answered, some_number}
 use Rattle.dispatcher.proofs.Dispatcher.instant.Goals as goal
 
-pub returns-in-Ok : goal.returns-in-Ok
+pub returns : goal.returns
 unfolding instant
-returns-in-Ok c =
+returns c =
     let s = c.args in
-    let n = sym (ap number_in c.in-Ok.is) ∙ c.refusal.ensures (beside_of s.self) in
+    let n = sym (ap number_in c.in_default.is) ∙ c.refusal.ensures (beside_of s.self) in
     answered _ _ _ _ (simp (← n, c.served.ensures.0)) (simp (← n, c.served.ensures.1)) (λ f. absurd (f (sym n)))
 
 pub returns-in-Err : goal.returns-in-Err

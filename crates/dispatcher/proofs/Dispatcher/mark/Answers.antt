@@ -6,11 +6,11 @@ use Rattle.dispatcher.specs.Dispatcher.{beside_of}
 use Rattle.dispatcher.proofs.Numbered.{mark_answered, some_number}
 use Rattle.dispatcher.proofs.Dispatcher.mark.Goals as goal
 
-pub returns-in-Ok : goal.returns-in-Ok
+pub returns : goal.returns
 unfolding mark
-returns-in-Ok c =
+returns c =
     let s = c.args in
-    let n = sym (ap number_in c.in-Ok.is) ∙ c.mark_refusal.ensures s.self.times s.self.codes (beside_of s.self) in
+    let n = sym (ap number_in c.in_default.is) ∙ c.mark_refusal.ensures s.self.times s.self.codes (beside_of s.self) in
     mark_answered _ _ _ _ (simp (← n, ← c.insert.ensures, c.with_marks.ensures.0)) (simp (← n, c.with_marks.ensures.1)) (λ f. absurd (f (sym n)))
 
 pub returns-in-Err : goal.returns-in-Err

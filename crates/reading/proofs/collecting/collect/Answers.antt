@@ -6,7 +6,7 @@ use Rattle.entries.specs.Entries.{record_entry_size}
 use Rattle.entries.proofs.Places.{entry_within}
 use Rattle.std.proofs.Common.{Some}
 use Rattle.reading.specs.Types.{AtEntry}
-use Rattle.reading.specs.Parts.{told_by, NotesMore, Collects}
+use Rattle.reading.specs.Parts.{told_by, fault, NotesMore, Collects}
 use Rattle.reading.specs.declared.collecting.Noted.{Noted}
 use Rattle.reading.proofs.Noting.{begins, ends, faulty, some_bytes, goes_on}
 use Rattle.reading.proofs.collecting.collect.Goals as goal
@@ -14,15 +14,13 @@ use Rattle.reading.proofs.collecting.collect.Goals as goal
 pub loop-at-init : goal.loop-at-init
 loop-at-init c = (begins _ _ _, refl)
 
-pub shape_of-keys-in-Err : goal.shape_of-keys-in-Err
-shape_of-keys-in-Err c = c.loop-at.invariant.1
-
-pub returns-in-Err : goal.returns-in-Err
-returns-in-Err c =
+pub returns-in_default : goal.returns-in_default
+returns-in_default c =
     let v = c.loop-at in
     let a = c.args in
-    subst (λ (n : ℕ). Collects a.stored.now a.before a.keys.now (record { noted = v.noted; refusal = Some (AtEntry n v.at) }) v.keys) (sym c.number.ensures)
-    (faulty v.invariant.0 v.invariant.1 c.loop-at-test.true _ (sym c.record_entry_at-entry.ensures ∙ c.in-Err.is))
+    subst (λ (n : ℕ). Collects a.stored.now a.before a.keys.now (record { noted = v.noted; refusal = Some (AtEntry n v.at) }) v.keys)
+    (sym (c.fault_of.ensures ∙ ap fault c.in_default.is))
+    (faulty v.invariant.0 v.invariant.1 c.loop-at-test.true _ (sym c.record_entry_at-entry.ensures ∙ c.in_default.is))
 
 pub overflow_add-at : goal.overflow_add-at
 overflow_add-at c =
