@@ -56,7 +56,7 @@ fn print_run(rt: HostRuntime, input: &[u8], head: Head, out: &mut [u8]) -> Resul
     let rest = &input[head.end..];
     let d = dispatcher::opened(head.table, head.marked);
     let mut printer = Printer { rt, out };
-    pieces::each_piece(rest, d, limits::BUDGET_MOST, &mut entries, &mut printer)
+    pieces::hand_over(rest, d, limits::BUDGET_MOST, &mut entries, &mut printer)
 }
 
 fn print_refusal(rt: HostRuntime, refusal: Refusal) -> Result<(), Failed> {

@@ -3,7 +3,7 @@ use Rattle.std.proofs.Common.{◌≡◌, refl, sym, ◌∙◌, subst, true, List
 use mathlib.Core.Path.{ap, ap₂}
 use mathlib.Core.List.{append_assoc}
 use mathlib.Core.Logic.{⊎_elim}
-use Rattle.std.specs.Prelude.{◌<◌, Result, Ok, Err, IfErr, IsErrAnd, ⊤}
+use Rattle.std.specs.Prelude.{Result, Ok, Err, IfErr, IsErrAnd, ⊤}
 use Rattle.std.specs.List.{concat}
 use Rattle.sets.proofs.Laws.{by-test}
 use Rattle.rules.specs.Steps.{Stands}
@@ -15,7 +15,7 @@ use Rattle.run.specs.Listed.{releases_at}
 use Rattle.entries.specs.Entries.{each, laid}
 use Rattle.entries.specs.Limits.{instant_most}
 use Rattle.run.specs.Run.{record_entries, Moment, released_after, next_time, record_bytes}
-use Rattle.pieces.specs.Pieces.{Leads, Makes, HandsOn, StopsAt, Leaves, pieces_laid}
+use Rattle.pieces.specs.Pieces.{Leads, Makes, HandsOn, HandsOver, StopsAt, Leaves, pieces_laid}
 use Rattle.run.proofs.Listing.{in_part, behind_part}
 use Rattle.pieces.proofs.Reaching.{bytes_both, front, same_slice}
 
@@ -38,11 +38,43 @@ no_bytes : concat [] ≡ record_bytes []
 unfolding record_bytes record_entries each
 no_bytes = refl
 
+-- what is said of who takes the pieces, without what the slice holds
+pub handed_on : {F E : Type 0} {Calls : F → List ℕ → Result ⊤ E → F → Type 0} {d : State} {rs : List Release} {budget : ℕ} {f : F} {out : List ℕ} {last : F} {end : List ℕ}
+    → HandsOver Calls d rs budget f out last end → HandsOn (λ (f : F) (piece : List ℕ) (g : F). Calls f piece (Ok tt) g) d rs budget f
+handed_on {F} {E} {Calls} {d} {rs} {budget} {f} {out} {last} h = record {
+  last = last;
+  pieces = h.pieces;
+  called = h.called;
+  moments = h.moments;
+  bytes = h.bytes;
+  state = h.state;
+  releases = h.releases;
+  leads = h.leads;
+  few = h.few;
+  all = h.all;
+}
+
+-- and with it
+held : {F E : Type 0} (Calls : F → List ℕ → Result ⊤ E → F → Type 0) (d : State) (rs : List Release) (budget : ℕ) (f : F) (out end : List ℕ)
+    (h : HandsOn (λ (f : F) (piece : List ℕ) (g : F). Calls f piece (Ok tt) g) d rs budget f) → Leaves h.pieces out end → HandsOver Calls d rs budget f out h.last end
+held Calls d rs budget f out end h leaves = record {
+  pieces = h.pieces;
+  called = h.called;
+  moments = h.moments;
+  bytes = h.bytes;
+  state = h.state;
+  releases = h.releases;
+  leads = h.leads;
+  few = h.few;
+  all = h.all;
+  leaves = leaves;
+}
+
 -- the budget is spent
-pub spent : {F E : Type 0} (Calls : F → List ℕ → Result ⊤ E → F → Type 0) (d : State) (rs : List Release) (left : ℕ) (f : F) (out : List ℕ) → left ≡ 0
-    → HandsOn Calls d rs left f out f out
-unfolding Leads pieces_laid
-spent Calls d rs left f out e = record {
+pub spent : {F : Type 0} (Calls : F → List ℕ → F → Type 0) (d : State) (rs : List Release) (left : ℕ) (f : F) → left ≡ 0 → HandsOn Calls d rs left f
+unfolding Leads
+spent Calls d rs left f e = record {
+  last = f;
   pieces = [];
   called = refl;
   moments = [];
@@ -52,8 +84,13 @@ spent Calls d rs left f out e = record {
   leads = (refl, refl);
   few = omega arith;
   all = inl (omega (arith, e));
-  leaves = (λ room. refl, λ none. refl);
 }
+
+pub spent_over : {F E : Type 0} (Calls : F → List ℕ → Result ⊤ E → F → Type 0) (d : State) (rs : List Release) (left : ℕ) (f : F) (out : List ℕ) → left ≡ 0
+    → HandsOver Calls d rs left f out f out
+unfolding pieces_laid spent
+spent_over Calls d rs left f out e =
+    held Calls d rs left f out out (spent (λ (f : _) (piece : List ℕ) (g : _). Calls f piece (Ok tt) g) d rs left f e) (λ room. refl, λ none. refl)
 
 module _ (s : List ℕ) (at : ℕ) {d : Dispatcher} {budget : ℕ} {out : List ℕ} {x : Piece} {out' : List ℕ}
     (m : Makes (take (length s - at) (drop at s)) d budget out x out') where
@@ -76,24 +113,31 @@ module _ (s : List ℕ) (at : ℕ) {d : Dispatcher} {budget : ℕ} {out : List �
     λ none. absurd (omega (arith, room, none)),
   )
 
+  -- a piece was handed on, and what comes behind it
+  pub one_more : {F : Type 0} (Calls : F → List ℕ → F → Type 0) (f g : F) → Calls f (take x.size out') g
+      → HandsOn Calls (state_of x.state) (releases_at s (at + x.read)) x.left g → HandsOn Calls (state_of d) (releases_at s at) budget f
+  one_more Calls f g call h = record {
+    last = h.last;
+    pieces = take x.size out' ∷ h.pieces;
+    called = (g, call, h.called);
+    moments = m.moments ++ h.moments;
+    bytes = ap₂ (λ (p q : List ℕ). p ++ q) (front m) h.bytes ∙ sym (bytes_both m.moments h.moments);
+    state = h.state;
+    releases = h.releases;
+    leads = leads_both _ _ m.moments _ _ h.moments _ _ leads h.leads;
+    few = omega (arith, m.few, h.few, length-append m.moments h.moments);
+    all = by-test x.ended
+        (λ e. inr (none_led _ _ h.moments _ _ h.leads (omega (arith, h.few, (m.ended_is e).0)) (over e)))
+        (λ e. ⊎_elim (λ n. inl (omega (arith, n, m.left_is e, length-append m.moments h.moments))) (λ v. inr v) h.all);
+  }
+
   module _ {F E : Type 0} (Calls : F → List ℕ → Result ⊤ E → F → Type 0) (f g : F) (room : instant_most ≤ length out) where
-    -- a piece was handed on, and what comes behind it
-    pub one_more : {last : F} {end : List ℕ} → Calls f (take x.size out') (Ok tt) g
-        → HandsOn Calls (state_of x.state) (releases_at s (at + x.read)) x.left g out' last end → HandsOn Calls (state_of d) (releases_at s at) budget f out last end
-    one_more {last} {end} call h = record {
-      pieces = take x.size out' ∷ h.pieces;
-      called = (g, call, h.called);
-      moments = m.moments ++ h.moments;
-      bytes = ap₂ (λ (p q : List ℕ). p ++ q) (front m) h.bytes ∙ sym (bytes_both m.moments h.moments);
-      state = h.state;
-      releases = h.releases;
-      leads = leads_both _ _ m.moments _ _ h.moments _ _ leads h.leads;
-      few = omega (arith, m.few, h.few, length-append m.moments h.moments);
-      all = by-test x.ended
-          (λ e. inr (none_led _ _ h.moments _ _ h.leads (omega (arith, h.few, (m.ended_is e).0)) (over e)))
-          (λ e. ⊎_elim (λ n. inl (omega (arith, n, m.left_is e, length-append m.moments h.moments))) (λ v. inr v) h.all);
-      leaves = leaves h.pieces end room h.leaves;
-    }
+    pub one_more_over : {last : F} {end : List ℕ} → Calls f (take x.size out') (Ok tt) g
+        → HandsOver Calls (state_of x.state) (releases_at s (at + x.read)) x.left g out' last end → HandsOver Calls (state_of d) (releases_at s at) budget f out last end
+    unfolding one_more handed_on
+    one_more_over {last} {end} call h =
+        held Calls (state_of d) (releases_at s at) budget f out end
+        (one_more (λ (f : F) (piece : List ℕ) (g : F). Calls f piece (Ok tt) g) f g call (handed_on h)) (leaves h.pieces end room h.leaves)
 
     -- a piece was handed on, and one behind it stops the run
     pub stops_later : {e : E} {last : F} {end : List ℕ} → Calls f (take x.size out') (Ok tt) g

@@ -38,6 +38,20 @@ pub record Makes (rest : List ℕ) (d : Dispatcher) (budget : ℕ) (out : List �
   pub left_is : x.ended ≡ false → x.left + length moments ≡ budget
   pub few : x.left + length moments ≤ budget
 
+-- A run is handed on in pieces: a closure was called on one after the other. One behind the other they are the bytes of moments that lead from a state on,
+-- with the releases that are left, until the budget is spent or no instant is left before the last tick.
+pub record HandsOn {F : Type 0} (Calls : F → List ℕ → F → Type 0) (d : State) (rs : List Release) (budget : ℕ) (first : F) : Type 0 where
+  pub last : F
+  pub pieces : List (List ℕ)
+  pub called : FoldsTo Calls first pieces last
+  pub moments : List Moment
+  pub bytes : concat pieces ≡ record_bytes moments
+  pub state : State
+  pub releases : List Release
+  pub leads : Leads d rs moments state releases
+  pub few : length moments ≤ budget
+  pub all : (length moments ≡ budget) ⊎ Stands (2 ^ 64 - 1) (next_time state releases)
+
 -- pieces laid over the front of a slice, one after the other
 unfoldable pub pieces_laid : List (List ℕ) → List ℕ → List ℕ
 pieces_laid [] out = out
@@ -49,7 +63,7 @@ Leaves ps out out' = (instant_most ≤ length out → out' ≡ pieces_laid ps ou
 
 -- A run is handed on in pieces, by calls one after the other, none of which stops it. One behind the other they are the bytes of moments that lead from a
 -- state on, with the releases that are left, until the budget is spent or no instant is left before the last tick.
-pub record HandsOn {F E : Type 0} (Calls : F → List ℕ → Result ⊤ E → F → Type 0) (d : State) (rs : List Release) (budget : ℕ)
+pub record HandsOver {F E : Type 0} (Calls : F → List ℕ → Result ⊤ E → F → Type 0) (d : State) (rs : List Release) (budget : ℕ)
     (first : F) (out : List ℕ) (last : F) (out' : List ℕ) : Type 0 where
   pub pieces : List (List ℕ)
   pub called : FoldsTo (λ (f : F) (piece : List ℕ) (g : F). Calls f piece (Ok tt) g) first pieces last

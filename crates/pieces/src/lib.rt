@@ -1,15 +1,19 @@
-// A run in pieces: the one loop over its instants, and the one over its pieces.
+// A run in pieces: the one loop over its instants, and those over its pieces: for whoever takes them, and for a closure.
 #![tactic(auto)]
 
-ghost use Rattle.std.specs.Prelude.{◌≤◌, List, ℕ, length, IfOk, IfErr, Result, ⊤};
+ghost use Rattle.std.specs.Prelude.{◌≡◌, ◌≤◌, ◌<◌, List, ℕ, length, Ok, Err, IfOk, IfErr, IsOk, Result, ⊤};
+ghost use Rattle.std.specs.Fn.{CalledAt};
 ghost use Rattle.entries.specs.Limits.{instant_most};
 ghost use Rattle.dispatcher.specs.Dispatcher.{state_of};
 ghost use Rattle.run.specs.Listed.{releases_at};
-ghost use Rattle.pieces.specs.Pieces.{Makes, HandsOn, StopsAt};
+ghost use Rattle.pieces.specs.Pieces.{Makes, HandsOn, HandsOver, StopsAt};
 
 use dispatcher::Dispatcher;
 use entries::limits::INSTANT_MOST;
 use run::advance;
+
+#[cfg(test)]
+mod tests;
 
 // A piece of a run: the dispatcher that it leaves, how many bytes of the releases were read and of the slice were written, how many
 // instants may still be made, and whether the run has come to its end: then none.
@@ -105,7 +109,7 @@ fn hand_on<T: Takes>(
     by: &mut T,
 ) -> Result<(), T::Error>
     requires { instant_most ≤ length out.old }
-    ensures handed { IfOk result (λ _. HandsOn T.taken (state_of d) (releases_at rest.now 0) budget by.old out.old by.new out.new) }
+    ensures handed { IfOk result (λ _. HandsOver T.taken (state_of d) (releases_at rest.now 0) budget by.old out.old by.new out.new) }
     ensures stopped { IfErr result (λ e. StopsAt T.taken (state_of d) (releases_at rest.now 0) budget by.old out.old e by.new out.new) }
 {
     let mut state = d;
@@ -124,14 +128,14 @@ fn hand_on<T: Takes>(
 
 // The run from the dispatcher `d` on, with the releases in `rest` and at most `budget` instants: its bytes are handed to `by`, piece by
 // piece, until that stops it. They are made in `out`, or, where that may have no room for an instant, beside it, and `out` stays as it was.
-pub fn each_piece<T: Takes>(
+pub fn hand_over<T: Takes>(
     rest: &[u8],
     d: Dispatcher,
     budget: usize,
     out: &mut [u8],
     by: &mut T,
 ) -> Result<(), T::Error>
-    ensures handed { IfOk result (λ _. HandsOn T.taken (state_of d) (releases_at rest.now 0) budget by.old out.old by.new out.new) }
+    ensures handed { IfOk result (λ _. HandsOver T.taken (state_of d) (releases_at rest.now 0) budget by.old out.old by.new out.new) }
     ensures stopped { IfErr result (λ e. StopsAt T.taken (state_of d) (releases_at rest.now 0) budget by.old out.old e by.new out.new) }
 {
     if out.len() < INSTANT_MOST {
@@ -139,4 +143,41 @@ pub fn each_piece<T: Takes>(
         return hand_on(rest, d, budget, &mut room, by);
     }
     hand_on(rest, d, budget, out, by)
+}
+
+// The run from the dispatcher `d` on, with the releases in `rest` and at most `budget` instants: its bytes are handed to `take`, piece by
+// piece, by way of `out`, until it fails. No instant is made where there may be no room for one. That a closure under a bound may be
+// called is said by a function's clause alone, so that no `Takes` can be made of one: hence the `requires`, and the loop once more.
+pub fn each_piece<E, F: FnMut(&[u8]) -> Result<(), E>>(
+    rest: &[u8],
+    d: Dispatcher,
+    budget: usize,
+    out: &mut [u8],
+    mut take: F,
+) -> Result<(), E>
+    requires { F.IsAlwaysCallable take }
+    ensures handed { instant_most ≤ length out.old → IfOk result (λ _. HandsOn (λ f piece g. CalledAt F.FnMut f piece (Ok tt) g)
+        (state_of d) (releases_at rest.now 0) budget take) }
+    ensures failed { IfErr result (λ e. (f : F) × (piece : List ℕ) × (g : F) × CalledAt F.FnMut f piece (Err e) g) }
+    ensures handed_over { instant_most ≤ length out.old → IfOk result (λ _. (g : F) × HandsOver (CalledAt F.FnMut)
+        (state_of d) (releases_at rest.now 0) budget take out.old g out.new) }
+    ensures stopped { IfErr result (λ e. (g : F) × StopsAt (CalledAt F.FnMut)
+        (state_of d) (releases_at rest.now 0) budget take out.old e g out.new) }
+    ensures no_room { length out.old < instant_most → IsOk result × (out.new ≡ out.old) }
+{
+    if out.len() < INSTANT_MOST {
+        return Ok(());
+    }
+    let mut state = d;
+    let mut at = 0;
+    let mut left = budget;
+    // each piece says how much it read and how many instants are left
+    while left != 0 {
+        let made = next_piece(&rest[at..], state, left, out);
+        take(&out[..made.size])?;
+        at += made.read;
+        left = made.left;
+        state = made.state;
+    }
+    Ok(())
 }

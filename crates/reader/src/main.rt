@@ -234,7 +234,7 @@ fn replays(
     };
     let releases = &list[part.end..];
     let d = dispatcher::opened(part.table, part.marked);
-    pieces::each_piece(releases, d, limits::BUDGET_MOST, &mut made, &mut again)?;
+    pieces::hand_over(releases, d, limits::BUDGET_MOST, &mut made, &mut again)?;
     if again.rest == 0 {
         Ok(())
     } else {

@@ -58,7 +58,7 @@ fn replays(s: &[u8], head: Head, budget: usize, stored: &[u8]) -> bool
     let mut at = head.end;
     let mut size: usize = 0;
     let mut left = budget;
-    // each piece says how much it read, and is held against the place behind those before it, which `each_piece` does not hand on
+    // each piece says how much it read, and is held against the place behind those before it, which `hand_over` does not hand on
     while left != 0 {
         let x = pieces::next_piece(&s[at..], d, left, &mut made);
         if !goes_on_with(stored, size, &made, x.size) {

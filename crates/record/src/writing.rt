@@ -35,7 +35,7 @@ fn go_on(s: &[u8], from: Piece, out: &mut [u8], keep: bool) -> usize
     let mut at = from.read;
     let mut size = from.size;
     let mut left = from.left;
-    // each piece says how much it read, and is kept behind those before it: `each_piece` hands on no place
+    // each piece says how much it read, and is kept behind those before it: `hand_over` hands on no place
     while left != 0 {
         let x = pieces::next_piece(&s[at..], d, left, &mut scratch);
         let n = x.size;

@@ -38,7 +38,7 @@ fn write_run(rt: HostRuntime, input: &[u8], head: Head, out: &mut [u8]) -> Resul
 {
     let rest = &input[head.end..];
     let d = dispatcher::opened(head.table, head.marked);
-    pieces::each_piece(rest, d, limits::BUDGET_MOST, out, &mut Writer { rt })
+    pieces::hand_over(rest, d, limits::BUDGET_MOST, out, &mut Writer { rt })
 }
 
 fn say(rt: HostRuntime, refusal: Refusal) {

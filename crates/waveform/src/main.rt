@@ -34,7 +34,7 @@ fn write_run(rt: HostRuntime, input: &[u8], head: Head) -> Result<(), Failed>
     let mut seen = views::viewed_of(d);
     let mut from = head.end;
     let mut begun = false;
-    // instant by instant, since what is written is read from the dispatcher behind each, which `each_piece` does not hand on
+    // instant by instant, since what is written is read from the dispatcher behind each, which `hand_over` does not hand on
     for _ in 0..limits::BUDGET_MOST {
         let x = pieces::next_piece(&input[from..], d, 1, &mut entries);
         if x.ended {
